@@ -1,0 +1,60 @@
+-- The numbers by which an operation turns its input down. Document 01, "Each operation's turn-downs".
+use Prim.Native.Nat.{ℕ}
+
+-- net text: a line of the wrong form, a line that is missing, or text after the last
+abbrev pub wrongForm : ℕ
+wrongForm = 1
+
+-- too many places, transitions, arcs or bytes, or no place
+abbrev pub wrongNumber : ℕ
+wrongNumber = 2
+
+-- a place number not below the place count
+abbrev pub noSuchPlace : ℕ
+noSuchPlace = 3
+
+-- a value outside its domain, a NaN included
+abbrev pub outsideDomain : ℕ
+outsideDomain = 4
+
+-- one place twice among the takes of a transition
+abbrev pub takenTwice : ℕ
+takenTwice = 5
+
+-- a delay above 0 without a take
+abbrev pub delayWithoutTake : ℕ
+delayWithoutTake = 6
+
+-- kinetic weights of a transition that total more than 16
+abbrev pub kineticTotal : ℕ
+kineticTotal = 7
+
+abbrev pub badSamples : ℕ
+badSamples = 8
+
+abbrev pub badRealizations : ℕ
+badRealizations = 9
+
+abbrev pub badHorizon : ℕ
+badHorizon = 10
+
+abbrev pub shortTable : ℕ
+shortTable = 11
+
+abbrev pub badInstants : ℕ
+badInstants = 12
+
+abbrev pub badLimit : ℕ
+badLimit = 13
+
+-- during a run: a count would pass 2^53
+abbrev pub countTooLarge : ℕ
+countTooLarge = 14
+
+-- during a run: a 257th timer would start
+abbrev pub tooManyTimers : ℕ
+tooManyTimers = 15
+
+-- one normal draw rejects 128 pairs
+abbrev pub noNormal : ℕ
+noNormal = 16

@@ -1,0 +1,33 @@
+// The numbers by which an operation turns its input down, as document 01 lists them. specs/ says what each means.
+
+pub const WRONG_FORM: u64 = 1;
+
+pub const WRONG_NUMBER: u64 = 2;
+
+pub const NO_SUCH_PLACE: u64 = 3;
+
+pub const OUTSIDE_DOMAIN: u64 = 4;
+
+pub const TAKEN_TWICE: u64 = 5;
+
+pub const DELAY_WITHOUT_TAKE: u64 = 6;
+
+pub const KINETIC_TOTAL: u64 = 7;
+
+pub const BAD_SAMPLES: u64 = 8;
+
+pub const BAD_REALIZATIONS: u64 = 9;
+
+pub const BAD_HORIZON: u64 = 10;
+
+pub const SHORT_TABLE: u64 = 11;
+
+pub const BAD_INSTANTS: u64 = 12;
+
+pub const BAD_LIMIT: u64 = 13;
+
+pub const COUNT_TOO_LARGE: u64 = 14;
+
+pub const TOO_MANY_TIMERS: u64 = 15;
+
+pub const NO_NORMAL: u64 = 16;

@@ -1,0 +1,4 @@
+pub mod Nearest
+pub mod Root
+pub mod Theorems
+pub mod Whole

@@ -1,0 +1,2 @@
+pub mod Mul
+pub mod Rotation
