@@ -1,0 +1,199 @@
+// The leaf functions under plain names, for a program in C or Rust to call. Those on slices do in one call what as many calls would.
+ghost use mathlib.Core.Path.{_≡_};
+ghost use mathlib.Core.List.{map};
+ghost use lib.ListN.{length};
+ghost use Rattle.words.specs.Product.{product};
+ghost use Rattle.words.specs.Rotation.{rotl};
+ghost use Rattle.rng.specs.State.{words};
+ghost use Rattle.rng.specs.Splitmix.{seeded};
+ghost use Rattle.rng.specs.Xoshiro as Xoshiro;
+ghost use Rattle.portable_log.specs.Log as Log;
+ghost use Rattle.combinations.specs.Combinations as Combinations;
+ghost use Rattle.root.specs.Root.{rootOf};
+ghost use Rattle.c_face.specs.Drawn.{drawn, after};
+ghost use Rattle.c_face.specs.Told.{isValue, orZero};
+use combinations::Ways;
+use rng::Xoshiro256;
+
+#[no_mangle]
+pub extern "C" fn cild_wrapping_mul(a: u64, b: u64) -> u64
+    ensures { λ r. ⌜ r ≡ product a b ⌝ }
+{
+    words::wrapping_mul(a, b)
+}
+
+#[no_mangle]
+pub extern "C" fn cild_rotate_left(x: u64, k: u32) -> u64
+    ensures { λ r. ⌜ r ≡ rotl x k ⌝ }
+{
+    words::rotate_left(x, k)
+}
+
+#[no_mangle]
+pub extern "C" fn cild_splitmix64(seed: u64, state: &mut [u64; 4])
+    ensures { λ _. ⌜ words (now (state .exit)) ≡ seeded seed ⌝ }
+{
+    *state = rng::splitmix64(seed);
+}
+
+#[no_mangle]
+pub extern "C" fn cild_next_u64(state: &mut [u64; 4]) -> u64
+    ensures { λ r. ⌜ (r ≡ Xoshiro.output (words (now (state .entry)))) × (words (now (state .exit)) ≡ Xoshiro.step (words (now (state .entry)))) ⌝ }
+{
+    let drawn = Xoshiro256::from_state(*state).next_u64();
+    let rng = drawn.rng;
+    *state = rng.state();
+    drawn.value
+}
+
+#[no_mangle]
+pub extern "C" fn cild_uniform(state: &mut [u64; 4]) -> f64
+    ensures { λ r. ⌜ (r ≡ Xoshiro.uniform (words (now (state .entry)))) × (words (now (state .exit)) ≡ Xoshiro.step (words (now (state .entry)))) ⌝ }
+{
+    let drawn = Xoshiro256::from_state(*state).uniform();
+    let rng = drawn.rng;
+    *state = rng.state();
+    drawn.value
+}
+
+// The fraction; the exponent goes to exp.
+#[no_mangle]
+pub extern "C" fn cild_frexp(x: f64, exp: &mut i32) -> f64
+    ensures { λ r. ⌜ (r ≡ Log.frexp x .frac) × (now (exp .exit) ≡ Log.frexp x .exp) ⌝ }
+{
+    let parts = portable_log::frexp(x);
+    let e = parts.exp;
+    *exp = e;
+    parts.frac
+}
+
+#[no_mangle]
+pub extern "C" fn cild_plog(x: f64) -> f64
+    ensures { λ r. ⌜ r ≡ Log.plog x ⌝ }
+{
+    portable_log::plog(x)
+}
+
+#[no_mangle]
+pub extern "C" fn cild_sqrt(x: f64) -> f64
+    ensures { λ r. ⌜ r ≡ rootOf x ⌝ }
+{
+    root::sqrt(x)
+}
+
+// Whether it is answered; the answer, or +0 for a refusal, goes to value.
+#[no_mangle]
+pub extern "C" fn cild_combinations(m: i64, w: i64, value: &mut f64) -> bool
+    ensures { λ r. ⌜ (r ≡ isValue (Combinations.combinations m w)) × (now (value .exit) ≡ orZero (Combinations.combinations m w)) ⌝ }
+{
+    told(combinations::combinations(m, w), value)
+}
+
+// Whether it is answered; the answer, or +0 for a refusal, goes to value.
+#[no_mangle]
+pub extern "C" fn cild_combinations_real(x: f64, w: i64, value: &mut f64) -> bool
+    ensures { λ r. ⌜ (r ≡ isValue (Combinations.combinationsReal x w)) × (now (value .exit) ≡ orZero (Combinations.combinationsReal x w)) ⌝ }
+{
+    told(combinations::combinations_real(x, w), value)
+}
+
+fn told(ways: Ways, value: &mut f64) -> bool
+    ensures { λ r. ⌜ (r ≡ isValue (Combinations.meaning ways)) × (now (value .exit) ≡ orZero (Combinations.meaning ways)) ⌝ }
+{
+    match ways {
+        Ways::Value(x) => {
+            *value = x;
+            true
+        }
+        Ways::Refused => {
+            *value = 0.0;
+            false
+        }
+    }
+}
+
+// The functions below do in one call what a call for each element would.
+
+// Each product with by, in place.
+#[no_mangle]
+pub extern "C" fn cild_products(xs: &mut [u64], by: u64)
+    ensures { λ _. ⌜ now (xs .exit) ≡ map (λ x. product x by) (now (xs .entry)) ⌝ }
+{
+    let mut i = 0;
+    while i < xs.len() {
+        xs[i] = words::wrapping_mul(xs[i], by);
+        i += 1;
+    }
+}
+
+// Each rotation by k, in place.
+#[no_mangle]
+pub extern "C" fn cild_rotations(xs: &mut [u64], k: u32)
+    ensures { λ _. ⌜ now (xs .exit) ≡ map (λ x. rotl x k) (now (xs .entry)) ⌝ }
+{
+    let mut i = 0;
+    while i < xs.len() {
+        xs[i] = words::rotate_left(xs[i], k);
+        i += 1;
+    }
+}
+
+// Each logarithm, in place.
+#[no_mangle]
+pub extern "C" fn cild_plogs(xs: &mut [f64])
+    ensures { λ _. ⌜ now (xs .exit) ≡ map Log.plog (now (xs .entry)) ⌝ }
+{
+    let mut i = 0;
+    while i < xs.len() {
+        xs[i] = portable_log::plog(xs[i]);
+        i += 1;
+    }
+}
+
+// Each root, in place.
+#[no_mangle]
+pub extern "C" fn cild_roots(xs: &mut [f64])
+    ensures { λ _. ⌜ now (xs .exit) ≡ map rootOf (now (xs .entry)) ⌝ }
+{
+    let mut i = 0;
+    while i < xs.len() {
+        xs[i] = root::sqrt(xs[i]);
+        i += 1;
+    }
+}
+
+// As many outputs as out has room for.
+#[no_mangle]
+pub extern "C" fn cild_outputs(state: &mut [u64; 4], out: &mut [u64])
+    ensures { λ _. ⌜ now (out .exit) ≡ drawn Xoshiro.output (length (now (out .entry))) (words (now (state .entry))) ⌝ }
+    ensures { λ _. ⌜ words (now (state .exit)) ≡ after (length (now (out .entry))) (words (now (state .entry))) ⌝ }
+{
+    let mut rng = Xoshiro256::from_state(*state);
+    let mut i = 0;
+    while i < out.len() {
+        let drawn = rng.next_u64();
+        out[i] = drawn.value;
+        let next = drawn.rng;
+        rng = next;
+        i += 1;
+    }
+    *state = rng.state();
+}
+
+// As many uniform numbers as out has room for.
+#[no_mangle]
+pub extern "C" fn cild_uniforms(state: &mut [u64; 4], out: &mut [f64])
+    ensures { λ _. ⌜ now (out .exit) ≡ drawn Xoshiro.uniform (length (now (out .entry))) (words (now (state .entry))) ⌝ }
+    ensures { λ _. ⌜ words (now (state .exit)) ≡ after (length (now (out .entry))) (words (now (state .entry))) ⌝ }
+{
+    let mut rng = Xoshiro256::from_state(*state);
+    let mut i = 0;
+    while i < out.len() {
+        let drawn = rng.uniform();
+        out[i] = drawn.value;
+        let next = drawn.rng;
+        rng = next;
+        i += 1;
+    }
+    *state = rng.state();
+}

@@ -1,0 +1,4 @@
+pub mod Slots
+pub mod Domain
+pub mod Faults
+pub mod Sound

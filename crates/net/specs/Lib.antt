@@ -1,0 +1,5 @@
+pub mod Net
+pub mod Tests
+pub mod Readable
+pub mod Record
+pub mod Sound

@@ -1,0 +1,15 @@
+pub mod Forms
+pub mod Decimals
+pub mod Hexadecimal
+pub mod Arcs
+pub mod Many
+pub mod Walk
+pub mod Parts
+pub mod Patterns
+pub mod Lined
+pub mod Clipped
+pub mod Stored
+pub mod Taking
+pub mod Cut
+pub mod Turns
+pub mod Whole

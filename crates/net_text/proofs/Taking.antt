@@ -1,0 +1,295 @@
+-- A line between `(net` and `)`, from what its form and its tests answered: the outcome is the rules', and the tables hold the net with what it
+-- adds. Assumes nothing.
+use Prim.Native.Nat.{ℕ, zero, suc, _+_, _-_, _*_, _^_, _≤_, _<_}
+use mathlib.Core.Path.{_≡_, refl, sym, ap, subst, _∙_}
+use mathlib.Core.Bool.{Bool, true, false, _||_, not}
+use mathlib.Core.List.{List, [], _∷_, _++_, map}
+use mathlib.Core.Option.{Option, none, some}
+use native.Mathlib.Omega.{arith}
+use lib.Dec.{eqb, leb, ltb}
+use lib.ListN.{length, getD, set, drop}
+use lib.Ieee.{Float, binary64, ofBits}
+use borrow.Author.Tests.{eq-eqb, ne-eqb, leb-false, ltb-true, ltb-false, eqb-true, not-false}
+use Rattle.net.specs.Net.{Place, Transition, Net, pick}
+use Rattle.net.specs.Tests.{Test, firstOf, empty, any, arcs, placeTests, moveTests, tooMany, noSuchPlace, outside}
+use Rattle.net.specs.Readable.{Slot, slots, transitionOf, strange, readable, meaning, transitionsFrom, placesFrom, placesFault, movesFault, fault}
+use Rattle.net.specs.declared.Net.{Net as NetRecord}
+use Rattle.net.specs.declared.Verdict.{Verdict}
+use Rattle.net.specs.declared.Verdict.the-variants.{Accepted, Refused}
+use Rattle.net.proofs.Slots.{length-arcs, length-slots}
+use Rattle.text.specs.Text.{Bytes}
+use Rattle.net_text.specs.Forms.{Met, wrong, met, RawArc, RawLine, rawPlace, rawMove, rawRun, lineOf, placeForm, moveForm, runForm}
+use Rattle.net_text.specs.Reading.{RunLine, badly, badArc, Due, inside, closing, Outcome, goOn, unless, afterPlace, afterMove, insideLine, lineRead}
+use Rattle.net_text.specs.Scanned.{held, slotOf}
+use Rattle.net_text.specs.Seen.{PlaceRead, RunRead, MoveRead}
+use Rattle.net_text.specs.Position.{Tables, tables, netAt, Room, insideOf, LineTaken, PlaceTaken, MoveTaken, runTests, runOf}
+use Rattle.net_text.specs.declared.RunLine.{RunLine as RunRecord}
+use Rattle.net_text.specs.declared.form.PlaceSeen.{PlaceSeen}
+use Rattle.net_text.specs.declared.form.RunSeen.{RunSeen}
+use Rattle.net_text.specs.declared.form.MoveSeen.{MoveSeen}
+use Rattle.net_text.specs.declared.order.Stage.the-variants.{Inside, Closing}
+use Rattle.net_text.specs.declared.order.Taken.the-variants.{Fault, GoOn}
+use Rattle.net_text.proofs.Parts.{found-met, found-wrong, place-whole, place-more, move-whole, move-more, run-whole, run-more, no-form}
+use Rattle.net_text.proofs.Clipped.{later, place-held, run-held, move-held, move-crowded, move-late}
+use Rattle.net_text.proofs.Stored.{places-length, transitions-length, places-empty, transitions-empty, place-stored, place-room, move-stored, move-room}
+
+-- ---- tests
+
+pub not-refused : {P : Type 0} (k : ℕ) → _≡_ {A = Option ℕ} (some k) none → P
+not-refused k e = let z : _≡_ {A = ℕ} 0 1 = cc in absurd (omega arith)
+
+pub late-some : (k : ℕ) (ts : List Test) → 0 < k → some 1 ≡ firstOf ((1, not (eqb k 0)) ∷ ts)
+late-some k ts h = rw (ne-eqb k 0 (λ e. omega arith))
+
+pub late-none : (k : ℕ) (ts : List Test) → k ≤ 0 → firstOf ts ≡ firstOf ((1, not (eqb k 0)) ∷ ts)
+late-none k ts h = rw (eq-eqb k 0 (omega arith))
+
+head-passes : (c : ℕ) (x : Bool) (ts : List Test) → firstOf ((c, x) ∷ ts) ≡ none → x ≡ false
+head-passes c true ts e = not-refused c e
+head-passes c false ts e = refl
+
+tail-passes : (c : ℕ) (x : Bool) (ts : List Test) → firstOf ((c, x) ∷ ts) ≡ none → firstOf ts ≡ none
+tail-passes c true ts e = not-refused c e
+tail-passes c false ts e = e
+
+pub place-few : (p : ℕ) (bad : Bool) (q : Place) → firstOf (placeTests p bad q) ≡ none → p < 32
+place-few p bad q e = leb-false 32 p (head-passes 2 (leb 32 p) ((4, bad || ltb (2 ^ 53) (q .initial) || ltb (2 ^ 53) (q .capacity)) ∷ []) e)
+
+-- tests that pass with a badly written value in question pass without
+place-clean : (p : ℕ) (bad : Bool) (q : Place) → firstOf (placeTests p bad q) ≡ none → firstOf (placeTests p false q) ≡ none
+place-clean p true q e = not-refused 4 (tail-passes 2 (leb 32 p) ((4, true) ∷ []) e)
+place-clean p false q e = e
+
+move-clean : (p k : ℕ) (a b : Bool) (t : Transition) → firstOf (moveTests p k (a || b) t) ≡ none → firstOf (moveTests p k b t) ≡ none
+move-clean p k true b t e =
+    not-refused 4 (tail-passes 3 (noSuchPlace p t) ((4, true) ∷ later t) (tail-passes 2 (tooMany p k t) ((3, noSuchPlace p t) ∷ (4, true) ∷ later t) e))
+move-clean p k false b t e = e
+
+-- a net with a place and no fault in its places and transitions has none
+whole-net : (m : NetRecord) → placesFault 0 (readable m .places) ≡ none → empty (readable m .places) ≡ false → movesFault m 0 (m .transitions) ≡ none → fault m ≡ none
+unfolding fault
+whole-net m e f g = rw (e, f, g)
+
+or-no-left : (a b : Bool) → (a || b) ≡ false → a ≡ false
+or-no-left true b e = e
+or-no-left false b e = refl
+
+or-no-right : (a b : Bool) → (a || b) ≡ false → b ≡ false
+or-no-right true b e = let z : _≡_ {A = ℕ} 0 1 = cc in absurd (omega arith)
+or-no-right false b e = e
+
+module _ (p k : ℕ) (bad : Bool) (t : Transition) (e : firstOf (moveTests p k bad t) ≡ none) where
+  few : tooMany p k t ≡ false
+  few = head-passes 2 (tooMany p k t) ((3, noSuchPlace p t) ∷ (4, bad || outside t) ∷ later t) e
+
+  pub move-few : k < 64
+  move-few = leb-false 64 k (or-no-right (eqb p 0) (leb 64 k) (or-no-left (eqb p 0 || leb 64 k) (ltb 16 (length (arcs t))) few))
+
+  pub arcs-few : length (arcs t) ≤ 16
+  arcs-few = ltb-false 16 (length (arcs t)) (or-no-right (eqb p 0 || leb 64 k) (ltb 16 (length (arcs t))) few)
+
+module _ (line : Bytes) (p t : ℕ) (T : Tables) where
+  abbrev n : Net
+  n = readable (netAt p t T)
+
+  -- the form is wrong
+  pub wrong-line : (T′ : Tables) → lineOf line ≡ none → LineTaken (insideOf p t T) line T′ (Fault 1)
+  wrong-line T′ e = record { is = sym (ap (insideLine n) e); holds = tt }
+
+  -- a test applies
+  pub refused-by : (T′ : Tables) (v : Verdict) (k : ℕ) (d : Due) → v ≡ Refused k → lineRead (inside n) line ≡ unless (meaning v) d
+      → LineTaken (insideOf p t T) line T′ (Fault k)
+  refused-by T′ v k d e f = record { is = sym (f ∙ ap (λ (u : Verdict). unless (meaning u) d) e); holds = tt }
+
+  accepted-by : (v : Verdict) (d : Due) → v ≡ Accepted → lineRead (inside n) line ≡ unless (meaning v) d → goOn d ≡ lineRead (inside n) line
+  accepted-by v d e f = sym (f ∙ ap (λ (u : Verdict). unless (meaning u) d) e)
+
+  -- ---- a place line
+  module _ (s : PlaceSeen) (r : PlaceRead line s) where
+    pub place-wrong : s .ok ≡ false → placeForm line ≡ wrong
+    place-wrong e = found-wrong (placeForm line) line (s .ok) (rawPlace (r .initial) (r .capacity)) (s .next) (r .is) e
+
+    place-met : s .ok ≡ true → placeForm line ≡ met (rawPlace (r .initial) (r .capacity)) (drop (s .next) line)
+    place-met e = found-met (placeForm line) line (s .ok) (rawPlace (r .initial) (r .capacity)) (s .next) (r .is) e
+
+    pub place-behind : (T′ : Tables) → s .ok ≡ true → s .next < length line → LineTaken (insideOf p t T) line T′ (Fault 1)
+    place-behind T′ e h = wrong-line T′ (place-more line (rawPlace (r .initial) (r .capacity)) (s .next) h (place-met e))
+
+    abbrev q : Place
+    q = record { initial = s .initial; capacity = s .capacity }
+
+    module _ (whole : length line ≤ s .next) (ok : s .ok ≡ true) (i′ c′ : List ℕ) (v : Verdict)
+        (taken : PlaceTaken p t (s .strange) (s .initial) (s .capacity) (T .initial) (T .capacity) i′ c′ v) where
+      place-judged : lineRead (inside n) line ≡ unless (meaning v) (afterPlace n q)
+      place-judged =
+          let held-place : Place = record { initial = held (r .initial .value); capacity = held (r .capacity .value) } in
+          let same : held-place ≡ q = rw (r .held-initial, r .held-capacity) in
+          ap (insideLine n) (place-whole line (rawPlace (r .initial) (r .capacity)) (s .next) whole (place-met ok))
+          ∙ place-held n (r .initial) (r .capacity) p t (places-length (T .initial) (T .capacity) 0 p) (transitions-empty (netAt p t T) 0 t)
+          ∙ ap (λ (b : Bool). unless (firstOf ((1, not (eqb t 0)) ∷ placeTests p b held-place)) (afterPlace n held-place)) (sym (r .strange))
+          ∙ ap (λ (x : Place). unless (firstOf ((1, not (eqb t 0)) ∷ placeTests p (s .strange) x)) (afterPlace n x)) same
+          ∙ ap (λ (o : Option ℕ). unless o (afterPlace n q)) (sym (taken .fault))
+
+      pub place-refused : (T′ : Tables) (k : ℕ) → v ≡ Refused k → LineTaken (insideOf p t T) line T′ (Fault k)
+      place-refused T′ k e = refused-by T′ v k (afterPlace n q) e place-judged
+
+      pub place-accepted : (run : RunRecord) → Room (netAt p t T) → v ≡ Accepted
+          → LineTaken (insideOf p t T) line (tables i′ c′ (T .rate) (T .delay) (T .arcs) (T .kind) (T .place) (T .weight))
+          (GoOn (record { stage = Inside; places = p + 1; transitions = t; run = run }))
+      place-accepted run room e =
+          let passes : meaning v ≡ none = ap meaning e in
+          let all : firstOf ((1, not (eqb t 0)) ∷ placeTests p (s .strange) q) ≡ none = sym (taken .fault) ∙ passes in
+          let tested : firstOf (placeTests p (s .strange) q) ≡ none = tail-passes 1 (not (eqb t 0)) (placeTests p (s .strange) q) all in
+          let none-yet : t ≡ 0 = eqb-true t 0 (not-false (eqb t 0) (head-passes 1 (not (eqb t 0)) (placeTests p (s .strange) q) all)) in
+          let small : p < 32 = place-few p (s .strange) q tested in
+          let is-i : i′ ≡ set (T .initial) p (s .initial) = taken .stored-initial passes in
+          let is-c : c′ ≡ set (T .capacity) p (s .capacity) = taken .stored-capacity passes in
+          record {
+            is =
+                ap (λ (m : Net). goOn (inside m))
+                (rw (is-i, is-c)
+                (place-stored (T .initial) (T .capacity) (T .rate) (T .delay) (T .arcs) (T .kind) (T .place) (T .weight) p t (s .initial) (s .capacity)
+                (room .initials) (room .capacities) small))
+                ∙ accepted-by v (afterPlace n q) e place-judged;
+            holds =
+                record {
+                  room =
+                      rw (is-i, is-c)
+                      (place-room (T .initial) (T .capacity) (T .rate) (T .delay) (T .arcs) (T .kind) (T .place) (T .weight) p t (s .initial) (s .capacity) room small none-yet (place-clean p (s .strange) q tested));
+                  at-stage = tt;
+                };
+          }
+
+  -- ---- a run line
+  module _ (s : RunSeen) (r : RunRead line s) where
+    pub run-wrong : s .ok ≡ false → runForm line ≡ wrong
+    run-wrong e = found-wrong (runForm line) line (s .ok) (rawRun (r .samples) (r .realizations) (r .seed) (s .horizon)) (s .next) (r .is) e
+
+    run-met : s .ok ≡ true → runForm line ≡ met (rawRun (r .samples) (r .realizations) (r .seed) (s .horizon)) (drop (s .next) line)
+    run-met e = found-met (runForm line) line (s .ok) (rawRun (r .samples) (r .realizations) (r .seed) (s .horizon)) (s .next) (r .is) e
+
+    pub run-behind : (T′ : Tables) → placeForm line ≡ wrong → s .ok ≡ true → s .next < length line → LineTaken (insideOf p t T) line T′ (Fault 1)
+    run-behind T′ f e h = wrong-line T′ (run-more line (rawRun (r .samples) (r .realizations) (r .seed) (s .horizon)) (s .next) h f (run-met e))
+
+    abbrev asked : RunLine
+    asked = record { samples = s .samples; realizations = s .realizations; seed = s .seed; horizon = s .horizon }
+
+    module _ (no-place : placeForm line ≡ wrong) (whole : length line ≤ s .next) (ok : s .ok ≡ true) (v : Verdict)
+        (judged : meaning v ≡ firstOf (runTests p (s .strange))) where
+      run-judged : lineRead (inside n) line ≡ unless (meaning v) (closing n asked)
+      run-judged =
+          let held-run : RunLine = record { samples = held (r .samples .value); realizations = held (r .realizations .value); seed = held (r .seed .value); horizon = s .horizon } in
+          let same : held-run ≡ asked = rw (r .held-samples, r .held-realizations, r .held-seed) in
+          ap (insideLine n) (run-whole line (rawRun (r .samples) (r .realizations) (r .seed) (s .horizon)) (s .next) whole no-place (run-met ok))
+          ∙ run-held n (r .samples) (r .realizations) (r .seed) (s .horizon) p (places-empty (T .initial) (T .capacity) 0 p)
+          ∙ ap (λ (b : Bool). unless (firstOf (runTests p b)) (closing n held-run)) (sym (r .strange))
+          ∙ ap (λ (x : RunLine). unless (firstOf (runTests p (s .strange))) (closing n x)) same
+          ∙ ap (λ (o : Option ℕ). unless o (closing n asked)) (sym judged)
+
+      pub run-refused : (T′ : Tables) (k : ℕ) → v ≡ Refused k → LineTaken (insideOf p t T) line T′ (Fault k)
+      run-refused T′ k e = refused-by T′ v k (closing n asked) e run-judged
+
+      pub run-accepted : Room (netAt p t T) → v ≡ Accepted
+          → LineTaken (insideOf p t T) line (tables (T .initial) (T .capacity) (T .rate) (T .delay) (T .arcs) (T .kind) (T .place) (T .weight))
+          (GoOn (record { stage = Closing; places = p; transitions = t; run = record { samples = s .samples; realizations = s .realizations; seed = s .seed; horizon = s .horizon } }))
+      run-accepted room e =
+          let some-place : eqb p 0 ≡ false = head-passes 2 (eqb p 0) ((4, s .strange) ∷ []) (sym judged ∙ ap meaning e) in
+          record {
+            is = accepted-by v (closing n asked) e run-judged;
+            holds =
+                record {
+                  room = room;
+                  at-stage =
+                      whole-net (netAt p t T) (room .fit-places) (places-empty (T .initial) (T .capacity) 0 p ∙ some-place) (room .fit-transitions);
+                };
+          }
+
+  -- ---- a move line
+  module _ (base : ℕ) (k′ p′ w′ : List ℕ) (s : MoveSeen) (r : MoveRead line base (T .kind) (T .place) (T .weight) k′ p′ w′ s) where
+    pub move-wrong : s .ok ≡ false → moveForm line ≡ wrong
+    move-wrong e = found-wrong (moveForm line) line (s .ok) (rawMove (s .rate) (s .delay) (r .arcs)) (s .next) (r .is) e
+
+    move-met : s .ok ≡ true → moveForm line ≡ met (rawMove (s .rate) (s .delay) (r .arcs)) (drop (s .next) line)
+    move-met e = found-met (moveForm line) line (s .ok) (rawMove (s .rate) (s .delay) (r .arcs)) (s .next) (r .is) e
+
+    pub move-behind : (T′ : Tables) → placeForm line ≡ wrong → s .ok ≡ true → s .next < length line → LineTaken (insideOf p t T) line T′ (Fault 1)
+    move-behind T′ f e h = wrong-line T′ (move-more line (rawMove (s .rate) (s .delay) (r .arcs)) (s .next) h f (move-met e))
+
+    abbrev ls : List Slot
+    ls = slots k′ p′ w′ (16 * t) (s .count)
+
+    abbrev u : Transition
+    u = transitionOf (ofBits binary64 (s .rate)) (ofBits binary64 (s .delay)) ls
+
+    module _ (room : Room (netAt p t T)) (start : t < 64 → base ≡ 16 * t) (no-place : placeForm line ≡ wrong) (whole : length line ≤ s .next) (ok : s .ok ≡ true)
+        (x′ y′ : List Float) (a′ : List ℕ) (v : Verdict)
+        (taken : MoveTaken p t (s .strange) (s .rate) (s .delay) (s .count) k′ p′ w′ (T .rate) (T .delay) (T .arcs) x′ y′ a′ v) where
+      abbrev xs : List RawArc
+      xs = r .arcs
+
+      same-count : length ls ≡ length xs
+      same-count = length-slots k′ p′ w′ (16 * t) (s .count) ∙ r .count
+
+      -- by the slots where they hold the arcs, and by their number where they do not
+      by-slots : (few-moves few-arcs : Bool) → ltb t 64 ≡ few-moves → ltb 16 (length xs) ≡ few-arcs
+          → insideLine n (some (rawMove (s .rate) (s .delay) xs))
+          ≡ unless (firstOf (moveTests p t (any badArc xs || strange ls) u)) (afterMove n u)
+      by-slots false over e f =
+          move-late n p t (s .rate) (s .delay) xs ls (places-length (T .initial) (T .capacity) 0 p) (transitions-length (netAt p t T) 0 t) same-count (ltb-false t 64 e)
+      by-slots true true e f =
+          move-crowded n p t (s .rate) (s .delay) xs ls (places-length (T .initial) (T .capacity) 0 p) (transitions-length (netAt p t T) 0 t) same-count (ltb-true 16 (length xs) f)
+      by-slots true false e f =
+          let there : slots k′ p′ w′ (16 * t) (s .count) ≡ map slotOf xs =
+          ap (λ (c : ℕ). slots k′ p′ w′ (16 * t) c) (r .count)
+          ∙ ap (λ (b : ℕ). slots k′ p′ w′ b (length xs)) (sym (start (ltb-true t 64 e)))
+          ∙ r .stored (ltb-false 16 (length xs) f) in
+          move-held n p t (s .rate) (s .delay) xs ls (places-length (T .initial) (T .capacity) 0 p) (transitions-length (netAt p t T) 0 t) same-count (room .few-places) there
+
+      move-judged : lineRead (inside n) line ≡ unless (meaning v) (afterMove n u)
+      move-judged =
+          ap (insideLine n) (move-whole line (rawMove (s .rate) (s .delay) xs) (s .next) whole no-place (move-met ok))
+          ∙ by-slots (ltb t 64) (ltb 16 (length xs)) refl refl
+          ∙ ap (λ (b : Bool). unless (firstOf (moveTests p t (b || strange ls) u)) (afterMove n u)) (sym (r .strange))
+          ∙ ap (λ (o : Option ℕ). unless o (afterMove n u)) (sym (taken .fault))
+
+      pub move-refused : (T′ : Tables) (k : ℕ) → v ≡ Refused k → LineTaken (insideOf p t T) line T′ (Fault k)
+      move-refused T′ k e = refused-by T′ v k (afterMove n u) e move-judged
+
+      pub move-accepted : (run : RunRecord) → v ≡ Accepted
+          → LineTaken (insideOf p t T) line (tables (T .initial) (T .capacity) x′ y′ a′ k′ p′ w′)
+          (GoOn (record { stage = Inside; places = p; transitions = t + 1; run = run }))
+      move-accepted run e =
+          let passes : meaning v ≡ none = ap meaning e in
+          let all : firstOf (moveTests p t (s .strange || strange ls) u) ≡ none = sym (taken .fault) ∙ passes in
+          let last : t < 64 = move-few p t (s .strange || strange ls) u all in
+          let starts : base ≡ 16 * t = start last in
+          let counted : length (arcs u) ≡ s .count = length-arcs (ofBits binary64 (s .rate)) (ofBits binary64 (s .delay)) ls ∙ length-slots k′ p′ w′ (16 * t) (s .count) in
+          let small : s .count ≤ 16 = omega (arith, arcs-few p t (s .strange || strange ls) u all) in
+          let is-x : x′ ≡ set (T .rate) t (ofBits binary64 (s .rate)) = taken .stored-rate passes in
+          let is-y : y′ ≡ set (T .delay) t (ofBits binary64 (s .delay)) = taken .stored-delay passes in
+          let is-a : a′ ≡ set (T .arcs) t (s .count) = taken .stored-arcs passes in
+          let kinds : (a : ℕ) → a < 16 * t → getD k′ a 0 ≡ getD (T .kind) a 0 = λ a h. r .kind-before a (omega arith) in
+          let places : (a : ℕ) → a < 16 * t → getD p′ a 0 ≡ getD (T .place) a 0 = λ a h. r .place-before a (omega arith) in
+          let weights : (a : ℕ) → a < 16 * t → getD w′ a 0 ≡ getD (T .weight) a 0 = λ a h. r .weight-before a (omega arith) in
+          record {
+            is =
+                ap (λ (m : Net). goOn (inside m))
+                (rw (is-x, is-y, is-a)
+                (move-stored (T .initial) (T .capacity) (T .rate) (T .delay) (T .arcs) (T .kind) (T .place) (T .weight) k′ p′ w′ p t (s .count)
+                (ofBits binary64 (s .rate)) (ofBits binary64 (s .delay)) kinds places weights last room))
+                ∙ accepted-by v (afterMove n u) e move-judged;
+            holds =
+                record {
+                  room =
+                      rw (is-x, is-y, is-a)
+                      (move-room (T .initial) (T .capacity) (T .rate) (T .delay) (T .arcs) (T .kind) (T .place) (T .weight) k′ p′ w′ p t (s .count)
+                      (ofBits binary64 (s .rate)) (ofBits binary64 (s .delay)) kinds places weights last room small (r .kinds) (r .places) (r .weights) (move-clean p t (s .strange) (strange ls) u all));
+                  at-stage = tt;
+                };
+          }
+
+-- the same floats
+pub floats-same : (p k : ℕ) (bad : Bool) (x y x′ y′ : Float) (ls : List Slot) → x ≡ x′ → y ≡ y′
+    → firstOf (moveTests p k bad (transitionOf x y ls)) ≡ firstOf (moveTests p k bad (transitionOf x′ y′ ls))
+floats-same p k bad x y x′ y′ ls e f =
+    ap (λ (z : Float). firstOf (moveTests p k bad (transitionOf z y ls))) e ∙ ap (λ (z : Float). firstOf (moveTests p k bad (transitionOf x′ z ls))) f

@@ -1,0 +1,48 @@
+-- The answer to a whole text, from what reading its lines ended with. Assumes nothing.
+use Prim.Native.Nat.{ℕ, _≤_, _<_}
+use mathlib.Core.Path.{_≡_, refl, sym, ap, subst, _∙_}
+use mathlib.Core.Bool.{Bool, true, false}
+use lib.ListN.{length}
+use borrow.Author.Tests.{lt-ltb, le-ltb}
+use Rattle.net.specs.Net.{Net, pick}
+use Rattle.net.specs.Readable.{readable}
+use Rattle.net.specs.Record.{blank}
+use Rattle.text.specs.Text.{Bytes}
+use Rattle.net_text.specs.Reading.{RunLine, Answer, refused, given, read}
+use Rattle.net_text.specs.Position.{Tables, netAt, runOf, noRun, answer, acceptedBy, linesRead, LinesRead}
+use Rattle.net_text.specs.Answered.{meaning, nothingBy, NetRead, TurnedDown}
+use Rattle.net_text.specs.declared.Judged.{Judged}
+use Rattle.net_text.specs.declared.Judged.the-variants.{Given, Refused}
+use Rattle.net_text.specs.declared.NetText.{NetText}
+use Rattle.net_text.specs.declared.order.Ended.{Ended}
+
+long-text : (t : Bytes) → 8192 < length t → refused 2 0 ≡ read t
+long-text t h = ap (λ (b : Bool). pick b (refused 2 0) (linesRead t)) (sym (lt-ltb 8192 (length t) h))
+
+short-text : (t : Bytes) → length t ≤ 8192 → linesRead t ≡ read t
+short-text t h = ap (λ (b : Bool). pick b (refused 2 0) (linesRead t)) (sym (le-ltb 8192 (length t) h))
+
+-- a refusal, and nothing else
+turned-down : (t : Bytes) (c l : ℕ) (r : NetText) → TurnedDown c l r → refused c l ≡ read t → NetRead t r
+turned-down t c l r d e =
+    record {
+      is = ap (λ (j : Judged). answer j (readable (r .net)) (runOf (r .run))) (d .judged) ∙ e;
+      nothing = subst (λ (j : Judged). nothingBy j r) (sym (d .judged)) (d .net, d .run);
+      passes = subst (λ (j : Judged). acceptedBy j (r .net)) (sym (d .judged)) tt;
+    }
+
+pub too-long : (t : Bytes) (r : NetText) → TurnedDown 2 0 r → 8192 < length t → NetRead t r
+too-long t r d h = turned-down t 2 0 r d (long-text t h)
+
+module _ (t : Bytes) (e : Ended) (T : Tables) (short : length t ≤ 8192) (all : LinesRead t T e) where
+  -- what the reading ended with
+  ended : (j : Judged) → e .judged ≡ j → answer j (readable (netAt (e .places) (e .transitions) T)) (runOf (e .run)) ≡ read t
+  ended j f =
+      ap (λ (x : Judged). answer x (readable (netAt (e .places) (e .transitions) T)) (runOf (e .run))) (sym f) ∙ all .is ∙ short-text t short
+
+  pub whole-refused : (c l : ℕ) (r : NetText) → e .judged ≡ Refused c l → TurnedDown c l r → NetRead t r
+  whole-refused c l r f d = turned-down t c l r d (ended (Refused c l) f)
+
+  pub whole-given : e .judged ≡ Given → NetRead t (record { judged = Given; net = netAt (e .places) (e .transitions) T; run = e .run })
+  whole-given f =
+      record { is = ended Given f; nothing = tt; passes = subst (λ (j : Judged). acceptedBy j (netAt (e .places) (e .transitions) T)) f (all .passes) }

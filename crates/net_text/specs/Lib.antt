@@ -1,0 +1,7 @@
+pub mod Lines
+pub mod Forms
+pub mod Reading
+pub mod Scanned
+pub mod Seen
+pub mod Position
+pub mod Answered

@@ -1,0 +1,188 @@
+-- What the reader's own values stand for: how far it is, and the tables that hold the net so far. The rules are in Lines, Forms and Reading;
+-- nothing here adds to them.
+use Prim.Native.Nat.{ℕ, _+_, _-_, _*_, _<_, _≤_}
+use mathlib.Core.Path.{_≡_}
+use mathlib.Core.Bool.{Bool, true, false, not, _||_}
+use mathlib.Core.List.{List, [], _∷_}
+use mathlib.Core.Option.{Option, none, some}
+use lib.Dec.{eqb}
+use lib.ListN.{length, getD, take, drop, set}
+use lib.Ieee.{Float, binary64, ofBits}
+use Rattle.refusals.specs as Refusal
+use Rattle.net.specs.Net.{Net}
+use Rattle.net.specs.Tests.{Test, firstOf, placeTests, moveTests}
+use Rattle.net.specs.Readable.{readable, transitionOf, slots, meaning, placesFault, movesFault}
+use Rattle.net.specs.Readable as Readable
+use Rattle.net.specs.declared.Net.{Net as NetRecord}
+use Rattle.net.specs.declared.Verdict.{Verdict}
+use Rattle.text.specs.Text.{Bytes, newline}
+use Rattle.net_text.specs.Reading.{RunLine, Due, opening, inside, closing, nothing, Outcome, fault, goOn, lineRead, Answer, refused, given, readFrom, atEnd}
+use Rattle.net_text.specs.Lines.{lines}
+use Rattle.net_text.specs.declared.Judged.{Judged}
+use Rattle.net_text.specs.declared.Judged.the-variants.{Given, Refused}
+use Rattle.net_text.specs.declared.order.Ended.{Ended}
+use Rattle.net_text.specs.declared.RunLine.{RunLine as RunRecord}
+use Rattle.net_text.specs.declared.order.Stage.{Stage}
+use Rattle.net_text.specs.declared.order.Stage.the-variants.{Opening, Inside, Closing, Nothing}
+use Rattle.net_text.specs.declared.order.Position.{Position}
+use Rattle.net_text.specs.declared.order.Taken.{Taken}
+use Rattle.net_text.specs.declared.order.Taken.the-variants.{Fault, GoOn}
+
+-- ---- lines
+
+-- no newline among these bytes
+abbrev pub plain : Bytes → Type 0
+plain [] = Unit {0}
+plain (b ∷ l) = (eqb b newline ≡ false) × plain l
+
+-- the line that begins at a place of the text ends at r: no newline before r, and one at r if the text goes so far
+pub record LineEnd (t : Bytes) (at r : ℕ) : Type 0 where
+  pub from : at ≤ r
+  pub inside : r ≤ length t
+  pub none : plain (take (r - at) (drop at t))
+  pub one : r < length t → getD t r 0 ≡ newline
+
+-- ---- the tables
+
+pub record Tables : Type 0 where
+  pub initial : List ℕ
+  pub capacity : List ℕ
+  pub rate : List Float
+  pub delay : List Float
+  pub arcs : List ℕ
+  pub kind : List ℕ
+  pub place : List ℕ
+  pub weight : List ℕ
+
+abbrev pub tables : List ℕ → List ℕ → List Float → List Float → List ℕ → List ℕ → List ℕ → List ℕ → Tables
+tables initial capacity rate delay arcs kind place weight =
+    record { initial = initial; capacity = capacity; rate = rate; delay = delay; arcs = arcs; kind = kind; place = place; weight = weight }
+
+-- the net record with so many places and transitions
+abbrev pub netAt : ℕ → ℕ → Tables → NetRecord
+netAt places transitions t =
+    record {
+      places = places;
+      transitions = transitions;
+      initial = t .initial;
+      capacity = t .capacity;
+      rate = t .rate;
+      delay = t .delay;
+      arcs = t .arcs;
+      kind = t .kind;
+      place = t .place;
+      weight = t .weight;
+    }
+
+-- what holds of the record between two lines: the arrays' lengths, the bounds of "Domain", and that the tests 2 to 7 of a net given as data find
+-- no fault in the places and the transitions so far
+pub record Room (n : NetRecord) : Type 0 where
+  pub initials : length (n .initial) ≡ 32
+  pub capacities : length (n .capacity) ≡ 32
+  pub rates : length (n .rate) ≡ 64
+  pub delays : length (n .delay) ≡ 64
+  pub counts : length (n .arcs) ≡ 64
+  pub kinds : length (n .kind) ≡ 1024
+  pub ends : length (n .place) ≡ 1024
+  pub weights : length (n .weight) ≡ 1024
+  pub few-places : n .places ≤ 32
+  pub few-transitions : n .transitions ≤ 64
+  pub few-arcs : (j : ℕ) → j < n .transitions → getD (n .arcs) j 0 ≤ 16
+  pub fit-places : placesFault 0 (readable n .places) ≡ none
+  pub fit-transitions : movesFault n 0 (n .transitions) ≡ none
+
+-- ---- positions
+
+abbrev pub runOf : RunRecord → RunLine
+runOf r = record { samples = r .samples; realizations = r .realizations; seed = r .seed; horizon = r .horizon }
+
+abbrev pub noRun : RunRecord
+noRun = record { samples = 0; realizations = 0; seed = 0; horizon = 0 }
+
+abbrev pub dueAt : Stage → Net → RunLine → Due
+dueAt Opening n r = opening
+dueAt Inside n r = inside n
+dueAt Closing n r = closing n r
+dueAt Nothing n r = nothing n r
+
+abbrev pub dueOf : Position → Tables → Due
+dueOf p t = dueAt (p .stage) (readable (netAt (p .places) (p .transitions) t)) (runOf (p .run))
+
+abbrev pub insideOf : ℕ → ℕ → Tables → Due
+insideOf places transitions t = inside (readable (netAt places transitions t))
+
+-- before `(net` there is no place and no transition; behind the run line the net is accepted as data
+abbrev pub stageHolds : Stage → NetRecord → Type 0
+stageHolds Opening n = (n .places ≡ 0) × (n .transitions ≡ 0)
+stageHolds Inside n = Unit {0}
+stageHolds Closing n = Readable.fault n ≡ none
+stageHolds Nothing n = Readable.fault n ≡ none
+
+pub record Standing (p : Position) (t : Tables) : Type 0 where
+  pub room : Room (netAt (p .places) (p .transitions) t)
+  pub at-stage : stageHolds (p .stage) (netAt (p .places) (p .transitions) t)
+
+-- ---- what a line does
+
+abbrev pub outcomeOf : Taken → Tables → Outcome
+outcomeOf (Fault c) t = fault c
+outcomeOf (GoOn p) t = goOn (dueOf p t)
+
+-- where the line is refused, the tables may hold anything
+abbrev pub standing : Taken → Tables → Type 0
+standing (Fault c) t = Unit {0}
+standing (GoOn p) t = Standing p t
+
+pub record LineTaken (due : Due) (line : Bytes) (t : Tables) (r : Taken) : Type 0 where
+  pub is : outcomeOf r t ≡ lineRead due line
+  pub holds : standing r t
+
+-- a place line of the right form, by the values that 64 bits hold
+pub record PlaceTaken (places transitions : ℕ) (strange : Bool) (i c : ℕ) (initial₀ capacity₀ initial capacity : List ℕ) (r : Verdict) : Type 0 where
+  pub fault : meaning r ≡ firstOf ((Refusal.wrongForm, not (eqb transitions 0)) ∷ placeTests places strange (record { initial = i; capacity = c }))
+  pub stored-initial : meaning r ≡ none → initial ≡ set initial₀ places i
+  pub stored-capacity : meaning r ≡ none → capacity ≡ set capacity₀ places c
+
+-- a move line of the right form, its arcs in the slots
+pub record MoveTaken (places transitions : ℕ) (strange : Bool) (rateBits delayBits count : ℕ) (kind place weight : List ℕ)
+    (rate₀ delay₀ : List Float) (arcs₀ : List ℕ) (rate delay : List Float) (arcs : List ℕ) (r : Verdict) : Type 0 where
+  pub fault : meaning r ≡ firstOf (moveTests places transitions
+      (strange || Readable.strange (slots kind place weight (16 * transitions) count))
+      (transitionOf (ofBits binary64 rateBits) (ofBits binary64 delayBits) (slots kind place weight (16 * transitions) count)))
+  pub stored-rate : meaning r ≡ none → rate ≡ set rate₀ transitions (ofBits binary64 rateBits)
+  pub stored-delay : meaning r ≡ none → delay ≡ set delay₀ transitions (ofBits binary64 delayBits)
+  pub stored-arcs : meaning r ≡ none → arcs ≡ set arcs₀ transitions count
+
+-- a run line of the right form: "no place before the first … run line"; "Decimals … fit 64 bits, else 4"
+abbrev pub runTests : ℕ → Bool → List Test
+runTests places strange = (Refusal.wrongNumber, eqb places 0) ∷ (Refusal.outsideDomain, strange) ∷ []
+
+-- ---- what the reading ends with
+
+abbrev pub answer : Judged → Net → RunLine → Answer
+answer Given n r = given n r
+answer (Refused c l) n r = refused c l
+
+abbrev pub endOf : Ended → Tables → Answer
+endOf r t = answer (r .judged) (readable (netAt (r .places) (r .transitions) t)) (runOf (r .run))
+
+-- a net that is given is accepted as data
+abbrev pub acceptedBy : Judged → NetRecord → Type 0
+acceptedBy Given n = Readable.fault n ≡ none
+acceptedBy (Refused c l) n = Unit {0}
+
+abbrev pub accepted : Ended → Tables → Type 0
+accepted r t = acceptedBy (r .judged) (netAt (r .places) (r .transitions) t)
+
+-- all lines of a text
+abbrev pub linesRead : Bytes → Answer
+linesRead t = readFrom 1 opening (lines t .ended) (lines t .rest)
+
+pub record LinesRead (text : Bytes) (t : Tables) (r : Ended) : Type 0 where
+  pub is : endOf r t ≡ linesRead text
+  pub passes : accepted r t
+
+-- the end of the text, at a position
+pub record AtEnd (number : ℕ) (p : Position) (t : Tables) (r : Ended) : Type 0 where
+  pub is : endOf r t ≡ atEnd number (dueOf p t) []
+  pub passes : Standing p t → accepted r t

@@ -1,0 +1,93 @@
+// Reads a net text. specs/Forms and specs/Reading say what a text means, specs/Answered what the answer says.
+ghost use Rattle.net_text.specs.Answered as Answered;
+
+mod form;
+mod order;
+mod scan;
+
+// The run line: samples, realizations and seed of an ensemble, and the bits of its horizon. They are tested there and not here.
+pub struct RunLine {
+    pub samples: u64,
+    pub realizations: u64,
+    pub seed: u64,
+    pub horizon: u64,
+}
+
+// A net is given, or the text is turned down: by which number, at which line.
+pub enum Judged {
+    Given,
+    Refused(u64, u64),
+}
+
+// Where the text is turned down, the net has no place and the run line is zeros.
+pub struct NetText {
+    pub judged: Judged,
+    pub net: net::Net,
+    pub run: RunLine,
+}
+
+fn refused(number: u64, line: u64) -> NetText
+    ensures { λ r. ⌜ Answered.TurnedDown number line r ⌝ }
+{
+    NetText {
+        judged: Judged::Refused(number, line),
+        net: net::empty(),
+        run: RunLine {
+            samples: 0,
+            realizations: 0,
+            seed: 0,
+            horizon: 0,
+        },
+    }
+}
+
+// Reads a text of any bytes and any length.
+pub fn read_net(text: &[u8]) -> NetText
+    ensures { λ r. ⌜ Answered.NetRead (now (text .entry)) r ⌝ }
+{
+    if 8192 < text.len() {
+        return refused(refusals::WRONG_NUMBER, 0);
+    }
+    let mut initial = [0u64; 32];
+    let mut capacity = [0u64; 32];
+    let mut rate = [0.0f64; 64];
+    let mut delay = [0.0f64; 64];
+    let mut arcs = [0usize; 64];
+    let mut kind = [0u64; 1024];
+    let mut place = [0usize; 1024];
+    let mut weight = [0u64; 1024];
+    let end = order::read_lines(
+        text,
+        &mut initial,
+        &mut capacity,
+        &mut rate,
+        &mut delay,
+        &mut arcs,
+        &mut kind,
+        &mut place,
+        &mut weight,
+    );
+    let judged = end.judged;
+    match judged {
+        Judged::Refused(number, line) => refused(number, line),
+        Judged::Given => {
+            let run = end.run;
+            NetText {
+                judged: Judged::Given,
+                net: net::Net {
+                    places: end.places,
+                    transitions: end.transitions,
+                    initial: initial,
+                    capacity: capacity,
+                    rate: rate,
+                    delay: delay,
+                    arcs: arcs,
+                    kind: kind,
+                    place: place,
+                    weight: weight,
+                },
+                run: run,
+            }
+        }
+    }
+}

@@ -1,0 +1,4 @@
+pub mod Lengths
+pub mod Steps
+pub mod Bound
+pub mod Sample

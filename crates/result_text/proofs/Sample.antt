@@ -1,0 +1,25 @@
+-- Document 01's sample, computed: the definitions give its very bytes.
+use mathlib.Core.Path.{_≡_, refl}
+use mathlib.Core.List.{[], _∷_}
+use lib.Ieee.{Float, binary64, ofBits, toBits}
+use Rattle.text.specs.Text.{bytes}
+use Rattle.result_text.specs.Lines.{printed, refusedLine}
+
+zero : Float
+zero = ofBits binary64 0
+
+two : Float
+two = ofBits binary64 0x4000_0000_0000_0000
+
+sample : printed 2 3 1 ((two ∷ zero ∷ zero ∷ []) ∷ (zero ∷ zero ∷ two ∷ []) ∷ []) []
+    ≡ bytes "(result 2 3 1)\n(mean 0 4000000000000000 0000000000000000 0000000000000000)\n(mean 1 0000000000000000 0000000000000000 4000000000000000)\n"
+unfolding two zero ofBits toBits
+sample = refl
+
+deviations : printed 1 2 2 ((two ∷ zero ∷ []) ∷ []) ((zero ∷ two ∷ []) ∷ [])
+    ≡ bytes "(result 1 2 2)\n(mean 0 4000000000000000 0000000000000000)\n(dev 0 0000000000000000 4000000000000000)\n"
+unfolding two zero ofBits toBits
+deviations = refl
+
+refusal : refusedLine 18 1024 ≡ bytes "(refused 18 1024)\n"
+refusal = refl

@@ -1,0 +1,3 @@
+pub mod Nan
+pub mod Places
+pub mod Digits

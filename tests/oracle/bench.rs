@@ -1,0 +1,124 @@
+//! How long each leaf takes, ours beside the source's or Rust's own: one program, the same inputs,
+//! turn and turn about. What is shown is the least time of many rounds, so that other work on the
+//! machine counts as little as it can.
+use crate::draw::Draw;
+use crate::leaves::{ways, ways_real};
+use crate::rattle;
+use crate::ssa::portable_log::frexp;
+use crate::ssa::{plog, splitmix64, Xoshiro256};
+use std::hint::black_box;
+use std::time::Instant;
+
+const N: usize = 4096;
+const ROUNDS: usize = 2000;
+
+/// Both functions get a fresh copy of the inputs in each round; making it is not timed.
+fn measure<T: Clone>(name: &str, input: &[T], ours: impl Fn(&mut [T]), theirs: impl Fn(&mut [T])) {
+    let mut best = [f64::INFINITY; 2];
+    for _ in 0..ROUNDS {
+        for (side, run) in [&ours as &dyn Fn(&mut [T]), &theirs].into_iter().enumerate() {
+            let mut xs = black_box(input.to_vec());
+            let began = Instant::now();
+            run(&mut xs);
+            best[side] = best[side].min(began.elapsed().as_nanos() as f64 / input.len() as f64);
+            black_box(xs);
+        }
+    }
+    println!("{name:34} {:8.2} {:8.2} {:7.2}", best[0], best[1], best[0] / best[1]);
+}
+
+pub fn bench() {
+    let mut draw = Draw::new(7);
+    let words: Vec<u64> = (0..N).map(|_| draw.word()).collect();
+    let units: Vec<f64> = (0..N).map(|_| 1.0 - draw.unit()).collect();
+    let positive: Vec<f64> = (0..N).map(|_| f64::from_bits(0x10_0000_0000_0000 + draw.below(0x7FD0_0000_0000_0000))).collect();
+    let counts: Vec<(i64, f64)> = (0..N).map(|_| (20 + draw.below(1000) as i64, draw.unit() * 1000.0)).collect();
+
+    println!("{:34} {:>8} {:>8} {:>7}", "nanoseconds for each", "ours", "Rust", "ratio");
+    println!("whole slices, one call");
+    measure("wrapping_mul", &words, |xs| rattle::products(xs, 0x9E37_79B9_7F4A_7C15), |xs| {
+        xs.iter_mut().for_each(|x| *x = x.wrapping_mul(0x9E37_79B9_7F4A_7C15))
+    });
+    let k = black_box(45);
+    measure("rotate_left", &words, |xs| rattle::rotations(xs, k), |xs| xs.iter_mut().for_each(|x| *x = x.rotate_left(k)));
+    measure("Xoshiro256 next_u64", &words, |xs| rattle::outputs(&mut [1, 2, 3, 4], xs), |xs| {
+        let mut rng = Xoshiro256::from_state([1, 2, 3, 4]);
+        xs.iter_mut().for_each(|x| *x = rng.next_u64());
+        black_box(rng);
+    });
+    measure("Xoshiro256 uniform", &units, |xs| rattle::uniforms(&mut [1, 2, 3, 4], xs), |xs| {
+        let mut rng = Xoshiro256::from_state([1, 2, 3, 4]);
+        xs.iter_mut().for_each(|x| *x = rng.uniform());
+        black_box(rng);
+    });
+    measure("plog of 1 - uniform", &units, rattle::plogs, |xs| xs.iter_mut().for_each(|x| *x = plog(*x)));
+    measure("plog of any positive", &positive, rattle::plogs, |xs| xs.iter_mut().for_each(|x| *x = plog(*x)));
+    measure("sqrt of 1 - uniform (hardware)", &units, rattle::roots, |xs| xs.iter_mut().for_each(|x| *x = x.sqrt()));
+    measure("sqrt of any positive (hardware)", &positive, rattle::roots, |xs| xs.iter_mut().for_each(|x| *x = x.sqrt()));
+
+    println!("a call for each, on both sides");
+    let theirs = black_box(theirs::splitmix64 as extern "C" fn(u64, &mut [u64; 4]));
+    measure("splitmix64", &words, |xs| xs.iter_mut().for_each(|x| *x = rattle::splitmix64(*x)[3]), |xs| {
+        xs.iter_mut().for_each(|x| {
+            let mut s = [0; 4];
+            theirs(*x, &mut s);
+            *x = s[3];
+        })
+    });
+    let theirs = black_box(theirs::frexp as extern "C" fn(f64, &mut i32) -> f64);
+    measure("frexp", &positive, |xs| xs.iter_mut().for_each(|x| *x = { let (f, e) = rattle::frexp(*x); f + e as f64 }), |xs| {
+        xs.iter_mut().for_each(|x| {
+            let mut e = 0;
+            let f = theirs(*x, &mut e);
+            *x = f + e as f64;
+        })
+    });
+    let theirs = black_box(theirs::sqrt as extern "C" fn(f64) -> f64);
+    measure("sqrt (hardware)", &positive, |xs| xs.iter_mut().for_each(|x| *x = rattle::sqrt(*x)), |xs| xs.iter_mut().for_each(|x| *x = theirs(*x)));
+    for w in [1, 2, 16] {
+        let w = black_box(w);
+        let theirs = black_box(theirs::combinations as extern "C" fn(i64, i64, &mut f64) -> bool);
+        measure(&format!("combinations, weight {w}"), &counts, |xs| xs.iter_mut().for_each(|x| x.1 = rattle::combinations(x.0, w).unwrap()), |xs| {
+            xs.iter_mut().for_each(|x| {
+                let mut v = 0.0;
+                assert!(theirs(x.0, w, &mut v));
+                x.1 = v;
+            })
+        });
+        let theirs = black_box(theirs::combinations_real as extern "C" fn(f64, i64, &mut f64) -> bool);
+        measure(&format!("combinations_real, weight {w}"), &counts, |xs| xs.iter_mut().for_each(|x| x.1 = rattle::combinations_real(x.1, w).unwrap()), |xs| {
+            xs.iter_mut().for_each(|x| {
+                let mut v = 0.0;
+                assert!(theirs(x.1, w, &mut v));
+                x.1 = v;
+            })
+        });
+    }
+}
+
+/// The source's functions behind the same boundary as ours.
+mod theirs {
+    use super::*;
+
+    pub extern "C" fn splitmix64(seed: u64, state: &mut [u64; 4]) {
+        *state = super::splitmix64(seed);
+    }
+
+    pub extern "C" fn frexp(x: f64, exp: &mut i32) -> f64 {
+        let (frac, e) = super::frexp(x);
+        *exp = e;
+        frac
+    }
+
+    pub extern "C" fn sqrt(x: f64) -> f64 {
+        x.sqrt()
+    }
+
+    pub extern "C" fn combinations(m: i64, w: i64, value: &mut f64) -> bool {
+        ways(m, w).map(|v| *value = v).is_some()
+    }
+
+    pub extern "C" fn combinations_real(x: f64, w: i64, value: &mut f64) -> bool {
+        ways_real(x, w).map(|v| *value = v).is_some()
+    }
+}

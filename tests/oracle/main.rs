@@ -1,0 +1,40 @@
+//! Compares the proved functions with the supplied Rust. The source's module stands beside this
+//! file as `ssa` only in the temporary folder in which this is built (tests/oracle/build).
+mod bench;
+mod draw;
+mod leaves;
+#[allow(dead_code)]
+mod nets;
+mod rattle;
+mod report;
+mod runs;
+mod sample;
+#[allow(dead_code, unused_imports)]
+mod ssa;
+
+fn main() {
+    let words: Vec<String> = std::env::args().skip(1).collect();
+    let words: Vec<&str> = words.iter().map(String::as_str).collect();
+    match words[..] {
+        ["compare", seed, inputs] => {
+            let mut report = report::Report::default();
+            leaves::compare(&mut report, number(seed), number(inputs));
+            runs::compare(&mut report);
+            println!("{} passed, {} failed", report.passed, report.failed);
+            std::process::exit((report.failed > 0) as i32);
+        }
+        ["record", folder] => sample::record(folder),
+        ["bench"] => bench::bench(),
+        _ => {
+            eprintln!("compare SEED INPUTS | record FOLDER | bench");
+            std::process::exit(2);
+        }
+    }
+}
+
+fn number(word: &str) -> u64 {
+    word.parse().unwrap_or_else(|_| {
+        eprintln!("{word} is not a number");
+        std::process::exit(2)
+    })
+}

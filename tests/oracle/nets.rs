@@ -1,0 +1,47 @@
+//! A net as plain data, the one form from which both sides are filled: arcs in line order, weights
+//! and rates as written (0 still means 1).
+
+#[derive(Clone, Copy, PartialEq)]
+pub enum Arc {
+    Take { place: usize, weight: i64, kinetic: bool },
+    Put { place: usize, weight: i64 },
+    Read { place: usize, weight: i64 },
+    Block { place: usize, weight: i64 },
+}
+
+#[derive(Clone, Copy)]
+pub struct Place {
+    pub initial: i64,
+    pub capacity: i64,
+}
+
+#[derive(Clone)]
+pub struct Move {
+    pub rate: f64,
+    pub delay: f64,
+    pub arcs: Vec<Arc>,
+}
+
+#[derive(Clone)]
+pub struct Net {
+    pub places: Vec<Place>,
+    pub moves: Vec<Move>,
+}
+
+/// The net of document 01's text example: two tokens pass from one place to another, a second each.
+pub fn example() -> Net {
+    Net {
+        places: vec![
+            Place { initial: 2, capacity: 0 },
+            Place { initial: 0, capacity: 0 },
+        ],
+        moves: vec![Move {
+            rate: 1.0,
+            delay: 1.0,
+            arcs: vec![
+                Arc::Take { place: 0, weight: 1, kinetic: true },
+                Arc::Put { place: 1, weight: 1 },
+            ],
+        }],
+    }
+}

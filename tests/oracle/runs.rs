@@ -1,0 +1,33 @@
+//! Whole runs: the source's records are filled from a plain net, and its private sampler is reached.
+//! So far each is held to document 01 at one case; comparisons over random nets go here.
+use crate::nets;
+use crate::report::{same, Report};
+use crate::ssa::inside::filled;
+use crate::ssa::sde::inside::normals;
+use crate::ssa::{plog, realization, sample_grid, Xoshiro256};
+
+pub fn compare(report: &mut Report) {
+    report.compare("realization of the example", |case| {
+        let times = sample_grid(2.0, 3);
+        let mut rng = Xoshiro256::new(1);
+        let table = realization(&filled(&nets::example()), &times, &mut rng);
+        let shown = vec![vec![2.0, 0.0, 0.0], vec![0.0, 0.0, 2.0]];
+        case(table == shown, &|| format!("{table:?}, document 01 {shown:?}"));
+    });
+    report.compare("normal draws, the spare kept", |case| {
+        for seed in 0..1000 {
+            let mut rng = Xoshiro256::new(seed);
+            let (a, b, square) = loop {
+                let a = 2.0 * rng.uniform() - 1.0;
+                let b = 2.0 * rng.uniform() - 1.0;
+                let square = a * a + b * b;
+                if 0.0 < square && square < 1.0 {
+                    break (a, b, square);
+                }
+            };
+            let scale = (-2.0 * plog(square) / square).sqrt();
+            let drawn = normals(seed, 2);
+            case(same(drawn[0], a * scale) && same(drawn[1], b * scale), &|| format!("seed {seed}: {drawn:?}"));
+        }
+    });
+}
