@@ -1,16 +1,19 @@
-//! How long each leaf takes, ours beside the source's or Rust's own: one program, the same inputs,
+//! How long each leaf and a path take, ours beside the source's or Rust's own: one program, the same inputs,
 //! turn and turn about. What is shown is the least time of many rounds, so that other work on the
 //! machine counts as little as it can.
 use crate::draw::Draw;
 use crate::leaves::{ways, ways_real};
+use crate::paths;
 use crate::rattle;
+use crate::ssa::inside::filled;
 use crate::ssa::portable_log::frexp;
-use crate::ssa::{plog, splitmix64, Xoshiro256};
+use crate::ssa::{plog, realization, splitmix64, Xoshiro256};
 use std::hint::black_box;
 use std::time::Instant;
 
 const N: usize = 4096;
 const ROUNDS: usize = 2000;
+const PATH_ROUNDS: usize = 50;
 
 /// Both functions get a fresh copy of the inputs in each round; making it is not timed.
 fn measure<T: Clone>(name: &str, input: &[T], ours: impl Fn(&mut [T]), theirs: impl Fn(&mut [T])) {
@@ -93,6 +96,33 @@ pub fn bench() {
                 x.1 = v;
             })
         });
+    }
+    measure_paths();
+}
+
+/// Steps of a path in a second, from the least time of some rounds. Both sides have to give the answer
+/// that the harness works out; filling their records is not timed.
+fn measure_paths() {
+    println!("{:34} {:>8} {:>8} {:>7}", "thousand steps of a path a second", "ours", "Rust", "ratio of times");
+    for (name, case) in paths::measured() {
+        let answer = paths::play(&case);
+        assert!(paths::by_library(&case) == answer.line(&case) && paths::source_agrees(&case, &answer) == Some(true), "{name}: the answers differ");
+        let (fields, model) = (rattle::Fields::of(&case.net), filled(&case.net));
+        let mut best = [f64::INFINITY; 2];
+        for _ in 0..PATH_ROUNDS {
+            let (mut state, mut table) = (black_box(case.state), vec![0.0; 2048]);
+            let began = Instant::now();
+            rattle::path(&fields, &mut state, &case.instants, case.limit, &mut table);
+            best[0] = best[0].min(began.elapsed().as_secs_f64());
+            black_box((state, table));
+            let mut rng = Xoshiro256::from_state(black_box(case.state));
+            let began = Instant::now();
+            let table = realization(&model, &case.instants, &mut rng);
+            best[1] = best[1].min(began.elapsed().as_secs_f64());
+            black_box((rng, table));
+        }
+        let rate = |time: f64| answer.steps as f64 / time / 1000.0;
+        println!("{name:34} {:8.0} {:8.0} {:7.2}   {} steps", rate(best[0]), rate(best[1]), best[0] / best[1], answer.steps);
     }
 }
 

@@ -5,6 +5,7 @@ mod draw;
 mod leaves;
 #[allow(dead_code)]
 mod nets;
+mod paths;
 mod rattle;
 mod report;
 mod runs;
@@ -23,10 +24,14 @@ fn main() {
             println!("{} passed, {} failed", report.passed, report.failed);
             std::process::exit((report.failed > 0) as i32);
         }
-        ["record", folder] => sample::record(folder),
+        ["paths", seed, count, file] => paths::batch(number(seed), number(count), file),
+        ["record", leaves, paths] => {
+            sample::record(leaves);
+            paths::record(paths);
+        }
         ["bench"] => bench::bench(),
         _ => {
-            eprintln!("compare SEED INPUTS | record FOLDER | bench");
+            eprintln!("compare SEED INPUTS | paths SEED COUNT FILE | record FOLDER FOLDER | bench");
             std::process::exit(2);
         }
     }

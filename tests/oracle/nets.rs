@@ -45,3 +45,28 @@ pub fn example() -> Net {
         }],
     }
 }
+
+impl Arc {
+    /// The number of its kind in the record of a net.
+    pub fn kind(&self) -> u64 {
+        match self {
+            Arc::Take { kinetic: true, .. } => 0,
+            Arc::Take { kinetic: false, .. } => 1,
+            Arc::Put { .. } => 2,
+            Arc::Read { .. } => 3,
+            Arc::Block { .. } => 4,
+        }
+    }
+
+    pub fn place(&self) -> usize {
+        match *self {
+            Arc::Take { place, .. } | Arc::Put { place, .. } | Arc::Read { place, .. } | Arc::Block { place, .. } => place,
+        }
+    }
+
+    pub fn weight(&self) -> i64 {
+        match *self {
+            Arc::Take { weight, .. } | Arc::Put { weight, .. } | Arc::Read { weight, .. } | Arc::Block { weight, .. } => weight,
+        }
+    }
+}

@@ -1,4 +1,5 @@
 //! The proved functions, as crates/c_face exports them. A slice is a pointer and a length.
+use crate::nets::Net;
 
 mod c {
     extern "C" {
@@ -18,6 +19,25 @@ mod c {
         pub fn cild_roots(xs: *mut f64, len: usize);
         pub fn cild_outputs(state: *mut [u64; 4], out: *mut u64, len: usize);
         pub fn cild_uniforms(state: *mut [u64; 4], out: *mut f64, len: usize);
+        pub fn cild_path(
+            places: usize,
+            transitions: usize,
+            initial: *const [u64; 32],
+            capacity: *const [u64; 32],
+            rate: *const [f64; 64],
+            delay: *const [f64; 64],
+            arcs: *const [usize; 64],
+            kind: *const [u64; 1024],
+            place: *const [usize; 1024],
+            weight: *const [u64; 1024],
+            state: *mut [u64; 4],
+            instants: *const f64,
+            n: usize,
+            limit: u64,
+            table: *mut f64,
+            cells: usize,
+            told: *mut [u64; 4],
+        );
     }
 }
 
@@ -93,4 +113,73 @@ pub fn outputs(state: &mut [u64; 4], out: &mut [u64]) {
 
 pub fn uniforms(state: &mut [u64; 4], out: &mut [f64]) {
     unsafe { c::cild_uniforms(state, out.as_mut_ptr(), out.len()) }
+}
+
+/// A net as the fields of the proved record; what has no room is left out, and still counted.
+pub struct Fields {
+    places: usize,
+    transitions: usize,
+    initial: [u64; 32],
+    capacity: [u64; 32],
+    rate: [f64; 64],
+    delay: [f64; 64],
+    arcs: [usize; 64],
+    kind: [u64; 1024],
+    place: [usize; 1024],
+    weight: [u64; 1024],
+}
+
+impl Fields {
+    pub fn of(net: &Net) -> Fields {
+        let mut f = Fields {
+            places: net.places.len(),
+            transitions: net.moves.len(),
+            initial: [0; 32],
+            capacity: [0; 32],
+            rate: [0.0; 64],
+            delay: [0.0; 64],
+            arcs: [0; 64],
+            kind: [0; 1024],
+            place: [0; 1024],
+            weight: [0; 1024],
+        };
+        for (p, place) in net.places.iter().enumerate().take(32) {
+            (f.initial[p], f.capacity[p]) = (place.initial as u64, place.capacity as u64);
+        }
+        for (j, m) in net.moves.iter().enumerate().take(64) {
+            (f.rate[j], f.delay[j], f.arcs[j]) = (m.rate, m.delay, m.arcs.len());
+            for (i, arc) in m.arcs.iter().enumerate().take(16) {
+                let slot = 16 * j + i;
+                (f.kind[slot], f.place[slot], f.weight[slot]) = (arc.kind(), arc.place(), arc.weight() as u64);
+            }
+        }
+        f
+    }
+}
+
+/// The end's number (a refusal's own; 100 quiet, 101 spent, 102 reached), the steps, the settled instants, the peak.
+pub fn path(f: &Fields, state: &mut [u64; 4], instants: &[f64], limit: u64, table: &mut [f64]) -> [u64; 4] {
+    let mut told = [0; 4];
+    unsafe {
+        c::cild_path(
+            f.places,
+            f.transitions,
+            &f.initial,
+            &f.capacity,
+            &f.rate,
+            &f.delay,
+            &f.arcs,
+            &f.kind,
+            &f.place,
+            &f.weight,
+            state,
+            instants.as_ptr(),
+            instants.len(),
+            limit,
+            table.as_mut_ptr(),
+            table.len(),
+            &mut told,
+        )
+    }
+    told
 }

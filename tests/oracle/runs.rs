@@ -1,6 +1,9 @@
 //! Whole runs: the source's records are filled from a plain net, and its private sampler is reached.
-//! So far each is held to document 01 at one case; comparisons over random nets go here.
+//! Each is held to document 01 at one case. The path is held to `paths`, by the library and at some
+//! drawn nets; the program crates/path_replay is held to it at more.
+use crate::draw::Draw;
 use crate::nets;
+use crate::paths;
 use crate::report::{same, Report};
 use crate::ssa::inside::filled;
 use crate::ssa::sde::inside::normals;
@@ -13,6 +16,14 @@ pub fn compare(report: &mut Report) {
         let table = realization(&filled(&nets::example()), &times, &mut rng);
         let shown = vec![vec![2.0, 0.0, 0.0], vec![0.0, 0.0, 2.0]];
         case(table == shown, &|| format!("{table:?}, document 01 {shown:?}"));
+    });
+    report.compare("paths by the library, edges and drawn", |case| {
+        let mut draw = Draw::new(1);
+        let edges = paths::edges().into_iter().map(|c| (paths::play(&c), c));
+        for (answer, c) in edges.chain((0..200).map(|_| paths::drawn(&mut draw)).map(|(c, a)| (a, c))) {
+            let ours = paths::by_library(&c);
+            case(ours == answer.line(&c), &|| format!("{ours}harness {}", answer.line(&c)));
+        }
     });
     report.compare("normal draws, the spare kept", |case| {
         for seed in 0..1000 {

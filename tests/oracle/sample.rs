@@ -7,7 +7,7 @@ use crate::ssa::{plog, splitmix64, Xoshiro256};
 use std::fmt::Write;
 
 /// The sample is a function of this number alone, so recording again changes nothing.
-const SEED: u64 = 20;
+pub const SEED: u64 = 20;
 
 struct Sample {
     input: String,

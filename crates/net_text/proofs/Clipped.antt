@@ -1,21 +1,21 @@
 -- What 64 bits hold of a line decides as the line itself: a value is cut only where its decimal is badly written, and then 4 applies whatever the
 -- value; before 4 come 2, which counts, and 3, where a cut place is as far from the place count as the whole one. Assumes nothing.
-use Prim.Native.Nat.{ℕ, zero, suc, _+_, _-_, _^_, _≤_, _<_, min}
-use mathlib.Core.Path.{_≡_, refl, sym, ap, subst, _∙_}
-use mathlib.Core.Bool.{Bool, true, false, _||_, _&&_, not}
+use Prim.Native.Nat.{ℕ, _^_, _≤_, _<_}
+use mathlib.Core.Path.{_≡_, refl, sym, ap, _∙_}
+use mathlib.Core.Bool.{Bool, true, false, _||_, not}
 use mathlib.Core.List.{List, [], _∷_, map}
 use mathlib.Core.Option.{Option, none, some}
 use native.Mathlib.Omega.{arith}
 use lib.Dec.{eqb, leb, ltb}
 use lib.ListN.{length, length-map}
 use lib.Ieee.{Float, binary64, ofBits}
-use borrow.Author.Tests.{le-leb, lt-leb, lt-ltb, le-ltb, leb-true, leb-false}
+use borrow.Author.Tests.{le-leb, lt-leb, lt-ltb, leb-true, leb-false}
 use Rattle.net.specs.Net.{Place, Arc, Transition, Net, pick}
-use Rattle.net.specs.Tests.{Test, firstOf, any, empty, arcs, placeTests, moveTests, tooMany, noSuchPlace, outside, takenTwice, delayedForNothing, kineticTotal}
+use Rattle.net.specs.Tests.{Test, firstOf, any, empty, arcs, placeTests, moveTests, tooMany, noSuchPlace, takenTwice, delayedForNothing, kineticTotal}
 use Rattle.net.specs.Readable.{Slot, takesOf, arcsOf, isPut, isRead, isBlock, transitionOf, strange}
 use Rattle.net.proofs.Slots.{length-arcs, any-arcs}
 use Rattle.net_text.specs.Forms.{Decimal, RawArc, rawTake, rawPut, rawRead, rawBlock, rawPlace, rawMove, rawRun}
-use Rattle.net_text.specs.Reading.{RunLine, badly, badArc, transition, withArc, Due, closing, Outcome, fault, goOn, unless, afterPlace, afterMove, insideLine}
+use Rattle.net_text.specs.Reading.{RunLine, badly, badArc, transition, withArc, Due, closing, Outcome, unless, afterPlace, afterMove, insideLine}
 use Rattle.net_text.specs.Scanned.{held, slotOf}
 use Rattle.net_text.specs.Position.{runTests}
 

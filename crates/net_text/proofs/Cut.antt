@@ -1,8 +1,8 @@
 -- The text cut where the reader cuts it: a line and its newline in front, or no newline at all; and what each gives. Assumes nothing.
-use Prim.Native.Nat.{ℕ, zero, suc, _+_, _-_, _≤_, _<_}
+use Prim.Native.Nat.{ℕ, suc, _+_, _-_, _≤_, _<_}
 use mathlib.Core.Path.{_≡_, refl, sym, ap, subst, _∙_}
-use mathlib.Core.Bool.{Bool, true, false}
-use mathlib.Core.List.{List, [], _∷_, _++_}
+use mathlib.Core.Bool.{false}
+use mathlib.Core.List.{[], _∷_, _++_}
 use native.Mathlib.Omega.{arith}
 use native.Mathlib.Numerals.{add-one}
 use lib.Dec.{eqb}
@@ -11,8 +11,8 @@ use lib.Seq.{drop-cons, drop-drop, take-all, take-suc, getD-drop}
 use borrow.Author.Tests.{ne-eqb}
 use Rattle.text.specs.Text.{Bytes, newline}
 use Rattle.net_text.specs.Lines.{Lines, lines}
-use Rattle.net_text.specs.Reading.{Due, opening, inside, closing, nothing, Outcome, fault, goOn, Answer, refused, given, lineRead, atEnd, onward, readFrom}
-use Rattle.net_text.specs.Position.{plain, LineEnd, linesRead}
+use Rattle.net_text.specs.Reading.{Due, opening, inside, closing, nothing, Outcome, fault, goOn, Answer, refused, lineRead, atEnd, onward, readFrom}
+use Rattle.net_text.specs.Position.{plain, LineEnd}
 
 -- ---- the end of a line
 

@@ -13,3 +13,4 @@ pub mod Taking
 pub mod Cut
 pub mod Turns
 pub mod Whole
+pub mod Written

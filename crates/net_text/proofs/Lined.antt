@@ -1,16 +1,14 @@
 -- The three forms of a line between `(net` and `)`, put together from the parts that the scanner found. Assumes nothing.
-use Prim.Native.Nat.{ℕ, zero, suc, _+_, _-_, _^_, _≤_, _<_}
-use mathlib.Core.Path.{_≡_, refl, sym, ap, subst, _∙_}
+use Prim.Native.Nat.{ℕ, _+_, _^_, _≤_, _<_}
+use mathlib.Core.Path.{_≡_, refl, ap, _∙_}
 use mathlib.Core.Bool.{Bool, true, false, _||_}
-use mathlib.Core.List.{List, [], _∷_, map}
+use mathlib.Core.List.{List, []}
 use native.Mathlib.Omega.{arith}
 use lib.ListN.{length, getD, drop}
-use Rattle.net.specs.Tests.{any}
 use Rattle.net.specs.Readable.{slots}
 use Rattle.text.specs.Text.{Bytes, bytes}
 use Rattle.net_text.specs.Forms.{Met, wrong, met, Form, say, behind, many, _>>=_, _>>_, exactly, quoted, decimal, float, Decimal, RawArc, RawLine, rawPlace, rawMove, rawRun, nextArc, placeForm, moveForm, runForm}
-use Rattle.net_text.specs.Reading.{badly, badArc}
-use Rattle.net_text.specs.Scanned.{through, found, held, seen, numberIs, patternIs, slotOf, ArcsRead}
+use Rattle.net_text.specs.Scanned.{through, found, seen, numberIs, patternIs, ArcsRead}
 use Rattle.net_text.specs.Seen.{NumberAfter, PatternAfter, PlaceRead, RunRead, MoveRead, noPlace, noRun, noMove}
 use Rattle.net_text.specs.declared.scan.Number.{Number}
 use Rattle.net_text.specs.declared.scan.Pattern.{Pattern}

@@ -1,9 +1,9 @@
 -- A line's form part by part: what the scanner found is a part that is met, and the form goes on behind it. Assumes nothing.
-use Prim.Native.Nat.{ℕ, zero, suc, _+_, _-_, _≤_, _<_}
-use mathlib.Core.Path.{_≡_, refl, sym, ap, subst, _∙_}
-use mathlib.Core.Bool.{Bool, true, false, _||_, _&&_, false≢true}
-use mathlib.Core.List.{List, [], _∷_}
-use mathlib.Core.Option.{Option, none, some}
+use Prim.Native.Nat.{ℕ, zero, suc, _+_, _≤_, _<_}
+use mathlib.Core.Path.{_≡_, refl, sym, ap, _∙_}
+use mathlib.Core.Bool.{Bool, true, false, _&&_, false≢true}
+use mathlib.Core.List.{[], _∷_}
+use mathlib.Core.Option.{none, some}
 use native.Mathlib.Omega.{arith}
 use native.Mathlib.Nat.{zero-add}
 use lib.Dec.{eqb, eqb·suc-suc}
@@ -12,11 +12,10 @@ use lib.Seq.{drop-cons}
 use borrow.Author.Tests.{eq-eqb, ne-eqb, eqb-true, eqb-false}
 use Rattle.net.specs.Net.{pick}
 use Rattle.text.specs.Text.{Bytes, bytes, same}
-use Rattle.net_text.specs.Forms.{Met, wrong, met, Form, behind, instead, alone, exactly, decimal, float, Decimal, RawLine, placeForm, moveForm, runForm, lineOf}
+use Rattle.net_text.specs.Forms.{Met, wrong, met, Form, behind, alone, exactly, decimal, Decimal, RawLine, placeForm, moveForm, runForm, lineOf}
 use Rattle.net_text.specs.Reading.{badly}
-use Rattle.net_text.specs.Scanned.{through, found, held, Seen, seen, numberIs, patternIs}
+use Rattle.net_text.specs.Scanned.{through, found, held, Seen, seen, numberIs}
 use Rattle.net_text.specs.declared.scan.Number.{Number}
-use Rattle.net_text.specs.declared.scan.Pattern.{Pattern}
 
 -- ---- one form behind another
 

@@ -1,8 +1,8 @@
 -- The patterns of 64 bits that are a NaN's. Assumes nothing.
 use Prim.Native.Nat.{ℕ, _%_, _≤_, _<_}
-use mathlib.Core.Path.{_≡_, refl, sym, ap, subst, _∙_}
-use mathlib.Core.Bool.{Bool, true, false, not}
-use lib.Dec.{T, ltb}
+use mathlib.Core.Path.{_≡_, refl, sym, subst, _∙_}
+use mathlib.Core.Bool.{Bool, true, not}
+use lib.Dec.{T}
 use lib.Ieee.{Float, nan, inf, fin, binary64, ofBits, div, isNan, nanBits}
 use lib.Ieee.Bits.{nanBits-is, nanBits-above}
 use borrow.Author.Tests.{lt-ltb, le-ltb}

@@ -1,7 +1,7 @@
 -- The tables after a store: a place or a transition at the end of the list, and the others as they were. Assumes nothing.
-use Prim.Native.Nat.{ℕ, zero, suc, _+_, _-_, _*_, _≤_, _<_}
+use Prim.Native.Nat.{ℕ, zero, suc, _+_, _*_, _≤_, _<_}
 use mathlib.Core.Path.{_≡_, refl, sym, ap, subst, _∙_}
-use mathlib.Core.Bool.{Bool, true, false, not}
+use mathlib.Core.Bool.{Bool, true, false}
 use mathlib.Core.List.{List, [], _∷_, _++_}
 use mathlib.Core.Option.{Option, none, some}
 use native.Mathlib.Omega.{arith}
@@ -14,9 +14,9 @@ use lib.Ieee.{Float, nan}
 use borrow.Author.Tests.{ltb-true, ltb-false}
 use Rattle.net.specs.Net.{Place, Transition, Net}
 use Rattle.net.specs.Tests.{empty, firstOf, placeTests, moveTests, orElse}
-use Rattle.net.specs.Readable.{Slot, slotAt, slots, slotsOf, strange, transitionOf, transition, transitionsFrom, placesFrom, readable, placesFault, moveFault, movesFault}
+use Rattle.net.specs.Readable.{Slot, slots, slotsOf, strange, transitionOf, transition, transitionsFrom, placesFrom, readable, placesFault, moveFault, movesFault}
 use Rattle.net.specs.declared.Net.{Net as NetRecord}
-use Rattle.net_text.specs.Position.{Tables, tables, netAt, Room}
+use Rattle.net_text.specs.Position.{tables, netAt, Room}
 
 -- ---- how many
 

@@ -1,35 +1,35 @@
 -- A line between `(net` and `)`, from what its form and its tests answered: the outcome is the rules', and the tables hold the net with what it
 -- adds. Assumes nothing.
-use Prim.Native.Nat.{ℕ, zero, suc, _+_, _-_, _*_, _^_, _≤_, _<_}
-use mathlib.Core.Path.{_≡_, refl, sym, ap, subst, _∙_}
+use Prim.Native.Nat.{ℕ, _+_, _*_, _^_, _≤_, _<_}
+use mathlib.Core.Path.{_≡_, refl, sym, ap, _∙_}
 use mathlib.Core.Bool.{Bool, true, false, _||_, not}
-use mathlib.Core.List.{List, [], _∷_, _++_, map}
+use mathlib.Core.List.{List, [], _∷_, map}
 use mathlib.Core.Option.{Option, none, some}
 use native.Mathlib.Omega.{arith}
 use lib.Dec.{eqb, leb, ltb}
 use lib.ListN.{length, getD, set, drop}
 use lib.Ieee.{Float, binary64, ofBits}
 use borrow.Author.Tests.{eq-eqb, ne-eqb, leb-false, ltb-true, ltb-false, eqb-true, not-false}
-use Rattle.net.specs.Net.{Place, Transition, Net, pick}
+use Rattle.net.specs.Net.{Place, Transition, Net}
 use Rattle.net.specs.Tests.{Test, firstOf, empty, any, arcs, placeTests, moveTests, tooMany, noSuchPlace, outside}
-use Rattle.net.specs.Readable.{Slot, slots, transitionOf, strange, readable, meaning, transitionsFrom, placesFrom, placesFault, movesFault, fault}
+use Rattle.net.specs.Readable.{Slot, slots, transitionOf, strange, readable, meaning, placesFault, movesFault, fault}
 use Rattle.net.specs.declared.Net.{Net as NetRecord}
 use Rattle.net.specs.declared.Verdict.{Verdict}
 use Rattle.net.specs.declared.Verdict.the-variants.{Accepted, Refused}
 use Rattle.net.proofs.Slots.{length-arcs, length-slots}
 use Rattle.text.specs.Text.{Bytes}
-use Rattle.net_text.specs.Forms.{Met, wrong, met, RawArc, RawLine, rawPlace, rawMove, rawRun, lineOf, placeForm, moveForm, runForm}
-use Rattle.net_text.specs.Reading.{RunLine, badly, badArc, Due, inside, closing, Outcome, goOn, unless, afterPlace, afterMove, insideLine, lineRead}
+use Rattle.net_text.specs.Forms.{wrong, met, RawArc, rawPlace, rawMove, rawRun, lineOf, placeForm, moveForm, runForm}
+use Rattle.net_text.specs.Reading.{RunLine, badly, badArc, Due, inside, closing, goOn, unless, afterPlace, afterMove, insideLine, lineRead}
 use Rattle.net_text.specs.Scanned.{held, slotOf}
 use Rattle.net_text.specs.Seen.{PlaceRead, RunRead, MoveRead}
-use Rattle.net_text.specs.Position.{Tables, tables, netAt, Room, insideOf, LineTaken, PlaceTaken, MoveTaken, runTests, runOf}
+use Rattle.net_text.specs.Position.{Tables, tables, netAt, Room, insideOf, LineTaken, PlaceTaken, MoveTaken, runTests}
 use Rattle.net_text.specs.declared.RunLine.{RunLine as RunRecord}
 use Rattle.net_text.specs.declared.form.PlaceSeen.{PlaceSeen}
 use Rattle.net_text.specs.declared.form.RunSeen.{RunSeen}
 use Rattle.net_text.specs.declared.form.MoveSeen.{MoveSeen}
 use Rattle.net_text.specs.declared.order.Stage.the-variants.{Inside, Closing}
 use Rattle.net_text.specs.declared.order.Taken.the-variants.{Fault, GoOn}
-use Rattle.net_text.proofs.Parts.{found-met, found-wrong, place-whole, place-more, move-whole, move-more, run-whole, run-more, no-form}
+use Rattle.net_text.proofs.Parts.{found-met, found-wrong, place-whole, place-more, move-whole, move-more, run-whole, run-more}
 use Rattle.net_text.proofs.Clipped.{later, place-held, run-held, move-held, move-crowded, move-late}
 use Rattle.net_text.proofs.Stored.{places-length, transitions-length, places-empty, transitions-empty, place-stored, place-room, move-stored, move-room}
 

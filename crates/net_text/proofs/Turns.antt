@@ -1,17 +1,16 @@
 -- The lines one after the other. The invariant of the reader's loop, Reading, says that what is read from here on is what is read of the whole
 -- text; a line at each position, and the text's end, keep it or give the answer. Assumes nothing.
-use Prim.Native.Nat.{ℕ, zero, suc, _+_, _-_, _≤_, _<_}
+use Prim.Native.Nat.{ℕ, _+_, _-_, _≤_, _<_}
 use mathlib.Core.Path.{_≡_, refl, sym, ap, subst, _∙_}
 use mathlib.Core.Bool.{Bool, true, false}
-use mathlib.Core.List.{List, [], _∷_}
+use mathlib.Core.List.{[]}
 use native.Mathlib.Omega.{arith}
 use lib.ListN.{length, take, drop}
-use lib.Ieee.{Float}
 use Rattle.net.specs.Net.{Net, pick}
 use Rattle.net.specs.Readable.{readable}
 use Rattle.text.specs.Text.{Bytes, bytes, same}
-use Rattle.net_text.specs.Reading.{RunLine, Due, opening, inside, closing, nothing, noNet, Outcome, fault, goOn, Answer, refused, given, lineRead, atEnd}
-use Rattle.net_text.specs.Position.{Tables, netAt, Room, LineEnd, dueAt, dueOf, insideOf, runOf, stageHolds, Standing, standing, outcomeOf, LineTaken, answer, acceptedBy, accepted, endOf, linesRead, LinesRead, AtEnd}
+use Rattle.net_text.specs.Reading.{RunLine, inside, nothing, noNet, fault, goOn, refused, lineRead, atEnd}
+use Rattle.net_text.specs.Position.{Tables, netAt, Room, LineEnd, dueAt, dueOf, insideOf, runOf, stageHolds, Standing, standing, outcomeOf, LineTaken, answer, acceptedBy, accepted, linesRead, LinesRead, AtEnd}
 use Rattle.net_text.specs.declared.RunLine.{RunLine as RunRecord}
 use Rattle.net_text.specs.declared.Judged.{Judged}
 use Rattle.net_text.specs.declared.Judged.the-variants.{Given, Refused}

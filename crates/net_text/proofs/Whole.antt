@@ -1,16 +1,15 @@
 -- The answer to a whole text, from what reading its lines ended with. Assumes nothing.
 use Prim.Native.Nat.{ℕ, _≤_, _<_}
-use mathlib.Core.Path.{_≡_, refl, sym, ap, subst, _∙_}
-use mathlib.Core.Bool.{Bool, true, false}
+use mathlib.Core.Path.{_≡_, sym, ap, subst, _∙_}
+use mathlib.Core.Bool.{Bool}
 use lib.ListN.{length}
 use borrow.Author.Tests.{lt-ltb, le-ltb}
-use Rattle.net.specs.Net.{Net, pick}
+use Rattle.net.specs.Net.{pick}
 use Rattle.net.specs.Readable.{readable}
-use Rattle.net.specs.Record.{blank}
 use Rattle.text.specs.Text.{Bytes}
-use Rattle.net_text.specs.Reading.{RunLine, Answer, refused, given, read}
-use Rattle.net_text.specs.Position.{Tables, netAt, runOf, noRun, answer, acceptedBy, linesRead, LinesRead}
-use Rattle.net_text.specs.Answered.{meaning, nothingBy, NetRead, TurnedDown}
+use Rattle.net_text.specs.Reading.{refused, read}
+use Rattle.net_text.specs.Position.{Tables, netAt, runOf, answer, acceptedBy, linesRead, LinesRead}
+use Rattle.net_text.specs.Answered.{nothingBy, NetRead, TurnedDown}
 use Rattle.net_text.specs.declared.Judged.{Judged}
 use Rattle.net_text.specs.declared.Judged.the-variants.{Given, Refused}
 use Rattle.net_text.specs.declared.NetText.{NetText}

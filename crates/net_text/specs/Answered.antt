@@ -5,7 +5,7 @@ use Rattle.net.specs.Net.{Net}
 use Rattle.net.specs.Readable.{readable}
 use Rattle.net.specs.Record.{blank}
 use Rattle.text.specs.Text.{Bytes}
-use Rattle.net_text.specs.Reading.{RunLine, Answer, refused, given, read}
+use Rattle.net_text.specs.Reading.{Answer, given, read}
 use Rattle.net_text.specs.Position.{runOf, noRun, answer, acceptedBy}
 use Rattle.net_text.specs.declared.Judged.{Judged}
 use Rattle.net_text.specs.declared.Judged.the-variants.{Given, Refused}

@@ -1,13 +1,13 @@
 -- What the answers of the lines' forms stand for. The rules are in Forms; nothing here adds to them.
 use Prim.Native.Nat.{ℕ, _<_, _≤_}
 use mathlib.Core.Path.{_≡_}
-use mathlib.Core.Bool.{Bool, true, false, _||_}
-use mathlib.Core.List.{List, [], _∷_, map}
+use mathlib.Core.Bool.{false, _||_}
+use mathlib.Core.List.{List, map}
 use lib.ListN.{length, getD, drop}
 use Rattle.net.specs.Tests.{any}
 use Rattle.net.specs.Readable.{slots}
 use Rattle.text.specs.Text.{Bytes}
-use Rattle.net_text.specs.Forms.{Met, behind, Decimal, RawArc, rawPlace, rawMove, rawRun, exactly, decimal, float, placeForm, moveForm, runForm}
+use Rattle.net_text.specs.Forms.{behind, Decimal, RawArc, rawPlace, rawMove, rawRun, exactly, decimal, float, placeForm, moveForm, runForm}
 use Rattle.net_text.specs.Reading.{badly, badArc}
 use Rattle.net_text.specs.Scanned.{through, found, held, seen, numberIs, patternIs, slotOf}
 use Rattle.net_text.specs.declared.scan.Number.{Number}

@@ -1,7 +1,7 @@
 // The form of each line between `(net` and `)`, from the front of the line on. Whether something stands behind it is the caller's to see.
 ghost use mathlib.Core.Path.{_≡_};
-ghost use Prim.Native.Nat.{ℕ, _+_, _≤_};
-ghost use lib.ListN.{length, drop};
+ghost use Prim.Native.Nat.{_+_, _≤_};
+ghost use lib.ListN.{length};
 ghost use Rattle.net_text.specs.Forms as Forms;
 ghost use Rattle.net_text.specs.Scanned as Scanned;
 ghost use Rattle.net_text.specs.Seen as Seen;

@@ -1,10 +1,8 @@
 // The lines in their order, and what each adds to the net. The net's arrays are lent apart, since the scanner stores through three of them.
 ghost use mathlib.Core.Path.{_≡_};
-ghost use mathlib.Core.Bool.{Bool, true, false, not};
-ghost use mathlib.Core.List.{[], _∷_};
-ghost use Prim.Native.Nat.{ℕ, _+_, _-_, _*_, _<_, _≤_};
-ghost use lib.ListN.{length, getD, take, drop};
-ghost use lib.Dec.{eqb};
+ghost use mathlib.Core.Bool.{false, not};
+ghost use Prim.Native.Nat.{_+_, _*_, _<_, _≤_};
+ghost use lib.ListN.{length};
 ghost use lib.Ieee as Ieee;
 ghost use Rattle.refusals.specs as Refusal;
 ghost use Rattle.net.specs.Tests as Tests;

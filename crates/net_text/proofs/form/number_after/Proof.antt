@@ -1,9 +1,8 @@
 -- The word is met or not; behind it the scanner's own answer is the answer.
 use borrow.Author.Needs.{needs}
 use native.Mathlib.Omega.{arith}
-use mathlib.Core.Path.{_≡_, refl, sym, ap, subst, _∙_}
+use mathlib.Core.Path.{ap}
 use borrow.Author.Tests.{not-true, not-false}
-use lib.ListN.{length, drop}
 use Rattle.net_text.specs.Forms.{decimal}
 use Rattle.net_text.specs.Scanned.{through, seen}
 use Rattle.net_text.proofs.Lined.{word-met, word-stop, word-ends, number-behind}

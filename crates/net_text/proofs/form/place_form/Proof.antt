@@ -1,7 +1,6 @@
 -- Part by part: the form is not met where a part is not, and else it says what the parts say.
 use borrow.Author.Needs.{needs}
 use native.Mathlib.Omega.{arith}
-use mathlib.Core.Path.{_≡_, refl, sym, ap, subst, _∙_}
 use borrow.Author.Tests.{not-true, not-false}
 use Rattle.net_text.proofs.Lined.{no-place, place-first, place-second, place-third, place-found, word-ends}
 use Rattle.text.specs.Text.{bytes}

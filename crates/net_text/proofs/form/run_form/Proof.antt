@@ -1,7 +1,5 @@
 -- Part by part: the form is not met where a part is not, and else it says what the parts say.
 use borrow.Author.Needs.{needs}
-use native.Mathlib.Omega.{arith}
-use mathlib.Core.Path.{_≡_, refl, sym, ap, subst, _∙_}
 use borrow.Author.Tests.{not-true, not-false}
 use Rattle.net_text.proofs.Lined.{no-run, run-first, run-second, run-third, run-fourth, run-fifth, run-found, word-ends, next-fits}
 use Rattle.text.specs.Text.{bytes}

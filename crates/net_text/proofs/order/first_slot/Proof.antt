@@ -1,5 +1,4 @@
 -- 64 times 16 is 1,024.
-use borrow.Author.Needs.{needs}
 use native.Mathlib.Omega.{arith}
 use Rattle.net_text.proofs.order.first_slot.Statement.{statement}
 use Rattle.net_text.proofs.order.first_slot.Tie as tie

@@ -1,8 +1,6 @@
 -- The word in front, and nothing behind it.
 use borrow.Author.Needs.{needs}
 use borrow.Author.Tests.{not-true, not-false}
-use Prim.Native.Nat.{_+_}
-use lib.ListN.{length}
 use Rattle.net_text.proofs.Parts.{same-not, same-is}
 use Rattle.net_text.proofs.Lined.{word-met, word-wrong}
 use Rattle.net_text.proofs.order.is_word.Statement.{statement}

@@ -1,5 +1,4 @@
 -- Each return rewrites the tests by the branches that led there.
-use borrow.Author.Needs.{needs}
 use borrow.Author.Tests.{eq-eqb, ne-eqb}
 use Rattle.net_text.proofs.order.run_fault.Statement.{statement}
 use Rattle.net_text.proofs.order.run_fault.Tie as tie

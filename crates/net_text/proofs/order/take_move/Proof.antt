@@ -1,7 +1,7 @@
 -- The transition's own test decides, and an accepted transition is below 64.
 use borrow.Author.Needs.{needs}
 use native.Mathlib.Omega.{arith}
-use mathlib.Core.Path.{_≡_, refl, sym, ap, subst, _∙_}
+use mathlib.Core.Path.{refl, sym, ap, _∙_}
 use Prim.Native.Nat.{_*_, _<_}
 use mathlib.Core.Bool.{_||_}
 use lib.ListN.{set}

@@ -1,7 +1,7 @@
 -- A move in front is 1; else the place's own test decides, and an accepted place is below 32.
 use borrow.Author.Needs.{needs}
 use native.Mathlib.Omega.{arith}
-use mathlib.Core.Path.{_≡_, refl, sym, ap, subst, _∙_}
+use mathlib.Core.Path.{refl, sym, ap, _∙_}
 use Prim.Native.Nat.{_<_}
 use Rattle.net.specs.Tests.{placeTests}
 use Rattle.net.specs.Readable.{meaning}

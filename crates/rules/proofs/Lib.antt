@@ -1,0 +1,9 @@
+pub mod Order
+pub mod Counts
+pub mod Allowing
+pub mod Agree
+pub mod Detours
+pub mod Demand3Held
+pub mod Play
+pub mod PlayLaws
+pub mod TakesOnce

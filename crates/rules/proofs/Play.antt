@@ -1,0 +1,325 @@
+-- The run as a player works it: the instants that are still to be shown go along with the state, and each clock reading shows those that it has
+-- reached. `played-path` says that this is the path of the rules, whose trace is looked at from outside: a clock reading parts a rising list into
+-- the instants that it has reached, which see the counts after the starts, and the others, which see all of the step in front of what follows.
+use Prim.Native.Nat.{ℕ, zero, suc, _+_}
+use mathlib.Core.Path.{_≡_, refl, sym, ap, ap₂, _∙_}
+use mathlib.Core.Bool.{Bool, true, false, _||_}
+use mathlib.Core.List.{List, [], _∷_, _++_, map, append-assoc}
+use mathlib.Core.Option.{Option, none, some}
+use native.Mathlib.Omega.{arith}
+use lib.ListN.{length}
+use lib.Ieee.{Float, binary64, add, mul, lt, le}
+use Rattle.net.specs.Net.{Net, Marking, pick, zero64}
+use Rattle.rng.specs.State.{State as Generator}
+use Rattle.rng.specs.Xoshiro.{step as drawn, uniform}
+use Rattle.rules.specs.Jump.{chosen}
+use Rattle.rules.specs.Propensity.{propensities, total}
+use Rattle.rules.specs.Timers.{Timer, first, others}
+use Rattle.rules.specs.Moves.{Entry, reading, started, completed, fired, move, after, initialCounts}
+use Rattle.rules.specs.Step.{State, state, Answer, refused, given, Starts, starts, waiting, drawnFor, Next, nothingLeft, race, completion, next, Event, countsFit, event, fire, Step, still, sets, setClock, goOn, afterStarts, step}
+use Rattle.rules.specs.Run.{End, quiet, spent, reached, Run, ends, steps, concluded, stepped, run, beginning, Outcome, outcome, stepsOf, entries, trace}
+use Rattle.rules.specs.Shown.{before, reaches, shownAt, reachedFrom, settledOf, peakOf, rising, lastOf, Path, reported, runOf, worked}
+use Rattle.rules.proofs.Order.{never, le-trans}
+use Rattle.rules.proofs.Allowing.{after-append, EventGood, StepGood, step-good}
+use Rattle.rules.proofs.Agree.{before-unreached}
+use Rattle.rules.proofs.Demand3Held.{rising-first}
+
+-- what is still to come of a run: the counts at the instants that are left, how many of these a clock reading reaches, the end, the steps
+pub record Played : Type 0 where
+  pub shown : List Marking
+  pub settled : ℕ
+  pub end : End
+  pub steps : ℕ
+  pub left : State
+
+-- the instants, from the first, that t has reached, and the others
+abbrev pub upTo : Float → List Float → List Float
+upTo t [] = []
+upTo t (x ∷ xs) = pick (le x t) (x ∷ upTo t xs) []
+
+abbrev pub beyond : Float → List Float → List Float
+beyond t [] = []
+beyond t (x ∷ xs) = pick (le x t) (beyond t xs) (x ∷ xs)
+
+-- the counts m at each of these instants
+abbrev pub alike : Marking → List Float → List Marking
+alike m xs = map (λ (x : Float). m) xs
+
+-- the run ends in the state s, with these instants left
+abbrev pub over : End → State → List Float → Played
+over e s xs = record { shown = alike (s .counts) xs; settled = 0; end = e; steps = 0; left = s }
+
+-- one step more, in which the clock reading shows the counts m at these instants
+abbrev pub oneStep : Marking → List Float → Played → Played
+oneStep m xs r =
+    record { shown = alike m xs ++ r .shown; settled = length xs + r .settled; end = r .end; steps = suc (r .steps); left = r .left }
+
+abbrev pub stepAnd : Marking → List Float → Answer Played → Answer Played
+stepAnd m xs (refused c) = refused c
+stepAnd m xs (given r) = given (oneStep m xs r)
+
+abbrev pub onEvent : Answer Event → (State → Answer Played) → Answer Played
+onEvent (refused c) onward = refused c
+onEvent (given e) onward = onward (e .leaves)
+
+abbrev pub playStep : Float → State → List Float → Answer Step → (List Float → State → Answer Played) → Answer Played
+playStep last s xs (refused c) onward = refused c
+playStep last s xs (given still) onward = given (oneStep (s .counts) [] (over quiet s xs))
+playStep last s xs (given (sets js u e)) onward =
+    let later = beyond (u .clock) xs in
+    let further = onEvent e (onward later) in
+    stepAnd (u .counts) (upTo (u .clock) xs) (pick (lt last (u .clock)) (given (over reached u later)) further)
+
+abbrev pub play : Net → Float → ℕ → List Float → State → Answer Played
+play n last zero xs s = given (over (pick (lt (s .clock) last) spent reached) s xs)
+play n last (suc k) xs s =
+    let further = playStep last s xs (step n s) (play n last k) in
+    pick (lt (s .clock) last) further (given (over reached s xs))
+
+-- the whole: the instants at most 0 are shown first
+abbrev pub settledBy : End → ℕ → ℕ → ℕ
+settledBy quiet all r = all
+settledBy spent all r = r
+settledBy reached all r = all
+
+abbrev pub asPath : Net → List Float → Answer Played → Answer Path
+asPath n xs (refused c) = refused c
+asPath n xs (given r) =
+    let shown = alike (initialCounts n) (upTo zero64 xs) ++ r .shown in
+    given (record {
+      shown = shown;
+      end = r .end;
+      steps = r .steps;
+      settled = settledBy (r .end) (length xs) (length (upTo zero64 xs) + r .settled);
+      peak = peakOf shown;
+      generator = r .left .generator;
+    })
+
+-- ---- a reading parts a rising list
+
+abbrev pub Rises : List Float → Type 0
+Rises [] = Unit
+Rises (x ∷ xs) = rising x xs ≡ true
+
+pub rises : (low : Float) (xs : List Float) → rising low xs ≡ true → Rises xs
+rises low [] h = tt
+rises low (x ∷ xs) h = rising-first low x xs h .1
+
+pub rises-beyond : (t : Float) (xs : List Float) → Rises xs → Rises (beyond t xs)
+rises-beyond t [] h = tt
+rises-beyond t (x ∷ xs) h = go (le x t) (rises-beyond t xs (rises x xs h))
+  where
+    go : (c : Bool) → Rises (beyond t xs) → Rises (pick c (beyond t xs) (x ∷ xs))
+    go true a = a
+    go false a = h
+
+-- after an instant that t has not reached there is none that it has
+later-too : (t x y : Float) → le x y ≡ true → le x t ≡ false → le y t ≡ false
+later-too t x y h p = go (le y t) refl
+  where
+    go : (c : Bool) → le y t ≡ c → c ≡ false
+    go false q = refl
+    go true q = never (sym p ∙ le-trans x y t h q)
+
+module _ (t : Float) (m : Marking) (f g : Float → Marking) (e : (x : Float) → f x ≡ pick (le x t) m (g x)) where
+  late : (x : Float) (xs : List Float) → rising x xs ≡ true → le x t ≡ false → map f xs ≡ map g xs
+  late x [] h p = refl
+  late x (y ∷ ys) h p =
+      let w : (le x y ≡ true) × (rising y ys ≡ true) = rising-first x y ys h in
+      let q : le y t ≡ false = later-too t x y (w .0) p in
+      rw (e y, q, late y ys (w .1) q)
+
+  parted : (xs : List Float) → Rises xs → map f xs ≡ alike m (upTo t xs) ++ map g (beyond t xs)
+  parted [] h = refl
+  parted (x ∷ xs) h = rw (e x) (go (le x t) refl (parted xs (rises x xs h)))
+    where
+      go : (c : Bool) → le x t ≡ c → map f xs ≡ alike m (upTo t xs) ++ map g (beyond t xs)
+          → pick c m (g x) ∷ map f xs ≡ alike m (pick c (x ∷ upTo t xs) []) ++ map g (pick c (beyond t xs) (x ∷ xs))
+      go true q ih = ap (λ (l : List Marking). m ∷ l) ih
+      go false q ih = ap (λ (l : List Marking). g x ∷ l) (late x xs h q)
+
+module _ (t : Float) (es fs : List Entry) (e : (x : Float) → reaches x es ≡ le x t || reaches x fs) where
+  late-reached : (x : Float) (xs : List Float) → rising x xs ≡ true → le x t ≡ false → reachedFrom es xs ≡ reachedFrom fs xs
+  late-reached x [] h p = refl
+  late-reached x (y ∷ ys) h p =
+      let w : (le x y ≡ true) × (rising y ys ≡ true) = rising-first x y ys h in
+      let q : le y t ≡ false = later-too t x y (w .0) p in
+      rw (e y, q, late-reached y ys (w .1) q)
+
+  parted-reached : (xs : List Float) → Rises xs → reachedFrom es xs ≡ length (upTo t xs) + reachedFrom fs (beyond t xs)
+  parted-reached [] h = omega arith
+  parted-reached (x ∷ xs) h = rw (e x) (go (le x t) refl (parted-reached xs (rises x xs h)))
+    where
+      go : (c : Bool) → le x t ≡ c → reachedFrom es xs ≡ length (upTo t xs) + reachedFrom fs (beyond t xs)
+          → pick (c || reaches x fs) (suc (reachedFrom es xs)) 0
+          ≡ length (pick c (x ∷ upTo t xs) []) + reachedFrom fs (pick c (beyond t xs) (x ∷ xs))
+      go true q ih = omega arith
+      go false q ih = let z : reachedFrom es xs ≡ reachedFrom fs xs = late-reached x xs h q in rw z (omega arith)
+
+reached-none : (xs : List Float) → reachedFrom [] xs ≡ 0
+reached-none [] = refl
+reached-none (x ∷ xs) = refl
+
+-- ---- what entries show from the counts m on
+
+-- starts, the clock reading t, a silent rest of the step (no clock reading), and what follows
+module _ (t : Float) (what rest : List Entry) (quietly : (x : Float) → reaches x what ≡ false) where
+  reaches-rest : (x : Float) (a : List Entry) → reaches x a ≡ false → reaches x (a ++ rest) ≡ reaches x rest
+  reaches-rest x [] h = refl
+  reaches-rest x (reading u ∷ a) h = go (le x u) h (reaches-rest x a)
+    where
+      go : (c : Bool) → c || reaches x a ≡ false → (reaches x a ≡ false → reaches x (a ++ rest) ≡ reaches x rest) → c || reaches x (a ++ rest) ≡ reaches x rest
+      go true p ih = never (sym p)
+      go false p ih = ih p
+  reaches-rest x (started j ∷ a) h = reaches-rest x a h
+  reaches-rest x (completed j ∷ a) h = reaches-rest x a h
+  reaches-rest x (fired j ∷ a) h = reaches-rest x a h
+
+  step-reaches : (js : List ℕ) (x : Float) → reaches x (map started js ++ reading t ∷ (what ++ rest)) ≡ le x t || reaches x rest
+  step-reaches [] x = rw (reaches-rest x what (quietly x))
+  step-reaches (j ∷ js) x = step-reaches js x
+
+  step-shows : (n : Net) (js : List ℕ) (m m′ m″ : Marking) → after n m (map started js) ≡ m′ → after n m′ what ≡ m″
+      → (x : Float) → after n m (before x (map started js ++ reading t ∷ (what ++ rest))) ≡ pick (le x t) m′ (after n m″ (before x rest))
+  step-shows n [] m m′ m″ a b x = go (le x t)
+    where
+      go : (c : Bool) → after n m (pick c [] (reading t ∷ before x (what ++ rest))) ≡ pick c m′ (after n m″ (before x rest))
+      go true = a
+      go false = rw (before-unreached x what rest (quietly x), after-append n m what, a, b)
+  step-shows n (j ∷ js) m m′ m″ a b x = step-shows n js (move n m (started j)) m′ m″ a b x
+
+-- a run of i steps with these entries and this outcome
+told : Net → Marking → List Float → List Entry → ℕ → Answer Outcome → Answer Played
+told n m xs es i (refused c) = refused c
+told n m xs es i (given o) =
+    given (record { shown = map (λ (x : Float). after n m (before x es)) xs; settled = reachedFrom es xs; end = o .end; steps = i; left = o .left })
+
+told-end : (n : Net) (e : End) (s : State) (xs : List Float) → told n (s .counts) xs [] 0 (given (record { end = e; left = s })) ≡ given (over e s xs)
+unfolding told
+told-end n e s xs = rw (reached-none xs)
+
+told-step : (n : Net) (js : List ℕ) (t : Float) (what rest : List Entry) → ((x : Float) → reaches x what ≡ false)
+    → (m m′ m″ : Marking) → after n m (map started js) ≡ m′ → after n m′ what ≡ m″
+    → (xs : List Float) → Rises xs → (i : ℕ) (o : Answer Outcome)
+    → told n m xs (map started js ++ reading t ∷ (what ++ rest)) (suc i) o ≡ stepAnd m′ (upTo t xs) (told n m″ (beyond t xs) rest i o)
+unfolding told
+told-step n js t what rest q m m′ m″ a b xs h i (refused c) = refl
+told-step n js t what rest q m m′ m″ a b xs h i (given o) =
+    ap₂ (λ (ms : List Marking) (r : ℕ). given (record { shown = ms; settled = r; end = o .end; steps = suc i; left = o .left }))
+    (parted t m′ _ (λ (x : Float). after n m″ (before x rest)) (step-shows t what rest q n js m m′ m″ a b) xs h)
+    (parted-reached t _ rest (step-reaches t what rest q js) xs h)
+
+-- ---- an event reads no clock
+
+abbrev Silent : Answer Event → Type 0
+Silent (refused c) = Unit
+Silent (given ev) = (x : Float) → reaches x (ev .what) ≡ false
+
+abbrev StepSilent : Answer Step → Type 0
+StepSilent (refused c) = Unit
+StepSilent (given still) = Unit
+StepSilent (given (sets js u e)) = Silent e
+
+event-silent : (n : Net) (u : State) (e : Entry) (q : List Timer) (g : Generator) → ((x : Float) → reaches x (e ∷ []) ≡ false) → Silent (event n u e q g)
+event-silent n u e q g h = go (countsFit (move n (u .counts) e))
+  where
+    go : (c : Bool) → Silent (pick c (given (record { what = e ∷ []; leaves = state (u .clock) (move n (u .counts) e) q g })) (refused 14))
+    go true = h
+    go false = tt
+
+fire-silent : (n : Net) (u : State) (o : Option ℕ) → Silent (fire n u o)
+fire-silent n u none = λ x. refl
+fire-silent n u (some j) = event-silent n u (fired j) (u .timers) (u .generator) (λ x. refl)
+
+go-on-silent : (n : Net) (js : List ℕ) (v : State) (a0 : Float) (xs : List Float) (x : Next) → StepSilent (given (goOn n js v a0 xs x))
+go-on-silent n js v a0 xs nothingLeft = tt
+go-on-silent n js v a0 xs (race dt) =
+    let u : State = setClock (add binary64 (v .clock) dt) v in
+    fire-silent n (state (u .clock) (u .counts) (u .timers) (drawn (u .generator))) (chosen (mul binary64 (uniform (u .generator)) a0) xs)
+go-on-silent n js v a0 xs (completion at) =
+    let u : State = setClock at v in
+    event-silent n u (completed (first (u .timers) .who)) (others (u .timers)) (u .generator) (λ x. refl)
+
+step-silent : (n : Net) (s : State) → StepSilent (step n s)
+step-silent n s = go (starts n s)
+  where
+    go : (r : Answer Starts) → StepSilent (afterStarts n s r)
+    go (refused c) = tt
+    go (given b) =
+        let a0 : Float = total (propensities n (b .counts)) in
+        let v : State = state (s .clock) (b .counts) (b .timers) (drawnFor a0 (s .generator)) in
+        go-on-silent n (b .who) v a0 (propensities n (b .counts)) (next a0 (s .clock) (waiting a0 (s .generator)) (b .timers))
+
+-- ---- the run
+
+abbrev toldRun : Net → Marking → List Float → Run → Answer Played
+toldRun n m xs r = told n m xs (entries r) (stepsOf r) (outcome r)
+
+module _ (n : Net) (last : Float) where
+  as-played : (k : ℕ) (s : State) (xs : List Float) → Rises xs → toldRun n (s .counts) xs (run n last k s) ≡ play n last k xs s
+  as-played zero s xs h = told-end n (pick (lt (s .clock) last) spent reached) s xs
+  as-played (suc k) s xs h = below (lt (s .clock) last) (one (step n s) (step-good n s) (step-silent n s) (λ v ys. as-played k v ys))
+    where
+      one : (r : Answer Step) → StepGood n s r → StepSilent r
+          → ((v : State) (ys : List Float) → Rises ys → toldRun n (v .counts) ys (run n last k v) ≡ play n last k ys v)
+          → toldRun n (s .counts) xs (stepped last s r (run n last k)) ≡ playStep last s xs r (play n last k)
+      one (refused c) g q ih = unfold told in refl
+      one (given still) g q ih = unfold told in rw (reached-none xs)
+      one (given (sets js u e)) g q ih = past (lt last (u .clock)) e (g .event) q
+        where
+          es : List Entry
+          es = map started js ++ reading (u .clock) ∷ []
+
+          past : (c : Bool) (e : Answer Event) → EventGood n u e → Silent e
+              → toldRun n (s .counts) xs (pick c (steps es (ends reached u)) (concluded es e (run n last k)))
+              ≡ stepAnd (u .counts) (upTo (u .clock) xs)
+              (pick c (given (over reached u (beyond (u .clock) xs))) (onEvent e (play n last k (beyond (u .clock) xs))))
+          past true e w q =
+              ap (λ (l : List Entry). told n (s .counts) xs l 1 (given (record { end = reached; left = u })))
+              (append-assoc (map started js) (reading (u .clock) ∷ []) [])
+              ∙ told-step n js (u .clock) [] [] (λ x. refl) (s .counts) (u .counts) (u .counts) (g .starts .to) refl xs h 0 (given (record { end = reached; left = u }))
+              ∙ ap (stepAnd (u .counts) (upTo (u .clock) xs)) (told-end n reached u (beyond (u .clock) xs))
+          past false (refused c) w q = unfold told in refl
+          past false (given ev) w q =
+              let r : Run = run n last k (ev .leaves) in
+              ap (λ (l : List Entry). told n (s .counts) xs l (suc (stepsOf r)) (outcome r))
+              (append-assoc es (ev .what) (entries r) ∙ append-assoc (map started js) (reading (u .clock) ∷ []) (ev .what ++ entries r))
+              ∙ told-step n js (u .clock) (ev .what) (entries r) q (s .counts) (u .counts) (ev .leaves .counts) (g .starts .to) (w .leads .to) xs h (stepsOf r) (outcome r)
+              ∙ ap (stepAnd (u .counts) (upTo (u .clock) xs)) (ih (ev .leaves) (beyond (u .clock) xs) (rises-beyond (u .clock) xs h))
+
+      below : (c : Bool) → toldRun n (s .counts) xs (stepped last s (step n s) (run n last k)) ≡ playStep last s xs (step n s) (play n last k)
+          → toldRun n (s .counts) xs (pick c (stepped last s (step n s) (run n last k)) (ends reached s))
+          ≡ pick c (playStep last s xs (step n s) (play n last k)) (given (over reached s xs))
+      below true p = p
+      below false p = told-end n reached s xs
+
+-- the reading 0 at the beginning, in front of a run
+from-beginning : (n : Net) (xs : List Float) → Rises xs → (r : Run) (o : Answer Outcome)
+    → reported n xs r o ≡ asPath n xs (told n (initialCounts n) (beyond zero64 xs) (entries r) (stepsOf r) o)
+unfolding told
+from-beginning n xs h r (refused c) = refl
+from-beginning n xs h r (given o) =
+    ap₂ (λ (ms : List Marking) (i : ℕ). given (record {
+      shown = ms;
+      end = o .end;
+      steps = stepsOf r;
+      settled = i;
+      peak = peakOf ms;
+      generator = o .left .generator;
+    }))
+    (parted zero64 (initialCounts n) (shownAt n (trace r)) (λ (x : Float). after n (initialCounts n) (before x (entries r)))
+    (step-shows zero64 [] (entries r) (λ x. refl) n [] (initialCounts n) (initialCounts n) (initialCounts n) refl refl) xs h)
+    (settles (o .end))
+  where
+    settles : (e : End) → settledOf e (trace r) xs ≡ settledBy e (length xs) (length (upTo zero64 xs) + reachedFrom (entries r) (beyond zero64 xs))
+    settles quiet = refl
+    settles spent = parted-reached zero64 (trace r) (entries r) (step-reaches zero64 [] (entries r) (λ x. refl) []) xs h
+    settles reached = refl
+
+pub played-path : (n : Net) (g : Generator) (xs : List Float) (k : ℕ) → rising zero64 xs ≡ true
+    → worked n g xs k ≡ asPath n xs (play n (lastOf xs) k (beyond zero64 xs) (beginning n g))
+played-path n g xs k h =
+    let hs : Rises xs = rises zero64 xs h in
+    let r : Run = runOf n g xs k in
+    from-beginning n xs hs r (outcome r)
+    ∙ ap (asPath n xs) (as-played n (lastOf xs) k (beginning n g) (beyond zero64 xs) (rises-beyond zero64 xs hs))

@@ -1,0 +1,187 @@
+-- Laws for a program that plays a run in a loop: the instants as an index into their list, the answer as what is done so far and what is still to
+-- come, and `play` by its tests.
+use Prim.Native.Nat.{ℕ, zero, suc, _+_, _≤_, _<_}
+use mathlib.Core.Path.{_≡_, refl, sym, ap, _∙_}
+use mathlib.Core.Bool.{Bool, true, false}
+use mathlib.Core.List.{List, [], _∷_, _++_, append-assoc}
+use native.Mathlib.Omega.{arith}
+use native.Mathlib.Numerals.{add-one}
+use lib.ListN.{length, take, drop, getD, drop-of-length-le}
+use lib.Seq.{drop-cons, drop-drop}
+use lib.Ieee.{Float, lt, le}
+use Rattle.net.specs.Net.{Net, Marking, pick, zero64}
+use Rattle.rules.specs.Moves.{initialCounts}
+use Rattle.rules.specs.Step.{State, Answer, refused, given, Event, Step, still, sets, step}
+use Rattle.rules.specs.Run.{quiet, spent, reached}
+use Rattle.rules.specs.Shown.{peakOf, Path}
+use Rattle.rules.proofs.Play.{Played, upTo, beyond, alike, over, stepAnd, onEvent, playStep, play, settledBy, asPath}
+
+-- ---- the instants that t has reached
+
+-- how many, from the first
+abbrev pub reachedBy : Float → List Float → ℕ
+reachedBy t [] = 0
+reachedBy t (x ∷ xs) = pick (le x t) (suc (reachedBy t xs)) 0
+
+pub upTo-beyond : (t : Float) (xs : List Float) → upTo t xs ++ beyond t xs ≡ xs
+upTo-beyond t [] = refl
+upTo-beyond t (x ∷ xs) = go (le x t) (upTo-beyond t xs)
+  where
+    go : (c : Bool) → upTo t xs ++ beyond t xs ≡ xs → pick c (x ∷ upTo t xs) [] ++ pick c (beyond t xs) (x ∷ xs) ≡ x ∷ xs
+    go true ih = ap (λ (l : List Float). x ∷ l) ih
+    go false ih = refl
+
+pub upTo-length : (t : Float) (xs : List Float) → length (upTo t xs) ≡ reachedBy t xs
+upTo-length t [] = refl
+upTo-length t (x ∷ xs) = go (le x t) (upTo-length t xs)
+  where
+    go : (c : Bool) → length (upTo t xs) ≡ reachedBy t xs → length (pick c (x ∷ upTo t xs) []) ≡ pick c (suc (reachedBy t xs)) 0
+    go true ih = ap suc ih
+    go false ih = refl
+
+pub upTo-take : (t : Float) (xs : List Float) → upTo t xs ≡ take (reachedBy t xs) xs
+upTo-take t [] = refl
+upTo-take t (x ∷ xs) = go (le x t) (upTo-take t xs)
+  where
+    go : (c : Bool) → upTo t xs ≡ take (reachedBy t xs) xs → pick c (x ∷ upTo t xs) [] ≡ take (pick c (suc (reachedBy t xs)) 0) (x ∷ xs)
+    go true ih = ap (λ (l : List Float). x ∷ l) ih
+    go false ih = refl
+
+pub beyond-drop : (t : Float) (xs : List Float) → beyond t xs ≡ drop (reachedBy t xs) xs
+beyond-drop t [] = refl
+beyond-drop t (x ∷ xs) = go (le x t) (beyond-drop t xs)
+  where
+    go : (c : Bool) → beyond t xs ≡ drop (reachedBy t xs) xs → pick c (beyond t xs) (x ∷ xs) ≡ drop (pick c (suc (reachedBy t xs)) 0) (x ∷ xs)
+    go true ih = ih
+    go false ih = refl
+
+pub reachedBy-few : (t : Float) (xs : List Float) → reachedBy t xs ≤ length xs
+reachedBy-few t [] = omega arith
+reachedBy-few t (x ∷ xs) = go (le x t) (reachedBy-few t xs)
+  where
+    go : (c : Bool) → reachedBy t xs ≤ length xs → pick c (suc (reachedBy t xs)) 0 ≤ suc (length xs)
+    go true ih = omega arith
+    go false ih = omega arith
+
+-- with the instants from index i on left
+pub beyond-from : (t : Float) (i : ℕ) (xs : List Float) → beyond t (drop i xs) ≡ drop (i + reachedBy t (drop i xs)) xs
+beyond-from t i xs = beyond-drop t (drop i xs) ∙ drop-drop (reachedBy t (drop i xs)) i xs
+
+-- one turn of the loop that shows them: instant i is reached, or it is not, or there is none
+module _ (t : Float) (xs : List Float) (i : ℕ) (d : Float) where
+  drop-next : i < length xs → drop i xs ≡ getD xs i d ∷ drop (i + 1) xs
+  drop-next h = rw (add-one i) (drop-cons xs i d h)
+
+  pub upTo-on : i < length xs → le (getD xs i d) t ≡ true → upTo t (drop i xs) ≡ getD xs i d ∷ upTo t (drop (i + 1) xs)
+  upTo-on h p = rw (drop-next h, p)
+
+  pub beyond-on : i < length xs → le (getD xs i d) t ≡ true → beyond t (drop i xs) ≡ beyond t (drop (i + 1) xs)
+  beyond-on h p = rw (drop-next h, p)
+
+  pub reachedBy-on : i < length xs → le (getD xs i d) t ≡ true → reachedBy t (drop i xs) ≡ suc (reachedBy t (drop (i + 1) xs))
+  reachedBy-on h p = rw (drop-next h, p)
+
+  pub upTo-off : i < length xs → le (getD xs i d) t ≡ false → upTo t (drop i xs) ≡ []
+  upTo-off h p = rw (drop-next h, p)
+
+  pub beyond-off : i < length xs → le (getD xs i d) t ≡ false → beyond t (drop i xs) ≡ drop i xs
+  beyond-off h p = rw (drop-next h, p)
+
+  pub reachedBy-off : i < length xs → le (getD xs i d) t ≡ false → reachedBy t (drop i xs) ≡ 0
+  reachedBy-off h p = rw (drop-next h, p)
+
+pub upTo-all : (t : Float) (xs : List Float) (i : ℕ) → length xs ≤ i → upTo t (drop i xs) ≡ []
+upTo-all t xs i h = rw (drop-of-length-le xs h)
+
+pub beyond-all : (t : Float) (xs : List Float) (i : ℕ) → length xs ≤ i → beyond t (drop i xs) ≡ []
+beyond-all t xs i h = rw (drop-of-length-le xs h)
+
+pub reachedBy-all : (t : Float) (xs : List Float) (i : ℕ) → length xs ≤ i → reachedBy t (drop i xs) ≡ 0
+reachedBy-all t xs i h = rw (drop-of-length-le xs h)
+
+-- ---- the same counts at instants
+
+pub alike-length : (m : Marking) (xs : List Float) → length (alike m xs) ≡ length xs
+alike-length m [] = refl
+alike-length m (x ∷ xs) = ap suc (alike-length m xs)
+
+pub alike-append : (m : Marking) (xs ys : List Float) → alike m (xs ++ ys) ≡ alike m xs ++ alike m ys
+alike-append m [] ys = refl
+alike-append m (x ∷ xs) ys = ap (λ (l : List Marking). m ∷ l) (alike-append m xs ys)
+
+-- ---- what is done so far, in front of what is still to come
+
+-- the counts shown so far, how many of them by a reading, and the steps so far
+abbrev pub addDone : List Marking → ℕ → ℕ → Answer Played → Answer Played
+addDone sh se st (refused c) = refused c
+addDone sh se st (given r) =
+    given (record { shown = sh ++ r .shown; settled = se + r .settled; end = r .end; steps = st + r .steps; left = r .left })
+
+pub addDone-none : (r : Answer Played) → addDone [] 0 0 r ≡ r
+addDone-none (refused c) = refl
+addDone-none (given r) =
+    let a : 0 + r .settled ≡ r .settled = omega arith in
+    let b : 0 + r .steps ≡ r .steps = omega arith in
+    rw (a, b)
+
+pub addDone-step : (sh : List Marking) (se st : ℕ) (m : Marking) (ys : List Float) (r : Answer Played)
+    → addDone sh se st (stepAnd m ys r) ≡ addDone (sh ++ alike m ys) (se + length ys) (st + 1) r
+addDone-step sh se st m ys (refused c) = refl
+addDone-step sh se st m ys (given r) =
+    let a : se + (length ys + r .settled) ≡ se + length ys + r .settled = omega arith in
+    let b : st + suc (r .steps) ≡ st + 1 + r .steps = omega arith in
+    let c : sh ++ (alike m ys ++ r .shown) ≡ (sh ++ alike m ys) ++ r .shown = sym (append-assoc sh (alike m ys) (r .shown)) in
+    λ i. given (record { shown = c i; settled = a i; end = r .end; steps = b i; left = r .left })
+
+-- the path call's answer from the whole, over so many instants
+abbrev pub answerOf : ℕ → Answer Played → Answer Path
+answerOf all (refused c) = refused c
+answerOf all (given r) =
+    given (record {
+      shown = r .shown;
+      end = r .end;
+      steps = r .steps;
+      settled = settledBy (r .end) all (r .settled);
+      peak = peakOf (r .shown);
+      generator = r .left .generator;
+    })
+
+-- it begins with the instants at most 0
+pub asPath-done : (n : Net) (xs : List Float) (r : Answer Played)
+    → asPath n xs r ≡ answerOf (length xs) (addDone (alike (initialCounts n) (upTo zero64 xs)) (length (upTo zero64 xs)) 0 r)
+asPath-done n xs (refused c) = refl
+asPath-done n xs (given r) = let b : 0 + r .steps ≡ r .steps = omega arith in rw b
+
+-- ---- `play` by its tests
+
+module _ (n : Net) (last : Float) (xs : List Float) (s : State) where
+  pub play-over : (k : ℕ) → lt (s .clock) last ≡ false → play n last k xs s ≡ given (over reached s xs)
+  play-over zero h = rw h
+  play-over (suc k) h = rw h
+
+  pub play-spent : lt (s .clock) last ≡ true → play n last 0 xs s ≡ given (over spent s xs)
+  play-spent h = rw h
+
+  pub play-on : (k : ℕ) → lt (s .clock) last ≡ true → play n last (suc k) xs s ≡ playStep last s xs (step n s) (play n last k)
+  play-on k h = rw h
+
+  module _ (k : ℕ) (h : lt (s .clock) last ≡ true) where
+    pub play-refused : (c : ℕ) → step n s ≡ refused c → play n last (suc k) xs s ≡ refused c
+    play-refused c e = play-on k h ∙ ap (λ (r : Answer Step). playStep last s xs r (play n last k)) e
+
+    pub play-still : step n s ≡ given still → play n last (suc k) xs s ≡ stepAnd (s .counts) [] (given (over quiet s xs))
+    play-still e = play-on k h ∙ ap (λ (r : Answer Step). playStep last s xs r (play n last k)) e
+
+    module _ (js : List ℕ) (u : State) (e : Answer Event) (p : step n s ≡ given (sets js u e)) where
+      pub play-sets : play n last (suc k) xs s
+          ≡ stepAnd (u .counts) (upTo (u .clock) xs)
+          (pick (lt last (u .clock)) (given (over reached u (beyond (u .clock) xs))) (onEvent e (play n last k (beyond (u .clock) xs))))
+      play-sets = play-on k h ∙ ap (λ (r : Answer Step). playStep last s xs r (play n last k)) p
+
+      pub play-past : lt last (u .clock) ≡ true
+          → play n last (suc k) xs s ≡ stepAnd (u .counts) (upTo (u .clock) xs) (given (over reached u (beyond (u .clock) xs)))
+      play-past q = rw q at play-sets
+
+      pub play-event : lt last (u .clock) ≡ false
+          → play n last (suc k) xs s ≡ stepAnd (u .counts) (upTo (u .clock) xs) (onEvent e (play n last k (beyond (u .clock) xs)))
+      play-event q = rw q at play-sets

@@ -1,0 +1,9 @@
+pub mod Enabled
+pub mod Propensity
+pub mod Jump
+pub mod Timers
+pub mod Moves
+pub mod Step
+pub mod Run
+pub mod Shown
+pub mod Demand3

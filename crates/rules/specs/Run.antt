@@ -1,0 +1,70 @@
+-- A whole run, from net, generator state, last instant and step limit. Document 01, "000", "The run of demand 3" and "Added".
+use Prim.Native.Nat.{ℕ, zero, suc, _+_}
+use mathlib.Core.Bool.{Bool, true, false}
+use mathlib.Core.List.{List, [], _∷_, _++_, map}
+use lib.Ieee.{Float, lt}
+use Rattle.net.specs.Net.{Net, pick, zero64}
+use Rattle.rng.specs.State.{State as Generator}
+use Rattle.rules.specs.Moves.{Entry, reading, started, initialCounts}
+use Rattle.rules.specs.Step.{State, state, Answer, refused, given, Event, Step, still, sets, step}
+
+pub data End : Type 0 where
+  quiet spent reached : End
+
+-- a run: its steps, each with what happened in it, up to the end and the state left there, or up to a refusal
+pub data Run : Type 0 where
+  ends : End → State → Run
+  refuses : ℕ → Run
+  steps : List Entry → Run → Run
+
+-- "It begins with clock 0, the initial counts, no timer and the generator state given"
+abbrev pub beginning : Net → Generator → State
+beginning n g = state zero64 (initialCounts n) [] g
+
+-- es is what happened up to the clock reading
+abbrev pub concluded : List Entry → Answer Event → (State → Run) → Run
+concluded es (refused c) onward = steps es (refuses c)
+concluded es (given e) onward = steps (es ++ e .what) (onward (e .leaves))
+
+-- "stop if t > last instant"; otherwise the event follows, and the run goes on from the state that it leaves
+abbrev pub stepped : Float → State → Answer Step → (State → Run) → Run
+stepped last s (refused c) onward = refuses c
+stepped last s (given still) onward = steps [] (ends quiet s)
+stepped last s (given (sets js u e)) onward =
+    let es = map started js ++ reading (u .clock) ∷ [] in
+    let further = concluded es e onward in
+    pick (lt last (u .clock)) (steps es (ends reached u)) further
+
+-- "steps follow while t is below the last instant and the limit allows": at most k steps from the state s
+abbrev pub run : Net → Float → ℕ → State → Run
+run n last zero s = ends (pick (lt (s .clock) last) spent reached) s
+run n last (suc k) s =
+    let onward = run n last k in
+    let further = stepped last s (step n s) onward in
+    pick (lt (s .clock) last) further (ends reached s)
+
+-- ---- what a run shows
+
+-- how a run ends and what state it leaves, or its refusal
+pub record Outcome : Type 0 where
+  pub end : End
+  pub left : State
+
+abbrev pub outcome : Run → Answer Outcome
+outcome (ends e s) = given (record { end = e; left = s })
+outcome (refuses c) = refused c
+outcome (steps es r) = outcome r
+
+abbrev pub entries : Run → List Entry
+entries (ends e s) = []
+entries (refuses c) = []
+entries (steps es r) = es ++ entries r
+
+abbrev pub stepsOf : Run → ℕ
+stepsOf (ends e s) = 0
+stepsOf (refuses c) = 0
+stepsOf (steps es r) = suc (stepsOf r)
+
+-- "Clock readings are 0 at the beginning and t wherever a step has set it"
+abbrev pub trace : Run → List Entry
+trace r = reading zero64 ∷ entries r

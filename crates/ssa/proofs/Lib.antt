@@ -1,0 +1,17 @@
+pub mod Arcs
+pub mod Open
+pub mod Room
+pub mod Limits
+pub mod Lists
+pub mod Tidying
+pub mod Marks
+pub mod Factors
+pub mod Totals
+pub mod TimerList
+pub mod Jump
+pub mod Passes
+pub mod Cells
+pub mod Playing
+pub mod Accepted
+pub mod Demand3
+pub mod Steps

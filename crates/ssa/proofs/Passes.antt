@@ -1,0 +1,232 @@
+-- Starts from left to right: those so far stand in front of what is still to come. A turn adds the starts of one transition, or of one pass, and
+-- in the end nothing is to come.
+use Prim.Native.Nat.{ℕ, zero, suc, _+_, _-_, _≤_, _<_}
+use mathlib.Core.Path.{_≡_, refl, sym, ap, _∙_}
+use mathlib.Core.Bool.{Bool, true, false, not, _&&_, _||_, true≢false}
+use mathlib.Core.List.{List, [], _∷_, _++_, append-assoc}
+use native.Mathlib.Omega.{arith}
+use native.Mathlib.Numerals.{add-one}
+use borrow.Author.Tests.{lt-ltb, le-ltb}
+use lib.Dec.{ltb}
+use lib.ListN.{length, getD, take}
+use lib.Ieee.{Float, nan, binary64, ofBits, add, lt}
+use Rattle.refusals.specs as Refusal
+use Rattle.net.specs.declared.Net.{Net as NetRecord}
+use Rattle.net.specs.Net.{Transition, Net, Marking, pick, zero64, timed}
+use Rattle.net.specs.Readable.{readable, transition, transitionsFrom}
+use Rattle.rules.specs.Enabled.{enabled}
+use Rattle.rules.specs.Timers.{Timer, insert}
+use Rattle.rules.specs.Moves.{taking}
+use Rattle.rules.specs.Step.{Answer, refused, given, Starts, preceded, pass, nobody, unlessNone, passes}
+use Rattle.ssa.specs.declared.starts.Started.{Started}
+use Rattle.ssa.specs.Engine.{someAbove, StartsAre, full, done}
+
+-- these starts, and the counts and timers that they leave
+abbrev pub left : List ℕ → Marking → List Timer → Answer Starts
+left who m q = given (record { who = who; counts = m; timers = q })
+
+-- ---- starts in front of others
+
+preceded-none : (r : Answer Starts) → preceded [] r ≡ r
+preceded-none (refused c) = refl
+preceded-none (given s) = refl
+
+preceded-append : (a b : List ℕ) (r : Answer Starts) → preceded (a ++ b) r ≡ preceded a (preceded b r)
+preceded-append a b (refused c) = refl
+preceded-append a b (given s) = ap (λ (w : List ℕ). left w (s .counts) (s .timers)) (append-assoc a b (s .who))
+
+nobody-append : (a b : List ℕ) → nobody (a ++ b) ≡ (nobody a && nobody b)
+nobody-append [] b = refl
+nobody-append (j ∷ a) b = refl
+
+neither : (a b x y : Bool) → a ≡ not x → b ≡ not y → (a && b) ≡ not (x || y)
+neither a b true y e f = rw e
+neither a b false y e f = rw (e, f)
+
+and-off : (a b : Bool) → b ≡ false → (a && b) ≡ false
+and-off true b e = e
+and-off false b e = refl
+
+or-false : (x : Bool) → (x || false) ≡ x
+or-false true = refl
+or-false false = refl
+
+or-true : (x : Bool) → (x || true) ≡ true
+or-true true = refl
+or-true false = refl
+
+-- the same from where these starts leave off
+abbrev pub onward : (Marking → List Timer → Answer Starts) → Answer Starts → Answer Starts
+onward further (refused c) = refused c
+onward further (given s) = preceded (s .who) (further (s .counts) (s .timers))
+
+-- ---- so far
+
+-- the whole is what has started so far in front of the rest, and any says whether one has
+pub record SoFar (whole rest : Answer Starts) (any : Bool) : Type 0 where
+  pub who : List ℕ
+  pub so : whole ≡ preceded who rest
+  pub none : nobody who ≡ not any
+
+pub so-none : (whole rest : Answer Starts) → rest ≡ whole → SoFar whole rest false
+so-none whole rest e = record { who = []; so = sym (preceded-none rest ∙ e); none = refl }
+
+module _ {whole rest : Answer Starts} {any : Bool} (s : SoFar whole rest any) where
+  -- nobody else starts
+  pub so-ended : (who : List ℕ) (m : Marking) (q : List Timer) (k : ℕ) → rest ≡ left who m q → nobody who ≡ true
+      → StartsAre whole m q (record { timers = k; any = any; full = false })
+  so-ended who m q k e quiet =
+      done (s .who ++ who) refl (s .so ∙ ap (preceded (s .who)) e)
+      (nobody-append (s .who) who ∙ neither (nobody (s .who)) (nobody who) any false (s .none) quiet ∙ ap not (or-false any))
+
+  module _ {one : Answer Starts} {m : Marking} {q : List Timer} {r : Started} where
+    -- 256 timers run already
+    so-full : (again : Answer Starts → Answer Starts) (m′ : Marking) (q′ : List Timer) → StartsAre one m q r → rest ≡ again one
+        → again (refused Refusal.tooManyTimers) ≡ refused Refusal.tooManyTimers → r .full ≡ true → StartsAre whole m′ q′ r
+    so-full again m′ q′ (full f p) e id y = full y (s .so ∙ ap (preceded (s .who)) (e ∙ ap again p ∙ id))
+    so-full again m′ q′ (done who f p quiet) e id y = absurd (true≢false (sym y ∙ f))
+
+    module _ (further : Marking → List Timer → Answer Starts) where
+      pub turn-full : (m′ : Marking) (q′ : List Timer) → StartsAre one m q r → rest ≡ onward further one → r .full ≡ true → StartsAre whole m′ q′ r
+      turn-full m′ q′ is e y = so-full (onward further) m′ q′ is e refl y
+
+      pub again-full : (m′ : Marking) (q′ : List Timer) → StartsAre one m q r → rest ≡ unlessNone further one → r .full ≡ true → StartsAre whole m′ q′ r
+      again-full m′ q′ is e y = so-full (unlessNone further) m′ q′ is e refl y
+
+      -- a transition more
+      pub turned : StartsAre one m q r → rest ≡ onward further one → r .full ≡ false → SoFar whole (further m q) (any || r .any)
+      turned (full f p) e n = absurd (true≢false (sym f ∙ n))
+      turned (done who f p quiet) e n =
+          record {
+            who = s .who ++ who;
+            so = s .so ∙ ap (preceded (s .who)) (e ∙ ap (onward further) p) ∙ sym (preceded-append (s .who) who (further m q));
+            none = nobody-append (s .who) who ∙ neither (nobody (s .who)) (nobody who) any (r .any) (s .none) quiet;
+          }
+
+      -- a pass in which one starts is followed by another
+      pub again-turned : StartsAre one m q r → rest ≡ unlessNone further one → r .full ≡ false → r .any ≡ true → SoFar whole (further m q) true
+      again-turned (full f p) e n y = absurd (true≢false (sym f ∙ n))
+      again-turned (done who f p quiet) e n y =
+          let some : nobody who ≡ false = quiet ∙ ap not y in
+          let next : rest ≡ preceded who (further m q) = e ∙ ap (unlessNone further) p ∙ rw some in
+          record {
+            who = s .who ++ who;
+            so = s .so ∙ ap (preceded (s .who)) next ∙ sym (preceded-append (s .who) who (further m q));
+            none = nobody-append (s .who) who ∙ neither (nobody (s .who)) (nobody who) any true (s .none) some ∙ ap not (or-true any);
+          }
+
+      -- one in which none starts is the last
+      pub again-ended : (k : ℕ) → StartsAre one m q r → rest ≡ unlessNone further one → r .full ≡ false → r .any ≡ false
+          → StartsAre whole m q (record { timers = k; any = any; full = false })
+      again-ended k (full f p) e n y = absurd (true≢false (sym f ∙ n))
+      again-ended k (done who f p quiet) e n y =
+          let none : nobody who ≡ true = quiet ∙ ap not y in
+          so-ended who m q k (e ∙ ap (unlessNone further) p ∙ rw none) none
+
+-- ---- one transition
+
+-- these timers with that of transition j, which starts at t
+abbrev pub withTimer : Float → ℕ → Transition → List Timer → List Timer
+withTimer t j x q = insert (record { at = add binary64 t (x .delay); who = j }) q
+
+module _ (n : Net) (t : Float) (j : ℕ) (x : Transition) (m : Marking) (q : List Timer) where
+  -- what it does at its turn, by the tests that it is timed and enabled, and that there is room for a timer
+  abbrev tried : Bool → Bool → Answer Starts
+  tried on room = pick on (pick room (left (j ∷ []) (taking m (x .takes)) (withTimer t j x q)) (refused Refusal.tooManyTimers)) (left [] m q)
+
+  try-is : (on room : Bool) → (timed x && enabled n m x) ≡ on → ltb (length q) 256 ≡ room → pass n t j (x ∷ []) m q ≡ tried on room
+  try-is on room e f = rw (e, f)
+
+  pub try-untimed : timed x ≡ false → pass n t j (x ∷ []) m q ≡ left [] m q
+  try-untimed d = try-is false (ltb (length q) 256) (rw d) refl
+
+  pub try-disabled : enabled n m x ≡ false → pass n t j (x ∷ []) m q ≡ left [] m q
+  try-disabled e = try-is false (ltb (length q) 256) (and-off (timed x) (enabled n m x) e) refl
+
+  pub try-full : timed x ≡ true → enabled n m x ≡ true → 256 ≤ length q → pass n t j (x ∷ []) m q ≡ refused Refusal.tooManyTimers
+  try-full d e h = try-is true false (rw (d, e)) (le-ltb (length q) 256 h)
+
+  pub try-on : (m′ : Marking) (q′ : List Timer) → timed x ≡ true → enabled n m x ≡ true → length q < 256
+      → m′ ≡ taking m (x .takes) → q′ ≡ withTimer t j x q → pass n t j (x ∷ []) m q ≡ left (j ∷ []) m′ q′
+  try-on m′ q′ d e h f g = rw (f, g) (try-is true true (rw (d, e)) (lt-ltb (length q) 256 h))
+
+  -- a pass that begins with it
+  pass-next : (xs : List Transition) → pass n t j (x ∷ xs) m q ≡ onward (pass n t (suc j) xs) (pass n t j (x ∷ []) m q)
+  pass-next xs = go (timed x && enabled n m x) (ltb (length q) 256)
+    where
+      go : (on room : Bool)
+          → pick on (pick room (preceded (j ∷ []) (pass n t (suc j) xs (taking m (x .takes)) (withTimer t j x q))) (refused Refusal.tooManyTimers))
+          (pass n t (suc j) xs m q)
+          ≡ onward (pass n t (suc j) xs) (tried on room)
+      go true true = refl
+      go true false = refl
+      go false room = sym (preceded-none (pass n t (suc j) xs m q))
+
+-- ---- a pass
+
+-- the part of a pass from transition j on
+pub passFrom : NetRecord → Float → ℕ → Marking → List Timer → Answer Starts
+passFrom n t j m q = pass (readable n) t j (transitionsFrom n j (n .transitions - j)) m q
+
+module _ (n : NetRecord) (t : Float) (m : Marking) (q : List Timer) where
+  pub from-first : passFrom n t 0 m q ≡ pass (readable n) t 0 (readable n .transitions) m q
+  unfolding passFrom
+  from-first = let e : n .transitions - 0 ≡ n .transitions = omega arith in ap (λ (k : ℕ). pass (readable n) t 0 (transitionsFrom n 0 k) m q) e
+
+  pub from-next : (j : ℕ) → j < n .transitions
+      → passFrom n t j m q ≡ onward (passFrom n t (j + 1)) (pass (readable n) t j (transition n j ∷ []) m q)
+  unfolding passFrom
+  from-next j h =
+      let e : n .transitions - j ≡ suc (n .transitions - (j + 1)) = omega arith in
+      ap (λ (k : ℕ). pass (readable n) t j (transitionsFrom n j k) m q) e
+      ∙ pass-next (readable n) t j (transition n j) m q (transitionsFrom n (suc j) (n .transitions - (j + 1)))
+      ∙ ap (λ (i : ℕ). onward (λ m q. pass (readable n) t i (transitionsFrom n i (n .transitions - (j + 1))) m q) (pass (readable n) t j (transition n j ∷ []) m q))
+      (sym (add-one j))
+
+  pub from-end : (j : ℕ) → n .transitions ≤ j → passFrom n t j m q ≡ left [] m q
+  unfolding passFrom
+  from-end j h = let e : n .transitions - j ≡ 0 = omega arith in ap (λ (k : ℕ). pass (readable n) t j (transitionsFrom n j k) m q) e
+
+-- ---- passes
+
+pub passes-next : (n : Net) (t : Float) (m : Marking) (q : List Timer) (all i : ℕ) → i < all
+    → passes (all - i) n t m q ≡ unlessNone (passes (all - (i + 1)) n t) (pass n t 0 (n .transitions) m q)
+passes-next n t m q all i h = let e : all - i ≡ suc (all - (i + 1)) = omega arith in ap (λ (k : ℕ). passes k n t m q) e
+
+pub passes-end : (n : Net) (t : Float) (m : Marking) (q : List Timer) (all i : ℕ) → all ≤ i → passes (all - i) n t m q ≡ left [] m q
+passes-end n t m q all i h = let e : all - i ≡ 0 = omega arith in ap (λ (k : ℕ). passes k n t m q) e
+
+-- ---- where no transition is delayed
+
+not-above : lt zero64 nan ≡ false
+unfolding lt ofBits
+not-above = refl
+
+no-less : {j : ℕ} → j < 0 → ⊥
+no-less h = omega arith
+
+or-left : (a b : Bool) → (a || b) ≡ false → a ≡ false
+or-left true b e = e
+or-left false b e = refl
+
+or-right : (a b : Bool) → (a || b) ≡ false → b ≡ false
+or-right true b e = absurd (true≢false e)
+or-right false b e = e
+
+none-above : (k : ℕ) (ds : List Float) → someAbove (take k ds) ≡ false → (j : ℕ) → j < k → lt zero64 (getD ds j nan) ≡ false
+none-above zero ds e j h = absurd (no-less h)
+none-above (suc k) [] e j h = not-above
+none-above (suc k) (d ∷ ds) e zero h = or-left (lt zero64 d) (someAbove (take k ds)) e
+none-above (suc k) (d ∷ ds) e (suc j) h = none-above k ds (or-right (lt zero64 d) (someAbove (take k ds)) e) j (omega arith)
+
+module _ (n : NetRecord) (t : Float) (m : Marking) (q : List Timer) where
+  quiet-from : (k j : ℕ) → ((i : ℕ) → i < j + k → lt zero64 (getD (n .delay) i nan) ≡ false) → pass (readable n) t j (transitionsFrom n j k) m q ≡ left [] m q
+  quiet-from zero j h = refl
+  quiet-from (suc k) j h =
+      let off : lt zero64 (getD (n .delay) j nan) ≡ false = h j (omega arith) in
+      rw off (quiet-from k (suc j) (λ i l. h i (omega arith)))
+
+  pub passes-quiet : (k : ℕ) → someAbove (take (n .transitions) (n .delay)) ≡ false → passes (suc k) (readable n) t m q ≡ left [] m q
+  passes-quiet k e =
+      ap (unlessNone (passes k (readable n) t))
+      (quiet-from (n .transitions) 0 (λ i l. none-above (n .transitions) (n .delay) e i (omega arith)))

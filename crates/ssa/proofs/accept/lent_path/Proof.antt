@@ -1,0 +1,51 @@
+-- The tables that the run asks for are those that the calls before it make. Assumes nothing.
+use borrow.Author.Needs.{needs}
+use mathlib.Core.Path.{_∙_}
+use Rattle.ssa.specs.Engine.{netOf}
+use Rattle.ssa.proofs.Lists.{initial-is}
+use Rattle.ssa.proofs.Accepted.{fitting}
+use Rattle.ssa.proofs.accept.lent_path.Statement.{statement}
+use Rattle.ssa.proofs.accept.lent_path.Tie as tie
+
+fill-limits-requires : tie.Need-fill-limits-requires
+fill-limits-requires c κs = search needs
+
+first-counts-requires : tie.Need-first-counts-requires
+first-counts-requires c κs = search needs
+
+any-timed-requires : tie.Need-any-timed-requires
+any-timed-requires c κs = search needs
+
+play-requires : tie.Need-play-requires
+play-requires c κs =
+    let s = c .before .before .before .before .before .before .before .before .before in
+    let a = s .args in
+    let f = fitting (a .instants .now) (s .pre .2) in
+    let counts = c .before .before .before .before .first-counts .ensures in (
+      s .pre .0,
+      c .before .before .before .before .before .fill-limits .ensures,
+      counts .1,
+      counts .0 ∙ initial-is (netOf (a .places) (a .transitions) (a .initial .now) (a .capacity .now) (a .rate .now) (a .delay .now) (a .arcs .now) (a .kind .now) (a .place .now) (a .weight .now)),
+      c .before .before .before .any-timed .ensures,
+      f .some-instant,
+      f .few,
+      f .risen,
+      s .pre .3,
+    )
+
+same-length : tie.Need-same-length
+same-length c = search needs
+
+returns : tie.Need-returns
+returns c = search needs
+
+pub lent-path-spec : {M : Type 1} → statement M
+lent-path-spec =
+    tie.close
+    (tie.spec
+    fill-limits-requires
+    first-counts-requires
+    any-timed-requires
+    play-requires
+    same-length
+    returns)

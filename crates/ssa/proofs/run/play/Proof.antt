@@ -1,0 +1,135 @@
+-- The instants at most 0 are shown first, the steps show theirs, and the rest show the last counts: one list (proofs/Playing, answered). A refusal
+-- clears the cells of the answer (refused-path).
+use borrow.Author.Needs.{needs}
+use types.Run.{OneOf}
+use denote.Enum.Declared.{tagOf}
+use native.Mathlib.Omega.{arith}
+use native.Mathlib.Nat.{mul-le-mul}
+use mathlib.Core.Path.{refl}
+use mathlib.Core.Logic.{⊎-elim}
+use mathlib.Core.List.{[], _∷_}
+use Prim.Native.Nat.{_-_}
+use lib.ListN.{length, getD}
+use lib.Ieee.{nan}
+use Rattle.net.specs.Readable.{readable}
+use Rattle.rng.specs.State.{words}
+use Rattle.ssa.specs.declared.PathEnd.{PathEnd}
+use Rattle.ssa.specs.declared.PathEnd.the-variants.{Quiet, Spent, Reached, Refused}
+use Rattle.ssa.specs.Engine.{netOf, marking}
+use Rattle.ssa.proofs.PathEnd.{the-type}
+use Rattle.ssa.proofs.Playing.{shown-within, last-at, NotRefused, still-within, answered, refused-path}
+use Rattle.ssa.proofs.run.play.Statement.{statement}
+use Rattle.ssa.proofs.run.play.Tie as tie
+
+not-refused : (end : PathEnd) → OneOf (0 ∷ 1 ∷ 2 ∷ []) (tagOf the-type end) → NotRefused end
+not-refused Quiet h = tt
+not-refused Spent h = tt
+not-refused Reached h = tt
+not-refused (Refused c) h = ⊎-elim (λ a. omega arith) (⊎-elim (λ a. omega arith) (λ a. omega arith)) h
+
+sub-last : tie.Need-sub-last
+sub-last c = search needs
+
+mul-last : tie.Need-mul-last
+mul-last c = search needs
+
+shared-slice-read-last : tie.Need-shared-slice-read-last
+shared-slice-read-last c = search needs
+
+show-requires : tie.Need-show-requires
+show-requires c κs = search needs
+
+take-steps-requires : tie.Need-take-steps-requires
+take-steps-requires c κs =
+    let v = c .before .before .before .before .before .before .before .show in
+    let a = c .before .before .before .before .before .before .before .before .before .before .before .before .before in
+    let s = a .args in
+    let xs = s .instants .now in (
+      record { tidy = a .pre .0; limits = a .pre .1; counts = a .pre .2; ats = refl; whos = refl; few = omega arith },
+      a .pre .4,
+      refl,
+      shown-within (s .places) xs _ _ 0 (v .result .next) 0 (v .result .peak) (s .table .now) (v .last .1 .0) (v .ensures) (omega arith),
+      a .pre .6,
+      omega (arith, a .pre .8, v .ensures .cells .long),
+    )
+
+enum-known-end : tie.Need-enum-known-end
+enum-known-end c = search needs
+
+mul-clear : tie.Need-mul-clear
+mul-clear c = let a = c .before .before .before .before .before .before .before .before .before .before .before .before .before .before .before .before .before .before .before .before in omega (arith, mul-le-mul (a .pre .0 .places) (a .pre .6))
+
+clear-requires : tie.Need-clear-requires
+clear-requires c κs =
+    let w = c .before .before .before .before .before .before .take-steps in
+    let v = c .before .before .before .before .before .before .before .before .before .before .before .before .before .before .show in
+    let a = c .before .before .before .before .before .before .before .before .before .before .before .before .before .before .before .before .before .before .before .before in
+    omega (arith, a .pre .8, v .ensures .cells .long, w .ensures .1 .1)
+
+same-length : tie.Need-same-length
+same-length c = search needs
+
+returns : tie.Need-returns
+returns c =
+    let w = c .before .before .before .before .before .before .before .before .before .take-steps in
+    let v = c .before .before .before .before .before .before .before .before .before .before .before .before .before .before .before .before .before .show in
+    let a = c .before .before .before .before .before .before .before .before .before .before .before .before .before .before .before .before .before .before .before .before .before .before .before in
+    let s = a .args in
+    refused-path (readable (netOf (s .places) (s .transitions) (s .initial .now) (s .capacity .now) (s .rate .now) (s .delay .now) (s .arcs .now) (s .kind .now) (s .place .now) (s .weight .now))) (words (s .rng .s)) (s .instants .now) (s .steps) (s .places) (v .result .next) (v .result .peak)
+    (marking (s .places) (s .counts .now)) (getD (s .instants .now) (length (s .instants .now) - 1) nan) (s .table .now) (v .last .1 .0)
+    (a .pre .7) (a .pre .3) (last-at (s .instants .now) (a .pre .5)) (v .ensures)
+    (w .result) (marking (s .places) (w .last .1 .1 .1 .1 .1 .1 .1 .1 .1 .1 .1 .1 .0)) (w .last .1 .1 .1 .1 .1 .1 .1 .1 .1 .1 .1 .1 .1 .1 .1 .1 .1 .1 .0)
+    (c .before .before .before .before .before .end .given .0 .0) (w .result .end) (c .before .before .before .before .before .end .given .1) (w .ensures .0) (w .ensures .1 .1) (w .ensures .1 .2)
+    (c .before .before .clear .last .0) (c .before .before .clear .ensures)
+    (record { end = Refused (c .before .before .before .before .before .end .given .0 .0); steps = 0; settled = 0; peak = 0; generator = s .rng }) refl refl refl refl refl
+
+show-until-requires : tie.Need-show-until-requires
+show-until-requires c κs =
+    let w = c .before .before .before .before .before .before .take-steps in
+    let v = c .before .before .before .before .before .before .before .before .before .before .before .before .before .before .show in
+    let a = c .before .before .before .before .before .before .before .before .before .before .before .before .before .before .before .before .before .before .before .before in
+    let s = a .args in
+    let h = still-within (readable (netOf (s .places) (s .transitions) (s .initial .now) (s .capacity .now) (s .rate .now) (s .delay .now) (s .arcs .now) (s .kind .now) (s .place .now) (s .weight .now))) (words (s .rng .s)) (s .instants .now) (s .steps) (s .places) (v .result .next) (v .result .peak)
+    (marking (s .places) (s .counts .now)) (getD (s .instants .now) (length (s .instants .now) - 1) nan) (s .table .now) (v .last .1 .0)
+    (a .pre .7) (a .pre .3) (last-at (s .instants .now) (a .pre .5)) (v .ensures)
+    (w .result) (marking (s .places) (w .last .1 .1 .1 .1 .1 .1 .1 .1 .1 .1 .1 .1 .0)) (w .last .1 .1 .1 .1 .1 .1 .1 .1 .1 .1 .1 .1 .1 .1 .1 .1 .1 .1 .0) (w .result .end) (not-refused (w .result .end) (c .before .before .before .match .keys2)) (w .ensures .0) in
+    (a .pre .0 .places, h, omega arith, a .pre .6, omega (arith, a .pre .8, v .ensures .cells .long, w .ensures .1 .1), w .ensures .1 .0)
+
+settled-requires : tie.Need-settled-requires
+settled-requires c κs = search needs
+
+same-length-2 : tie.Need-same-length-2
+same-length-2 c = search needs
+
+returns-2 : tie.Need-returns-2
+returns-2 c =
+    let w = c .before .before .before .before .before .before .before .before .before .before .take-steps in
+    let v = c .before .before .before .before .before .before .before .before .before .before .before .before .before .before .before .before .before .before .show in
+    let a = c .before .before .before .before .before .before .before .before .before .before .before .before .before .before .before .before .before .before .before .before .before .before .before .before in
+    let s = a .args in
+    answered (readable (netOf (s .places) (s .transitions) (s .initial .now) (s .capacity .now) (s .rate .now) (s .delay .now) (s .arcs .now) (s .kind .now) (s .place .now) (s .weight .now))) (words (s .rng .s)) (s .instants .now) (s .steps) (s .places) (v .result .next) (v .result .peak)
+    (marking (s .places) (s .counts .now)) (getD (s .instants .now) (length (s .instants .now) - 1) nan) (s .table .now) (v .last .1 .0)
+    (a .pre .7) (a .pre .3) (last-at (s .instants .now) (a .pre .5)) (v .ensures)
+    (w .result) (marking (s .places) (w .last .1 .1 .1 .1 .1 .1 .1 .1 .1 .1 .1 .1 .0)) (w .last .1 .1 .1 .1 .1 .1 .1 .1 .1 .1 .1 .1 .1 .1 .1 .1 .1 .1 .0)
+    (w .result .end) (not-refused (w .result .end) (c .before .before .before .before .before .before .before .match .keys2)) (w .ensures .0)
+    (c .before .before .before .show-until .result) (c .before .before .before .show-until .last .0) (c .before .before .before .show-until .ensures) (a .pre .8)
+    _ refl refl (c .settled .ensures) refl refl
+
+pub play-spec : {M : Type 1} → statement M
+play-spec =
+    tie.close
+    (tie.spec
+    sub-last
+    mul-last
+    shared-slice-read-last
+    show-requires
+    take-steps-requires
+    enum-known-end
+    mul-clear
+    clear-requires
+    same-length
+    returns
+    show-until-requires
+    settled-requires
+    same-length-2
+    returns-2)

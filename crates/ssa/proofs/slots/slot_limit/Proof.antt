@@ -1,0 +1,77 @@
+-- A slot that is no put has no limit. For a put, the parts that the code works out are those of the definition (Limits, limit-made). Assumes nothing.
+use native.Mathlib.Omega.{arith}
+use Prim.Native.Nat.{_/_}
+use borrow.Author.Tests.{ne-eqb}
+use Rattle.ssa.specs.Engine.{netOf}
+use Rattle.ssa.proofs.Limits.{limit-made}
+use borrow.Author.Needs.{needs}
+use Rattle.ssa.proofs.slots.slot_limit.Statement.{statement}
+use Rattle.ssa.proofs.slots.slot_limit.Tie as tie
+
+mul-if1 : tie.Need-mul-if1
+mul-if1 c = search needs
+
+element-copy-out-if1 : tie.Need-element-copy-out-if1
+element-copy-out-if1 c = search needs
+
+returns : tie.Need-returns
+returns c = simp (ne-eqb _ _ (c .if1 .taken))
+
+mul-from : tie.Need-mul-from
+mul-from c = search needs
+
+mul-end : tie.Need-mul-end
+mul-end c = search needs
+
+element-copy-out-end : tie.Need-element-copy-out-end
+element-copy-out-end c = search needs
+
+add-end : tie.Need-add-end
+add-end c = omega (arith, c .before .before .before .pre .1 .arcs (c .before .before .before .args .a / 16))
+
+mul-p : tie.Need-mul-p
+mul-p c = search needs
+
+element-copy-out-p : tie.Need-element-copy-out-p
+element-copy-out-p c = search needs
+
+mul-q : tie.Need-mul-q
+mul-q c =
+    let s = c .before .before .before .before in
+    omega (arith, s .pre .1 .place (s .args .a), s .pre .1 .places)
+
+element-copy-out-q : tie.Need-element-copy-out-q
+element-copy-out-q c =
+    let s = c .before .before .before .before in
+    omega (arith, s .pre .1 .place (s .args .a), s .pre .1 .places)
+
+change-at-requires : tie.Need-change-at-requires
+change-at-requires c κs = let s = c .before .before .before .before .before in (omega (arith, s .pre .1 .arcs (s .args .a / 16)), s .pre .1 .weight)
+
+room-limit-requires : tie.Need-room-limit-requires
+room-limit-requires c κs = search needs
+
+returns-2 : tie.Need-returns-2
+returns-2 c =
+    let s = c .before .before .before .before .before .before .before .args in
+    let d = c .before .change-at .ensures in
+    limit-made (netOf (s .places) (s .transitions) (s .initial .now) (s .capacity .now) (s .rate .now) (s .delay .now) (s .arcs .now) (s .kind .now) (s .place .now) (s .weight .now)) (s .a) (c .before .before .before .before .before .before .before .pre .1) (c .before .before .before .before .before .if1 .left) (c .room-limit .ensures) (d .0) (d .1)
+
+pub slot-limit-spec : {M : Type 1} → statement M
+slot-limit-spec =
+    tie.close
+    (tie.spec
+    mul-if1
+    element-copy-out-if1
+    returns
+    mul-from
+    mul-end
+    element-copy-out-end
+    add-end
+    mul-p
+    element-copy-out-p
+    mul-q
+    element-copy-out-q
+    change-at-requires
+    room-limit-requires
+    returns-2)

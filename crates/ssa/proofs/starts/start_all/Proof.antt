@@ -1,0 +1,124 @@
+-- What has started stands in front of the passes that are left; a turn adds what one pass starts. Where no transition is delayed, a pass starts nobody.
+use borrow.Author.Needs.{needs}
+use borrow.Author.Tests.{not-true, not-false}
+use denote.Ref.{now}
+use native.Mathlib.Omega.{arith}
+use mathlib.Core.Path.{refl, sym, _∙_}
+use mathlib.Core.List.{[]}
+use Prim.Native.Nat.{_+_, _-_, _≤_}
+use Rattle.net.specs.declared.Net.{Net as NetRecord}
+use Rattle.net.specs.Readable.{readable}
+use Rattle.rules.specs.Step as Rule
+use Rattle.ssa.specs.Engine.{netOf, marking, timers, done}
+use Rattle.ssa.specs.Stepping.{Ready}
+use Rattle.ssa.proofs.Passes.{SoFar, so-none, so-ended, again-full, again-turned, again-ended, passes-next, passes-end, passes-quiet}
+use Rattle.ssa.proofs.starts.start_all.Statement.{statement}
+use Rattle.ssa.proofs.starts.start_all.Tie as tie
+
+abbrev Inv-loop : tie.InvT-loop
+Inv-loop places transitions initial capacity rate delay arcs kind place weight limit timed counts₀ ats₀ whos₀ n t k₀ any₀ i₀ counts ats whos k any i =
+    let net = netOf places transitions initial capacity rate delay arcs kind place weight in
+    (i ≤ 257)
+    × SoFar (Rule.passes 257 (readable net) t (marking places counts₀) (timers ats₀ whos₀ n))
+    (Rule.passes (257 - i) (readable net) t (marking places counts) (timers ats whos k)) any
+    × Ready net limit counts ats whos k
+
+abbrev μ-loop : tie.MeasureT-loop
+μ-loop places transitions initial capacity rate delay arcs kind place weight limit timed counts₀ ats₀ whos₀ n t k₀ any₀ i₀ counts ats whos k any i =
+    257 - i
+
+abbrev netAt : tie.Start Inv-loop μ-loop → NetRecord
+netAt s =
+    netOf (s .args .places) (s .args .transitions) (now (s .args .initial)) (now (s .args .capacity)) (now (s .args .rate)) (now (s .args .delay))
+    (now (s .args .arcs)) (now (s .args .kind)) (now (s .args .place)) (now (s .args .weight))
+
+returns : tie.Need-returns Inv-loop μ-loop
+returns c =
+    let s = c .before in (
+      done [] refl
+          (passes-quiet (netAt s) (s .args .t) (marking (s .args .places) (now (s .args .counts))) (timers (now (s .args .ats)) (now (s .args .whos)) (s .args .n))
+          256 (sym (s .pre .1) ∙ not-true (s .args .timed) (c .if1 .taken)))
+          refl,
+      s .pre .0,
+    )
+
+loop-holds : tie.Need-loop-holds Inv-loop μ-loop
+loop-holds c = (omega arith, so-none _ _ refl, c .before .pre .0)
+
+pass-requires : tie.Need-pass-requires Inv-loop μ-loop
+pass-requires c κs = c .before .before .before .before .loop .inv .2
+
+returns-2 : tie.Need-returns-2 Inv-loop μ-loop
+returns-2 c =
+    let u = c .before in
+    let b = u .before .before .before .before in
+    let l = b .before .loop in
+    let s = b .before .before .before in (
+      again-full (l .inv .1) (Rule.passes (257 - (l .i + 1)) (readable (netAt s)) (s .args .t)) _ _ (u .pass .ensures .0)
+          (passes-next (readable (netAt s)) (s .args .t) (marking (s .args .places) (l .counts)) (timers (l .ats) (l .whos) (l .k)) 257 (l .i) (b .loop-test .taken))
+          (c .if2 .taken),
+      u .pass .ensures .1,
+    )
+
+returns-3 : tie.Need-returns-3 Inv-loop μ-loop
+returns-3 c =
+    let v = c .before .before in
+    let u = v .before in
+    let b = u .before .before .before .before in
+    let l = b .before .loop in
+    let s = b .before .before .before in (
+      again-ended (l .inv .1) (Rule.passes (257 - (l .i + 1)) (readable (netAt s)) (s .args .t)) (u .pass .result .timers) (u .pass .ensures .0)
+          (passes-next (readable (netAt s)) (s .args .t) (marking (s .args .places) (l .counts)) (timers (l .ats) (l .whos) (l .k)) 257 (l .i) (b .loop-test .taken))
+          (v .if2 .left) (not-true (u .pass .result .any) (c .if3 .taken)),
+      u .pass .ensures .1,
+    )
+
+add-i : tie.Need-add-i Inv-loop μ-loop
+add-i c =
+    let b = c .before .before .before .before .before .before .before in
+    omega (arith, b .loop-test .taken)
+
+loop-less : tie.Need-loop-less Inv-loop μ-loop
+loop-less c =
+    let b = c .before .before .before .before .before .before .before in
+    omega (arith, b .loop-test .taken)
+
+loop-again : tie.Need-loop-again Inv-loop μ-loop
+loop-again c =
+    let v = c .before .before in
+    let u = v .before in
+    let b = u .before .before .before .before in
+    let l = b .before .loop in
+    let s = b .before .before .before in (
+      omega (arith, b .loop-test .taken),
+      again-turned (l .inv .1) (Rule.passes (257 - (l .i + 1)) (readable (netAt s)) (s .args .t)) (u .pass .ensures .0)
+          (passes-next (readable (netAt s)) (s .args .t) (marking (s .args .places) (l .counts)) (timers (l .ats) (l .whos) (l .k)) 257 (l .i) (b .loop-test .taken))
+          (v .if2 .left) (not-false (u .pass .result .any) (c .if3 .left)),
+      u .pass .ensures .1,
+    )
+
+returns-4 : tie.Need-returns-4 Inv-loop μ-loop
+returns-4 c =
+    let l = c .before .loop in
+    let s = c .before .before .before in (
+      so-ended (l .inv .1) [] _ _ (l .k)
+          (passes-end (readable (netAt s)) (s .args .t) (marking (s .args .places) (l .counts)) (timers (l .ats) (l .whos) (l .k)) 257 (l .i) (c .loop-test .left))
+          refl,
+      l .inv .2,
+    )
+
+pub start-all-spec : {M : Type 1} → statement M
+start-all-spec =
+    tie.close
+    (tie.spec
+    Inv-loop
+    μ-loop
+    returns
+    loop-holds
+    pass-requires
+    returns-2
+    returns-3
+    add-i
+    loop-less
+    loop-again
+    returns-4)

@@ -1,0 +1,105 @@
+-- Where a timer could not start the rules refuse too. Otherwise total, wait and draw are the rules', and so is what comes next.
+use borrow.Author.Needs.{needs}
+use mathlib.Core.Path.{ap}
+use Rattle.net.specs.declared.Net.{Net as NetRecord}
+use Rattle.rules.specs.Step.{State}
+use Rattle.ssa.specs.Engine.{netOf, nextOf}
+use Rattle.ssa.specs.Stepping.{stateOf}
+use Rattle.ssa.proofs.TimerList.{length-timers}
+use Rattle.ssa.proofs.Steps.{Going, going, advance-full, advance-nothing, advance-race, advance-completion}
+use Rattle.ssa.proofs.step.advance.Statement.{statement}
+use Rattle.ssa.proofs.step.advance.Tie as tie
+
+abbrev net : tie.Start → NetRecord
+net s =
+    netOf (s .args .places) (s .args .transitions) (s .args .initial .now) (s .args .capacity .now) (s .args .rate .now) (s .args .delay .now) (s .args .arcs .now)
+    (s .args .kind .now) (s .args .place .now) (s .args .weight .now)
+
+-- the state before
+abbrev from : tie.Start → State
+from s = stateOf (net s) (s .args .counts .now) (s .args .ats .now) (s .args .whos .now) (s .args .running) (s .args .t) (s .args .rng .s)
+
+start-all-requires : tie.Need-start-all-requires
+start-all-requires c κs = (c .before .before .before .pre .0, c .before .before .before .pre .1)
+
+returns : tie.Need-returns
+returns c =
+    let b = c .before in
+    let s = b .before .before .before .before in (
+      advance-full (net s) (from s) (b .start-all .last .1 .1 .1 .1 .1 .1 .1 .1 .1 .1 .1 .1 .0) (b .start-all .last .1 .1 .1 .1 .1 .1 .1 .1 .1 .1 .1 .1 .1 .0)
+          (b .start-all .last .1 .1 .1 .1 .1 .1 .1 .1 .1 .1 .1 .1 .1 .1 .0) (b .start-all .result) (b .start-all .ensures .0) (c .if1 .taken) _ _ _,
+      (b .start-all .ensures .1, s .pre .2),
+    )
+
+propensities-requires : tie.Need-propensities-requires
+propensities-requires c κs =
+    let b = c .before .before .before in
+    let r = b .start-all .ensures .1 in
+    (r .tidy, r .limits, r .counts, b .before .before .before .before .pre .2)
+
+waiting-requires : tie.Need-waiting-requires
+waiting-requires c κs = search needs
+
+next-event-requires : tie.Need-next-event-requires
+next-event-requires c κs = c .before .before .before .before .before .before .before .before .start-all .ensures .1 .few
+
+enum-told : tie.Need-enum-told
+enum-told c = search needs
+
+enum-known-what : tie.Need-enum-known-what
+enum-known-what c = search needs
+
+enum-known-what-2 : tie.Need-enum-known-what-2
+enum-known-what-2 c = search needs
+
+abbrev begun : tie.After-next-event → tie.After-start-all
+begun c = c .before .before .before .before .before .before .before .before .before
+
+abbrev start : tie.After-next-event → tie.Start
+start c = begun c .before .before .before .before
+
+goes-on : (c : tie.After-next-event)
+    → Going (net (start c)) (from (start c)) (begun c .start-all .last .1 .1 .1 .1 .1 .1 .1 .1 .1 .1 .1 .1 .0) (begun c .start-all .last .1 .1 .1 .1 .1 .1 .1 .1 .1 .1 .1 .1 .1 .0)
+    (begun c .start-all .last .1 .1 .1 .1 .1 .1 .1 .1 .1 .1 .1 .1 .1 .1 .0) (begun c .start-all .result .timers)
+    (c .before .before .before .before .before .propensities .last .1 .1 .1 .1 .1 .1 .1 .1 .1 .1 .1 .1 .0) (c .before .before .before .before .before .propensities .result)
+    (c .before .before .before .before .waiting .result .rng .s) (nextOf (c .next-event .result))
+goes-on c =
+    let b = begun c in
+    let s = start c in
+    let w = c .before .before .before .before in
+    let p = w .before in
+    going (net s) (from s) (b .start-all .last .1 .1 .1 .1 .1 .1 .1 .1 .1 .1 .1 .1 .0) (b .start-all .last .1 .1 .1 .1 .1 .1 .1 .1 .1 .1 .1 .1 .1 .0)
+    (b .start-all .last .1 .1 .1 .1 .1 .1 .1 .1 .1 .1 .1 .1 .1 .1 .0) (b .start-all .result) (b .start-all .ensures .0)
+    (p .before .before .before .if1 .left) (rw length-timers (s .pre .0 .few)) (p .propensities .last .1 .1 .1 .1 .1 .1 .1 .1 .1 .1 .1 .1 .0) (p .propensities .result) (p .propensities .ensures)
+    (w .waiting .result .dt) (w .waiting .result .rng .s) (w .waiting .ensures .0) (w .waiting .ensures .1) (nextOf (c .next-event .result)) (c .next-event .ensures)
+
+returns-2 : tie.Need-returns-2
+returns-2 c =
+    let e = c .before .before in
+    (advance-nothing (goes-on e) (ap nextOf (c .enum-told .given .1)), (begun e .start-all .ensures .1, e .before .before .before .before .before .propensities .ensures .long))
+
+returns-3 : tie.Need-returns-3
+returns-3 c =
+    let e = c .before .before .before in
+    (advance-race (goes-on e) (c .before .what .given .0 .0) (ap nextOf (c .before .what .given .1)), (begun e .start-all .ensures .1, e .before .before .before .before .before .propensities .ensures .long))
+
+returns-4 : tie.Need-returns-4
+returns-4 c =
+    let e = c .before .before .before in
+    (advance-completion (goes-on e) (c .before .what2 .given .0 .0) (ap nextOf (c .before .what2 .given .1)), (begun e .start-all .ensures .1, e .before .before .before .before .before .propensities .ensures .long))
+
+pub advance-spec : {M : Type 1} → statement M
+advance-spec =
+    tie.close
+    (tie.spec
+    start-all-requires
+    returns
+    propensities-requires
+    waiting-requires
+    next-event-requires
+    enum-told
+    enum-known-what
+    enum-known-what-2
+    returns-2
+    returns-3
+    returns-4)

@@ -1,0 +1,45 @@
+-- The lent table. Document 01: "Vec<Vec<f64>> becomes a lent table: place p, instant i at cell p × n + i, n instants. Further cells stay."
+use Prim.Native.Nat.{ℕ, zero, suc, _+_, _*_, _≤_, _<_}
+use mathlib.Core.Path.{_≡_}
+use mathlib.Core.Bool.{Bool, true, false}
+use mathlib.Core.Logic.{_⊎_}
+use mathlib.Core.List.{List, [], _∷_, _++_, map}
+use lib.ListN.{length, getD, drop, replicate}
+use lib.Ieee.{Float, nan, le}
+use Rattle.net.specs.Net.{Marking, pick, zero64, held}
+use Rattle.rules.specs.Propensity.{float}
+
+-- the row of place p: its count at each instant, as a float
+abbrev pub row : List Marking → ℕ → List Float
+row shown p = map (λ (m : Marking). float (held m p)) shown
+
+-- k rows from place p on
+abbrev pub rowsFrom : List Marking → ℕ → ℕ → List Float
+rowsFrom shown p zero = []
+rowsFrom shown p (suc k) = row shown p ++ rowsFrom shown (suc p) k
+
+-- the table that shows these counts at its instants; "Further cells stay"
+abbrev pub tableOf : ℕ → List Marking → List Float → List Float
+tableOf places shown table = rowsFrom shown 0 places ++ drop (places * length shown) table
+
+-- "the answer's cells are then +0"
+abbrev pub cleared : ℕ → List Float → List Float
+cleared cells table = replicate cells zero64 ++ drop cells table
+
+-- "Further cells stay": those from places × n on
+abbrev pub Stay : ℕ → ℕ → List Float → List Float → Type 0
+Stay places n before after = (c : ℕ) → places * n ≤ c → getD after c nan ≡ getD before c nan
+
+-- ---- as it is filled, column by column
+
+-- how many of the instants, from the first, are at most t
+abbrev pub reachedBy : Float → List Float → ℕ
+reachedBy t [] = 0
+reachedBy t (x ∷ xs) = pick (le x t) (suc (reachedBy t xs)) 0
+
+-- the cells of the instants from `from` to before `to` show the counts, and all others are as they were
+pub record Filled (places n from to : ℕ) (counts : List ℕ) (before after : List Float) : Type 0 where
+  pub long : length after ≡ length before
+  pub shows : (p i : ℕ) → p < places → from ≤ i → i < to → getD after (p * n + i) nan ≡ float (getD counts p 0)
+  pub others : (p i : ℕ) → p < places → i < n → ((i < from) ⊎ (to ≤ i)) → getD after (p * n + i) nan ≡ getD before (p * n + i) nan
+  pub further : (c : ℕ) → places * n ≤ c → getD after c nan ≡ getD before c nan

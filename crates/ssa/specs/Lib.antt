@@ -1,0 +1,9 @@
+pub mod Engine
+pub mod Arcs
+pub mod Limits
+pub mod Moved
+pub mod Cells
+pub mod Stepping
+pub mod Path
+pub mod Playing
+pub mod Demand3

@@ -1,0 +1,81 @@
+-- What a step of the program is, in the rules' words. The rules of a step are in the crate rules (Step, Run); nothing here adds to them.
+use Prim.Native.Nat.{ℕ, zero, suc, _+_, _≤_, _<_, max}
+use mathlib.Core.Path.{_≡_}
+use mathlib.Core.Bool.{Bool, true, false}
+use mathlib.Core.List.{List, [], _∷_}
+use lib.Dec.{eqb}
+use lib.ListN.{length, drop, take}
+use lib.Ieee.{Float, lt}
+use Rattle.refusals.specs as Refusal
+use Rattle.net.specs.declared.Net.{Net as NetRecord}
+use Rattle.net.specs.Net.{Marking, pick}
+use Rattle.net.specs.Readable.{readable}
+use Rattle.rng.specs.State.{State as Generator, words}
+use Rattle.rules.specs.Propensity.{propensities, total}
+use Rattle.rules.specs.Timers.{Timer}
+use Rattle.rules.specs.Step as Rule
+use Rattle.rules.specs.Step.{State, state, Answer, refused, given, Event, Step, still, sets}
+use Rattle.rules.specs.Shown.{sumOf}
+use Rattle.ssa.specs.declared.step.Now.{Now}
+use Rattle.ssa.specs.declared.step.Ending.{Ending}
+use Rattle.ssa.specs.declared.step.Ending.the-variants.{GoesOn, Quiet, Reached, Refused}
+use Rattle.ssa.specs.declared.step.Advanced.{Advanced}
+use Rattle.ssa.specs.declared.step.Due.{Due}
+use Rattle.ssa.specs.declared.step.Due.the-variants.{Nothing, Race, Completion, Full}
+use Rattle.ssa.specs.Engine.{Tidy, Counts, marking, timers}
+use Rattle.ssa.specs.Limits.{Limits}
+use Rattle.ssa.specs.Cells.{reachedBy, Filled}
+
+-- the arrays of a run are as long as they should be, and hold what they should
+pub record Ready (n : NetRecord) (limit tokens : List ℕ) (times : List Float) (owners : List ℕ) (running : ℕ) : Type 0 where
+  pub tidy : Tidy n
+  pub limits : Limits n limit
+  pub counts : Counts tokens
+  pub ats : length times ≡ 256
+  pub whos : length owners ≡ 256
+  pub few : running ≤ 256
+
+-- the state that they stand for
+abbrev pub stateOf : NetRecord → List ℕ → List Float → List ℕ → ℕ → Float → List ℕ → State
+stateOf n counts ats whos running clock words₄ = state clock (marking (n .places) counts) (timers ats whos running) (words words₄)
+
+-- A step up to the clock reading that it sets: refused by 15, nothing left and the state as before, or a race or, where a timer runs, a completion that follows in the state u. The starts js
+-- leave no trace in the program. xs are the propensities.
+pub data AdvancedBy (n : NetRecord) (spec : Answer Step) (before u : State) (props : List Float) (a0 : Float) : Due → Type 0 where
+  full : spec ≡ refused Refusal.tooManyTimers → AdvancedBy n spec before u props a0 Full
+  nothing : spec ≡ given still → u ≡ before → AdvancedBy n spec before u props a0 Nothing
+  race : (js : List ℕ) → spec ≡ given (sets js u (Rule.raced (readable n) u a0 (take (n .transitions) props))) → AdvancedBy n spec before u props a0 Race
+  completion : (js : List ℕ) → 0 < length (u .timers) → spec ≡ given (sets js u (Rule.complete (readable n) u)) → AdvancedBy n spec before u props a0 Completion
+
+-- the event that ends a step: it leaves the state u, or a count would pass 2^53
+pub data EventBy (spec : Answer Event) (u : State) : Bool → Type 0 where
+  happens : (e : Event) → spec ≡ given e → e .leaves ≡ u → EventBy spec u true
+  tooLarge : spec ≡ refused Refusal.countTooLarge → EventBy spec u false
+
+-- the instants from `from` to before `to` are shown with the counts m, and the largest sum so far is now most′
+pub record ShownUntil (places n : ℕ) (m : Marking) (from to most most′ : ℕ) (before after : List Float) : Type 0 where
+  pub cells : Filled places n from to m before after
+  pub peak : most′ ≡ pick (eqb to from) most (max most (sumOf m))
+
+-- the instants that the clock has reached and that were not shown yet are shown with the counts m
+pub record ShownBy (places : ℕ) (xs : List Float) (clock : Float) (m : Marking) (next next′ most most′ : ℕ) (before after : List Float) : Type 0 where
+  pub up-to : next′ ≡ next + reachedBy clock (drop next xs)
+  pub cells : Filled places (length xs) next next′ m before after
+  pub peak : most′ ≡ pick (eqb next′ next) most (max most (sumOf m))
+
+-- nothing was shown
+pub record NotShown (i i′ most most′ : ℕ) (before after : List Float) : Type 0 where
+  pub next : i′ ≡ i
+  pub peak : most′ ≡ most
+  pub table : after ≡ before
+
+-- A whole step from the state `before`. u is the state at its clock reading, whose counts are shown; s is the state that it leaves: where nothing
+-- is left, the state before, and nothing was shown.
+pub data StepBy (spec : Answer Step) (before : State) (last : Float) (shows : State → Type 0) (same : Type 0) (s : State) : Ending → Type 0 where
+  goesOn : (js : List ℕ) (u : State) (e : Event) → spec ≡ given (sets js u (given e)) → lt last (u .clock) ≡ false → shows u → e .leaves ≡ s
+      → StepBy spec before last shows same s GoesOn
+  quiet : spec ≡ given still → s ≡ before → same → StepBy spec before last shows same s Quiet
+  reached : (js : List ℕ) (e : Answer Event) → spec ≡ given (sets js s e) → lt last (s .clock) ≡ true → shows s → StepBy spec before last shows same s Reached
+  starting : spec ≡ refused Refusal.tooManyTimers → StepBy spec before last shows same s (Refused Refusal.tooManyTimers)
+  putting : (js : List ℕ) (u : State) → spec ≡ given (sets js u (refused Refusal.countTooLarge)) → lt last (u .clock) ≡ false
+      → StepBy spec before last shows same s (Refused Refusal.countTooLarge)

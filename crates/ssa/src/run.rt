@@ -1,0 +1,257 @@
+// The loop of a path: steps while the clock is below the last instant and the limit allows; then the instants that are left are shown.
+ghost use mathlib.Core.Path.{_≡_};
+ghost use mathlib.Core.Bool.{true};
+ghost use Prim.Native.Nat.{_*_, _<_, _≤_};
+ghost use lib.ListN.{length};
+ghost use lib.ListN as ListN;
+ghost use Rattle.net.specs.Net as Net;
+ghost use Rattle.net.specs.Readable as Record;
+ghost use Rattle.rng.specs.State as Random;
+ghost use Rattle.rules.specs.Moves as Moves;
+ghost use Rattle.rules.specs.Shown as Shown;
+ghost use Rattle.rules.proofs.Play as Play;
+ghost use Rattle.ssa.specs.Cells as Cells;
+ghost use Rattle.ssa.specs.Engine as Engine;
+ghost use Rattle.ssa.specs.Limits as Limits;
+ghost use Rattle.ssa.specs.Stepping as Stepping;
+ghost use Rattle.ssa.specs.Playing as Playing;
+ghost use Rattle.ssa.specs.Path as Path;
+use crate::PathAnswer;
+use crate::PathEnd;
+use crate::record;
+use crate::step;
+use crate::step::Ending;
+use crate::step::Now;
+use rng::Xoshiro256;
+
+// How the steps ended: after so many, with so many instants shown, and the largest sum of the counts that one of these has shown.
+pub struct Walked {
+    pub end: PathEnd,
+    pub steps: u64,
+    pub next: usize,
+    pub peak: u64,
+    pub rng: Xoshiro256,
+}
+
+// The steps of a path, at most so many.
+fn take_steps<'a>(
+    places: usize,
+    transitions: usize,
+    initial: &'a [u64; 32],
+    capacity: &'a [u64; 32],
+    rate: &'a [f64; 64],
+    delay: &'a [f64; 64],
+    arcs: &'a [usize; 64],
+    kind: &'a [u64; 1024],
+    place: &'a [usize; 1024],
+    weight: &'a [u64; 1024],
+    limit: &'a [u64; 1024],
+    timed: bool,
+    counts: &mut [u64; 32],
+    ats: &mut [f64; 256],
+    whos: &mut [usize; 256],
+    props: &mut [f64; 64],
+    instants: &[f64],
+    last: f64,
+    table: &mut [f64],
+    steps: u64,
+    s: Now,
+) -> Walked
+    requires { ⌜ (Stepping.Ready (Engine.netOf places transitions (now initial) (now capacity) (now rate) (now delay) (now arcs) (now kind) (now place) (now weight)) (now limit) (now counts) (now ats) (now whos) (s .timers)) × (timed ≡ Engine.anyTimed transitions (now delay)) × (length (now props) ≡ 64)
+        × (s .next ≤ length (now instants)) × (length (now instants) ≤ 1024) × (places * length (now instants) ≤ length (now table)) ⌝ }
+    ensures is { λ r. ⌜ Playing.WalkBy
+        (Play.play (Record.readable (Engine.netOf places transitions (now (initial .entry)) (now (capacity .entry)) (now (rate .entry)) (now (delay .entry))
+        (now (arcs .entry)) (now (kind .entry)) (now (place .entry)) (now (weight .entry)))) last steps (ListN.drop (s .next) (now (instants .entry)))
+        (Stepping.stateOf (Engine.netOf places transitions (now (initial .entry)) (now (capacity .entry)) (now (rate .entry)) (now (delay .entry))
+        (now (arcs .entry)) (now (kind .entry)) (now (place .entry)) (now (weight .entry))) (now (counts .entry)) (now (ats .entry)) (now (whos .entry)) (s .timers) (s .clock) (s .rng .s)))
+        (now (instants .entry))
+        (Engine.marking places (now (counts .exit)))
+        (λ sh. Playing.Listed places (length (now (instants .entry))) (s .next) (r .next) (s .peak) (r .peak) sh (now (table .entry)) (now (table .exit)))
+        r (r .end) ⌝ }
+    ensures kept { λ r. ⌜ (Engine.Counts (now (counts .exit))) × (length (now (table .exit)) ≡ length (now (table .entry)))
+        × Cells.Stay places (length (now (instants .entry))) (now (table .entry)) (now (table .exit)) ⌝ }
+{
+    let mut at = s;
+    let mut done: u64 = 0;
+    while done < steps {
+        let clock = at.clock;
+        let rng = at.rng;
+        if clock < last {
+            let r = step::one_step(
+                places,
+                transitions,
+                initial,
+                capacity,
+                rate,
+                delay,
+                arcs,
+                kind,
+                place,
+                weight,
+                limit,
+                timed,
+                counts,
+                ats,
+                whos,
+                props,
+                instants,
+                last,
+                table,
+                at,
+            );
+            let after = r.now;
+            let ending = r.ending;
+            let g = after.rng;
+            done += 1;
+            match ending {
+                Ending::GoesOn => at = after,
+                Ending::Quiet => return Walked {
+                    end: PathEnd::Quiet,
+                    steps: done,
+                    next: after.next,
+                    peak: after.peak,
+                    rng: g,
+                },
+                Ending::Reached => return Walked {
+                    end: PathEnd::Reached,
+                    steps: done,
+                    next: after.next,
+                    peak: after.peak,
+                    rng: g,
+                },
+                Ending::Refused(c) => return Walked {
+                    end: PathEnd::Refused(c),
+                    steps: done,
+                    next: after.next,
+                    peak: after.peak,
+                    rng: g,
+                },
+            }
+        } else {
+            return Walked {
+                end: PathEnd::Reached,
+                steps: done,
+                next: at.next,
+                peak: at.peak,
+                rng: rng,
+            };
+        }
+    }
+    let clock = at.clock;
+    let rng = at.rng;
+    if clock < last {
+        return Walked {
+            end: PathEnd::Spent,
+            steps: done,
+            next: at.next,
+            peak: at.peak,
+            rng: rng,
+        };
+    }
+    Walked {
+        end: PathEnd::Reached,
+        steps: done,
+        next: at.next,
+        peak: at.peak,
+        rng: rng,
+    }
+}
+
+// How many instants are settled.
+fn settled(end: PathEnd, next: usize, n: usize) -> u64
+    ensures { λ r. ⌜ r ≡ Playing.settledAt end next n ⌝ }
+{
+    match end {
+        PathEnd::Quiet => n as u64,
+        PathEnd::Spent => next as u64,
+        PathEnd::Reached => n as u64,
+        PathEnd::Refused(_) => n as u64,
+    }
+}
+
+// A path from the initial counts: its answer, and the table filled, or cleared where the run is refused.
+pub fn play<'a>(
+    places: usize,
+    transitions: usize,
+    initial: &'a [u64; 32],
+    capacity: &'a [u64; 32],
+    rate: &'a [f64; 64],
+    delay: &'a [f64; 64],
+    arcs: &'a [usize; 64],
+    kind: &'a [u64; 1024],
+    place: &'a [usize; 1024],
+    weight: &'a [u64; 1024],
+    limit: &'a [u64; 1024],
+    timed: bool,
+    counts: &mut [u64; 32],
+    instants: &[f64],
+    steps: u64,
+    rng: Xoshiro256,
+    table: &mut [f64],
+) -> PathAnswer
+    requires { ⌜ (Engine.Tidy (Engine.netOf places transitions (now initial) (now capacity) (now rate) (now delay) (now arcs) (now kind) (now place) (now weight))) × (Limits.Limits (Engine.netOf places transitions (now initial) (now capacity) (now rate) (now delay) (now arcs) (now kind) (now place) (now weight)) (now limit)) × (Engine.Counts (now counts))
+        × (Engine.marking places (now counts) ≡ Moves.initialCounts (Record.readable (Engine.netOf places transitions (now initial) (now capacity) (now rate) (now delay) (now arcs) (now kind) (now place) (now weight))))
+        × (timed ≡ Engine.anyTimed transitions (now delay)) × (0 < length (now instants)) × (length (now instants) ≤ 1024)
+        × (Shown.rising Net.zero64 (now instants) ≡ true) × (places * length (now instants) ≤ length (now table)) ⌝ }
+    ensures { λ r. ⌜ Path.callOf r (now (table .exit)) ≡ Path.played places (length (now (instants .entry))) (Random.words (rng .s)) (now (table .entry))
+        (Shown.worked (Record.readable (Engine.netOf places transitions (now (initial .entry)) (now (capacity .entry)) (now (rate .entry)) (now (delay .entry))
+        (now (arcs .entry)) (now (kind .entry)) (now (place .entry)) (now (weight .entry)))) (Random.words (rng .s)) (now (instants .entry)) steps) ⌝ }
+{
+    let mut ats = [0.0; 256];
+    let mut whos = [0; 256];
+    let mut props = [0.0; 64];
+    let n = instants.len();
+    let last = instants[n - 1];
+    let seen = step::show(instants, table, counts, places, 0.0, 0, 0);
+    let s = Now {
+        clock: 0.0,
+        timers: 0,
+        next: seen.next,
+        peak: seen.peak,
+        rng: rng,
+    };
+    let w = take_steps(
+        places,
+        transitions,
+        initial,
+        capacity,
+        rate,
+        delay,
+        arcs,
+        kind,
+        place,
+        weight,
+        limit,
+        timed,
+        counts,
+        &mut ats,
+        &mut whos,
+        &mut props,
+        instants,
+        last,
+        table,
+        steps,
+        s,
+    );
+    let end = w.end;
+    if let PathEnd::Refused(c) = end {
+        record::clear(table, places * n);
+        return PathAnswer {
+            end: PathEnd::Refused(c),
+            steps: 0,
+            settled: 0,
+            peak: 0,
+            generator: rng,
+        };
+    }
+    let next = w.next;
+    let g = w.rng;
+    let peak = step::show_until(table, counts, places, n, next, n, w.peak);
+    PathAnswer {
+        end: end,
+        steps: w.steps,
+        settled: settled(end, next, n),
+        peak: peak,
+        generator: g,
+    }
+}

@@ -1,0 +1,273 @@
+// The slots of a net's arcs: cleared where they are not used, and the limits that capacities set, both once a call.
+ghost use mathlib.Core.Path.{_≡_};
+ghost use mathlib.Core.Option.{none};
+ghost use Prim.Native.Nat.{ℕ, _+_, _-_, _*_, _^_, _<_, _≤_};
+ghost use lib.ListN.{length, getD};
+ghost use Rattle.net.specs.Net as Reader;
+ghost use Rattle.net.specs.Readable as Record;
+ghost use Rattle.ssa.specs.Engine as Engine;
+ghost use Rattle.ssa.specs.Limits as Limits;
+ghost use Rattle.ssa.specs.Arcs as Arcs;
+use net::Net;
+
+// Copies n slots from slot `from` on.
+fn copy_slots<'a>(
+    kind: &'a [u64; 1024],
+    place: &'a [usize; 1024],
+    weight: &'a [u64; 1024],
+    from: usize,
+    n: usize,
+    kinds: &mut [u64; 1024],
+    places: &mut [usize; 1024],
+    weights: &mut [u64; 1024],
+)
+    requires { ⌜ (from + n ≤ 1024) × (length (now kinds) ≡ 1024) × (length (now places) ≡ 1024) × (length (now weights) ≡ 1024) ⌝ }
+    ensures { λ _. ⌜ Arcs.Copied from (from + n) (now (kind .entry)) (now (kinds .entry)) (now (kinds .exit))
+        × Arcs.Copied from (from + n) (now (place .entry)) (now (places .entry)) (now (places .exit))
+        × Arcs.Copied from (from + n) (now (weight .entry)) (now (weights .entry)) (now (weights .exit)) ⌝ }
+{
+    let end = from + n;
+    let mut a = from;
+    while a < end {
+        let k = kind[a];
+        let p = place[a];
+        let w = weight[a];
+        kinds[a] = k;
+        places[a] = p;
+        weights[a] = w;
+        a += 1;
+    }
+}
+
+// The same net with every slot that is not used at 0: then the bounds of an accepted net hold in all slots.
+pub fn tidied(net: Net) -> Net
+    requires { ⌜ Record.fault net ≡ none ⌝ }
+    ensures { λ r. ⌜ (Record.readable r ≡ Record.readable net) × Engine.Tidy r × (r .places ≡ net .places) × (r .initial ≡ net .initial) ⌝ }
+{
+    let transitions = net.transitions;
+    let mut arcs = [0usize; 64];
+    let mut kind = [0u64; 1024];
+    let mut place = [0usize; 1024];
+    let mut weight = [0u64; 1024];
+    let mut j: usize = 0;
+    while j < transitions {
+        let n = net.arcs[j];
+        arcs[j] = n;
+        copy_slots(
+            &net.kind,
+            &net.place,
+            &net.weight,
+            16 * j,
+            n,
+            &mut kind,
+            &mut place,
+            &mut weight,
+        );
+        j += 1;
+    }
+    let initial = net.initial;
+    let capacity = net.capacity;
+    let rate = net.rate;
+    let delay = net.delay;
+    Net {
+        places: net.places,
+        transitions: transitions,
+        initial: initial,
+        capacity: capacity,
+        rate: rate,
+        delay: delay,
+        arcs: arcs,
+        kind: kind,
+        place: place,
+        weight: weight,
+    }
+}
+
+// "Weight 0 means 1."
+pub fn amount(w: u64) -> u64
+    ensures { λ r. ⌜ r ≡ Reader.amount w ⌝ }
+{
+    if w == 0 { 1 } else { w }
+}
+
+// No count reaches it.
+const NO_LIMIT: u64 = 0xFFFF_FFFF_FFFF_FFFF;
+
+// What a transition puts into a place, and takes from it.
+struct Change {
+    put: u64,
+    taken: u64,
+}
+
+// What one slot puts into place p.
+fn put_slot(kind: u64, place: usize, weight: u64, p: usize) -> u64
+    ensures { λ r. ⌜ r ≡ Arcs.putSlot kind place weight p ⌝ }
+{
+    if kind == net::PUT {
+        if place == p {
+            return amount(weight);
+        }
+    }
+    0
+}
+
+// What one slot takes from place p.
+fn taken_slot(kind: u64, place: usize, weight: u64, p: usize) -> u64
+    ensures { λ r. ⌜ r ≡ Arcs.takenSlot kind place weight p ⌝ }
+{
+    if kind <= net::TAKE {
+        if place == p {
+            return amount(weight);
+        }
+    }
+    0
+}
+
+// What the slots from `from` to before `end` put into place p and take from it.
+fn change_at<'a>(
+    kind: &'a [u64; 1024],
+    place: &'a [usize; 1024],
+    weight: &'a [u64; 1024],
+    from: usize,
+    end: usize,
+    p: usize,
+) -> Change
+    requires { ⌜ (end ≤ 1024) × Engine.AtMost 1_000_000 (now weight) ⌝ }
+    ensures { λ r. ⌜ (r .put ≡ Reader.moved (Record.arcsOf Record.isPut (Record.slots (now (kind .entry)) (now (place .entry)) (now (weight .entry)) from (end - from))) p)
+        × (r .taken ≡ Reader.takenBy (Record.takesOf (Record.slots (now (kind .entry)) (now (place .entry)) (now (weight .entry)) from (end - from))) p) ⌝ }
+{
+    let mut put = 0;
+    let mut taken = 0;
+    let mut a = from;
+    while a < end {
+        let k = kind[a];
+        let q = place[a];
+        let w = weight[a];
+        put = put + put_slot(k, q, w, p);
+        taken = taken + taken_slot(k, q, w, p);
+        a += 1;
+    }
+    Change {
+        put: put,
+        taken: taken,
+    }
+}
+
+// The counts with room, at a place of capacity q, are those below this.
+fn room_limit(q: u64, c: Change) -> u64
+    ensures { λ r. ⌜ r ≡ Limits.roomLimit q (c .put) (c .taken) ⌝ }
+{
+    let put = c.put;
+    let taken = c.taken;
+    if q == 0 {
+        return NO_LIMIT;
+    }
+    if put <= taken {
+        return NO_LIMIT;
+    }
+    let more = put - taken;
+    if q < more {
+        return 0;
+    }
+    q - more + 1
+}
+
+// The limit of slot a.
+fn slot_limit<'a>(
+    places: usize,
+    transitions: usize,
+    initial: &'a [u64; 32],
+    capacity: &'a [u64; 32],
+    rate: &'a [f64; 64],
+    delay: &'a [f64; 64],
+    arcs: &'a [usize; 64],
+    kind: &'a [u64; 1024],
+    place: &'a [usize; 1024],
+    weight: &'a [u64; 1024],
+    a: usize,
+) -> u64
+    requires { ⌜ (a < 1024) × Engine.Tidy (Engine.netOf places transitions (now initial) (now capacity) (now rate) (now delay) (now arcs) (now kind) (now place) (now weight)) ⌝ }
+    ensures { λ r. ⌜ r ≡ Limits.limitAt (Engine.netOf places transitions (now (initial .entry)) (now (capacity .entry)) (now (rate .entry)) (now (delay .entry))
+        (now (arcs .entry)) (now (kind .entry)) (now (place .entry)) (now (weight .entry))) a ⌝ }
+{
+    if kind[a] != net::PUT {
+        return NO_LIMIT;
+    }
+    let j = a / 16;
+    let from = 16 * j;
+    let end = from + arcs[j];
+    let p = place[a];
+    let q = capacity[p];
+    let c = change_at(kind, place, weight, from, end, p);
+    room_limit(q, c)
+}
+
+// Fills the table of limits.
+pub fn fill_limits<'a>(
+    places: usize,
+    transitions: usize,
+    initial: &'a [u64; 32],
+    capacity: &'a [u64; 32],
+    rate: &'a [f64; 64],
+    delay: &'a [f64; 64],
+    arcs: &'a [usize; 64],
+    kind: &'a [u64; 1024],
+    place: &'a [usize; 1024],
+    weight: &'a [u64; 1024],
+    limit: &mut [u64; 1024],
+)
+    requires { ⌜ Engine.Tidy (Engine.netOf places transitions (now initial) (now capacity) (now rate) (now delay) (now arcs) (now kind) (now place) (now weight)) × (length (now limit) ≡ 1024) ⌝ }
+    ensures { λ _. ⌜ Limits.Limits (Engine.netOf places transitions (now (initial .entry)) (now (capacity .entry)) (now (rate .entry)) (now (delay .entry))
+        (now (arcs .entry)) (now (kind .entry)) (now (place .entry)) (now (weight .entry))) (now (limit .exit)) ⌝ }
+{
+    let end = 16 * transitions;
+    let mut a: usize = 0;
+    while a < end {
+        let b = a + 1;
+        let x = slot_limit(
+            places,
+            transitions,
+            initial,
+            capacity,
+            rate,
+            delay,
+            arcs,
+            kind,
+            place,
+            weight,
+            a,
+        );
+        limit[a] = x;
+        a = b;
+    }
+}
+
+// The initial counts of the first `places` places, and 0 beyond.
+pub fn first_counts(places: usize, initial: &[u64; 32]) -> [u64; 32]
+    requires { ⌜ (places ≤ 32) × ((p : ℕ) → p < places → getD (now initial) p 0 ≤ 2 ^ 53) ⌝ }
+    ensures { λ r. ⌜ (Engine.marking places r ≡ Engine.countsFrom (now (initial .entry)) 0 places) × Engine.Counts r ⌝ }
+{
+    let mut counts = [0u64; 32];
+    let mut p: usize = 0;
+    while p < places {
+        let c = initial[p];
+        counts[p] = c;
+        p += 1;
+    }
+    counts
+}
+
+// Does one of the first `transitions` transitions run by a timer?
+pub fn any_timed(transitions: usize, delay: &[f64; 64]) -> bool
+    requires { ⌜ transitions ≤ 64 ⌝ }
+    ensures { λ r. ⌜ r ≡ Engine.anyTimed transitions (now (delay .entry)) ⌝ }
+{
+    let mut j: usize = 0;
+    while j < transitions {
+        if 0.0 < delay[j] {
+            return true;
+        }
+        j += 1;
+    }
+    false
+}

@@ -1,0 +1,232 @@
+// The starts of delayed transitions, in passes.
+ghost use mathlib.Core.Path.{_≡_};
+ghost use mathlib.Core.Bool.{true, false};
+ghost use mathlib.Core.List.{List, [], _∷_};
+ghost use Prim.Native.Nat.{ℕ, _+_, _*_, _^_, _<_, _≤_};
+ghost use lib.ListN.{length};
+ghost use Rattle.net.specs.Readable as Record;
+ghost use Rattle.rules.specs.Step as Rule;
+ghost use Rattle.ssa.specs.Engine as Engine;
+ghost use Rattle.ssa.specs.Stepping as Stepping;
+use crate::marking;
+use crate::timers;
+use crate::timers::Timer;
+
+// How many timers run now, whether one has started, and whether one could not since 256 ran already.
+pub struct Started {
+    pub timers: usize,
+    pub any: bool,
+    pub full: bool,
+}
+
+// Starts transition j if it is delayed and enabled.
+fn try_start<'a>(
+    places: usize,
+    transitions: usize,
+    initial: &'a [u64; 32],
+    capacity: &'a [u64; 32],
+    rate: &'a [f64; 64],
+    delay: &'a [f64; 64],
+    arcs: &'a [usize; 64],
+    kind: &'a [u64; 1024],
+    place: &'a [usize; 1024],
+    weight: &'a [u64; 1024],
+    limit: &'a [u64; 1024],
+    counts: &mut [u64; 32],
+    ats: &mut [f64; 256],
+    whos: &mut [usize; 256],
+    n: usize,
+    t: f64,
+    j: usize,
+) -> Started
+    requires { ⌜ (j < transitions) × Stepping.Ready (Engine.netOf places transitions (now initial) (now capacity) (now rate) (now delay) (now arcs) (now kind) (now place) (now weight)) (now limit) (now counts) (now ats) (now whos) n ⌝ }
+    ensures is { λ r. ⌜ Engine.StartsAre (Rule.pass (Record.readable (Engine.netOf places transitions (now (initial .entry)) (now (capacity .entry)) (now (rate .entry)) (now (delay .entry))
+        (now (arcs .entry)) (now (kind .entry)) (now (place .entry)) (now (weight .entry)))) t j (Record.transition (Engine.netOf places transitions (now (initial .entry)) (now (capacity .entry)) (now (rate .entry)) (now (delay .entry))
+        (now (arcs .entry)) (now (kind .entry)) (now (place .entry)) (now (weight .entry))) j ∷ [])
+        (Engine.marking places (now (counts .entry))) (Engine.timers (now (ats .entry)) (now (whos .entry)) n))
+        (Engine.marking places (now (counts .exit))) (Engine.timers (now (ats .exit)) (now (whos .exit)) (r .timers)) r ⌝ }
+    ensures ready { λ r. ⌜ Stepping.Ready (Engine.netOf places transitions (now (initial .entry)) (now (capacity .entry)) (now (rate .entry)) (now (delay .entry))
+        (now (arcs .entry)) (now (kind .entry)) (now (place .entry)) (now (weight .entry))) (now (limit .entry)) (now (counts .exit)) (now (ats .exit)) (now (whos .exit)) (r .timers) ⌝ }
+{
+    let d = delay[j];
+    if 0.0 < d {
+        if marking::enabled(
+            places,
+            transitions,
+            initial,
+            capacity,
+            rate,
+            delay,
+            arcs,
+            kind,
+            place,
+            weight,
+            limit,
+            counts,
+            j,
+        ) {
+            if 256 <= n {
+                return Started {
+                    timers: n,
+                    any: false,
+                    full: true,
+                };
+            }
+            marking::take(places, arcs, kind, place, weight, counts, j);
+            timers::insert(ats, whos, n, Timer { at: t + d, who: j });
+            return Started {
+                timers: n + 1,
+                any: true,
+                full: false,
+            };
+        }
+    }
+    Started {
+        timers: n,
+        any: false,
+        full: false,
+    }
+}
+
+// One pass through the transitions.
+fn pass<'a>(
+    places: usize,
+    transitions: usize,
+    initial: &'a [u64; 32],
+    capacity: &'a [u64; 32],
+    rate: &'a [f64; 64],
+    delay: &'a [f64; 64],
+    arcs: &'a [usize; 64],
+    kind: &'a [u64; 1024],
+    place: &'a [usize; 1024],
+    weight: &'a [u64; 1024],
+    limit: &'a [u64; 1024],
+    counts: &mut [u64; 32],
+    ats: &mut [f64; 256],
+    whos: &mut [usize; 256],
+    n: usize,
+    t: f64,
+) -> Started
+    requires { ⌜ Stepping.Ready (Engine.netOf places transitions (now initial) (now capacity) (now rate) (now delay) (now arcs) (now kind) (now place) (now weight)) (now limit) (now counts) (now ats) (now whos) n ⌝ }
+    ensures is { λ r. ⌜ Engine.StartsAre (Rule.pass (Record.readable (Engine.netOf places transitions (now (initial .entry)) (now (capacity .entry)) (now (rate .entry)) (now (delay .entry))
+        (now (arcs .entry)) (now (kind .entry)) (now (place .entry)) (now (weight .entry)))) t 0 (Record.readable (Engine.netOf places transitions (now (initial .entry)) (now (capacity .entry)) (now (rate .entry)) (now (delay .entry))
+        (now (arcs .entry)) (now (kind .entry)) (now (place .entry)) (now (weight .entry))) .transitions)
+        (Engine.marking places (now (counts .entry))) (Engine.timers (now (ats .entry)) (now (whos .entry)) n))
+        (Engine.marking places (now (counts .exit))) (Engine.timers (now (ats .exit)) (now (whos .exit)) (r .timers)) r ⌝ }
+    ensures ready { λ r. ⌜ Stepping.Ready (Engine.netOf places transitions (now (initial .entry)) (now (capacity .entry)) (now (rate .entry)) (now (delay .entry))
+        (now (arcs .entry)) (now (kind .entry)) (now (place .entry)) (now (weight .entry))) (now (limit .entry)) (now (counts .exit)) (now (ats .exit)) (now (whos .exit)) (r .timers) ⌝ }
+{
+    let mut k = n;
+    let mut any = false;
+    let mut j: usize = 0;
+    while j < transitions {
+        let s = try_start(
+            places,
+            transitions,
+            initial,
+            capacity,
+            rate,
+            delay,
+            arcs,
+            kind,
+            place,
+            weight,
+            limit,
+            counts,
+            ats,
+            whos,
+            k,
+            t,
+            j,
+        );
+        if s.full {
+            return s;
+        }
+        k = s.timers;
+        any = any | s.any;
+        j += 1;
+    }
+    Started {
+        timers: k,
+        any: any,
+        full: false,
+    }
+}
+
+// Passes until none starts. Where no transition is delayed there is none.
+pub fn start_all<'a>(
+    places: usize,
+    transitions: usize,
+    initial: &'a [u64; 32],
+    capacity: &'a [u64; 32],
+    rate: &'a [f64; 64],
+    delay: &'a [f64; 64],
+    arcs: &'a [usize; 64],
+    kind: &'a [u64; 1024],
+    place: &'a [usize; 1024],
+    weight: &'a [u64; 1024],
+    limit: &'a [u64; 1024],
+    timed: bool,
+    counts: &mut [u64; 32],
+    ats: &mut [f64; 256],
+    whos: &mut [usize; 256],
+    n: usize,
+    t: f64,
+) -> Started
+    requires { ⌜ (Stepping.Ready (Engine.netOf places transitions (now initial) (now capacity) (now rate) (now delay) (now arcs) (now kind) (now place) (now weight)) (now limit) (now counts) (now ats) (now whos) n) × (timed ≡ Engine.anyTimed transitions (now delay)) ⌝ }
+    ensures is { λ r. ⌜ Engine.StartsAre (Rule.passes 257 (Record.readable (Engine.netOf places transitions (now (initial .entry)) (now (capacity .entry)) (now (rate .entry)) (now (delay .entry))
+        (now (arcs .entry)) (now (kind .entry)) (now (place .entry)) (now (weight .entry)))) t
+        (Engine.marking places (now (counts .entry))) (Engine.timers (now (ats .entry)) (now (whos .entry)) n))
+        (Engine.marking places (now (counts .exit))) (Engine.timers (now (ats .exit)) (now (whos .exit)) (r .timers)) r ⌝ }
+    ensures ready { λ r. ⌜ Stepping.Ready (Engine.netOf places transitions (now (initial .entry)) (now (capacity .entry)) (now (rate .entry)) (now (delay .entry))
+        (now (arcs .entry)) (now (kind .entry)) (now (place .entry)) (now (weight .entry))) (now (limit .entry)) (now (counts .exit)) (now (ats .exit)) (now (whos .exit)) (r .timers) ⌝ }
+{
+    if !timed {
+        return Started {
+            timers: n,
+            any: false,
+            full: false,
+        };
+    }
+    let mut k = n;
+    let mut any = false;
+    let mut i: usize = 0;
+    while i < 257 {
+        let s = pass(
+            places,
+            transitions,
+            initial,
+            capacity,
+            rate,
+            delay,
+            arcs,
+            kind,
+            place,
+            weight,
+            limit,
+            counts,
+            ats,
+            whos,
+            k,
+            t,
+        );
+        if s.full {
+            return s;
+        }
+        k = s.timers;
+        if !s.any {
+            return Started {
+                timers: k,
+                any: any,
+                full: false,
+            };
+        }
+        any = true;
+        i += 1;
+    }
+    Started {
+        timers: k,
+        any: any,
+        full: false,
+    }
+}

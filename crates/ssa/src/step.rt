@@ -1,0 +1,531 @@
+// One step of a run: starts, the clock reading that it sets, and the completion or firing that ends it.
+ghost use mathlib.Core.Path.{_≡_};
+ghost use mathlib.Core.Bool.{true, false};
+ghost use Prim.Native.Nat.{ℕ, _+_, _-_, _*_, _^_, _<_, _≤_};
+ghost use lib.ListN.{length};
+ghost use lib.ListN as ListN;
+ghost use Rattle.net.specs.Readable as Record;
+ghost use Rattle.rules.specs.Step as Rule;
+ghost use Rattle.ssa.specs.Cells as Cells;
+ghost use Rattle.ssa.specs.Engine as Engine;
+ghost use Rattle.ssa.specs.Stepping as Stepping;
+use crate::event;
+use crate::event::Choice;
+use crate::event::Next;
+use crate::marking;
+use crate::record;
+use crate::starts;
+use crate::timers;
+use rng::Xoshiro256;
+
+// What a step begins with and leaves, beside the counts and the timers themselves: how many timers run, how many instants have been shown,
+// and the largest sum of the counts that an instant has shown.
+pub struct Now {
+    pub clock: f64,
+    pub timers: usize,
+    pub next: usize,
+    pub peak: u64,
+    pub rng: Xoshiro256,
+}
+
+// Whether the run goes on, and how it ends where it does not.
+pub enum Ending {
+    GoesOn,
+    Quiet,
+    Reached,
+    Refused(u64),
+}
+
+pub struct Stepped {
+    pub now: Now,
+    pub ending: Ending,
+}
+
+// What follows the starts of a step; Full where a timer could not start.
+pub enum Due {
+    Nothing,
+    Race,
+    Completion,
+    Full,
+}
+
+// A step up to the clock reading that it sets.
+pub struct Advanced {
+    pub due: Due,
+    pub clock: f64,
+    pub timers: usize,
+    pub a0: f64,
+    pub rng: Xoshiro256,
+}
+
+// The starts, the propensities, and the new clock reading.
+fn advance<'a>(
+    places: usize,
+    transitions: usize,
+    initial: &'a [u64; 32],
+    capacity: &'a [u64; 32],
+    rate: &'a [f64; 64],
+    delay: &'a [f64; 64],
+    arcs: &'a [usize; 64],
+    kind: &'a [u64; 1024],
+    place: &'a [usize; 1024],
+    weight: &'a [u64; 1024],
+    limit: &'a [u64; 1024],
+    timed: bool,
+    counts: &mut [u64; 32],
+    ats: &mut [f64; 256],
+    whos: &mut [usize; 256],
+    props: &mut [f64; 64],
+    running: usize,
+    t: f64,
+    rng: Xoshiro256,
+) -> Advanced
+    requires { ⌜ (Stepping.Ready (Engine.netOf places transitions (now initial) (now capacity) (now rate) (now delay) (now arcs) (now kind) (now place) (now weight)) (now limit) (now counts) (now ats) (now whos) running) × (timed ≡ Engine.anyTimed transitions (now delay)) × (length (now props) ≡ 64) ⌝ }
+    ensures is { λ r. ⌜ Stepping.AdvancedBy (Engine.netOf places transitions (now (initial .entry)) (now (capacity .entry)) (now (rate .entry)) (now (delay .entry))
+        (now (arcs .entry)) (now (kind .entry)) (now (place .entry)) (now (weight .entry)))
+        (Rule.step (Record.readable (Engine.netOf places transitions (now (initial .entry)) (now (capacity .entry)) (now (rate .entry)) (now (delay .entry))
+        (now (arcs .entry)) (now (kind .entry)) (now (place .entry)) (now (weight .entry)))) (Stepping.stateOf (Engine.netOf places transitions (now (initial .entry)) (now (capacity .entry)) (now (rate .entry)) (now (delay .entry))
+        (now (arcs .entry)) (now (kind .entry)) (now (place .entry)) (now (weight .entry))) (now (counts .entry)) (now (ats .entry)) (now (whos .entry)) running t (rng .s)))
+        (Stepping.stateOf (Engine.netOf places transitions (now (initial .entry)) (now (capacity .entry)) (now (rate .entry)) (now (delay .entry))
+        (now (arcs .entry)) (now (kind .entry)) (now (place .entry)) (now (weight .entry))) (now (counts .entry)) (now (ats .entry)) (now (whos .entry)) running t (rng .s))
+        (Stepping.stateOf (Engine.netOf places transitions (now (initial .entry)) (now (capacity .entry)) (now (rate .entry)) (now (delay .entry))
+        (now (arcs .entry)) (now (kind .entry)) (now (place .entry)) (now (weight .entry))) (now (counts .exit)) (now (ats .exit)) (now (whos .exit)) (r .timers) (r .clock) (r .rng .s))
+        (now (props .exit)) (r .a0) (r .due) ⌝ }
+    ensures ready { λ r. ⌜ (Stepping.Ready (Engine.netOf places transitions (now (initial .entry)) (now (capacity .entry)) (now (rate .entry)) (now (delay .entry))
+        (now (arcs .entry)) (now (kind .entry)) (now (place .entry)) (now (weight .entry))) (now (limit .entry)) (now (counts .exit)) (now (ats .exit)) (now (whos .exit)) (r .timers)) × (length (now (props .exit)) ≡ 64) ⌝ }
+{
+    let s = starts::start_all(
+        places,
+        transitions,
+        initial,
+        capacity,
+        rate,
+        delay,
+        arcs,
+        kind,
+        place,
+        weight,
+        limit,
+        timed,
+        counts,
+        ats,
+        whos,
+        running,
+        t,
+    );
+    let n = s.timers;
+    if s.full {
+        return Advanced {
+            due: Due::Full,
+            clock: t,
+            timers: n,
+            a0: 0.0,
+            rng: rng,
+        };
+    }
+    let a0 = marking::propensities(
+        places,
+        transitions,
+        initial,
+        capacity,
+        rate,
+        delay,
+        arcs,
+        kind,
+        place,
+        weight,
+        limit,
+        counts,
+        props,
+    );
+    let w = event::waiting(a0, rng);
+    let dt = w.dt;
+    let g = w.rng;
+    let what = event::next_event(a0, t, dt, ats, whos, n);
+    match what {
+        Next::Nothing => Advanced {
+            due: Due::Nothing,
+            clock: t,
+            timers: n,
+            a0: a0,
+            rng: g,
+        },
+        Next::Race(wait) => Advanced {
+            due: Due::Race,
+            clock: t + wait,
+            timers: n,
+            a0: a0,
+            rng: g,
+        },
+        Next::Completion(at) => Advanced {
+            due: Due::Completion,
+            clock: at,
+            timers: n,
+            a0: a0,
+            rng: g,
+        },
+    }
+}
+
+// Shows the counts at the instants from next to before `to`, and answers with the largest sum so far.
+pub fn show_until(
+    table: &mut [f64],
+    counts: &[u64; 32],
+    places: usize,
+    n: usize,
+    next: usize,
+    to: usize,
+    peak: u64,
+) -> u64
+    requires { ⌜ (places ≤ 32) × (next ≤ to) × (to ≤ n) × (n ≤ 1024) × (places * n ≤ length (now table)) × Engine.Counts (now counts) ⌝ }
+    ensures { λ r. ⌜ Stepping.ShownUntil places n (Engine.marking places (now (counts .entry))) next to peak r (now (table .entry)) (now (table .exit)) ⌝ }
+{
+    if to == next {
+        return peak;
+    }
+    record::fill(table, counts, places, n, next, to);
+    let sum = record::sum(counts, places);
+    if peak < sum {
+        return sum;
+    }
+    peak
+}
+
+pub struct Seen {
+    pub next: usize,
+    pub peak: u64,
+}
+
+// Shows the counts at every instant that the clock has reached and that has not been shown.
+pub fn show(
+    instants: &[f64],
+    table: &mut [f64],
+    counts: &[u64; 32],
+    places: usize,
+    clock: f64,
+    next: usize,
+    peak: u64,
+) -> Seen
+    requires { ⌜ (places ≤ 32) × (next ≤ length (now instants)) × (length (now instants) ≤ 1024) × (places * length (now instants) ≤ length (now table)) × Engine.Counts (now counts) ⌝ }
+    ensures { λ r. ⌜ Stepping.ShownBy places (now (instants .entry)) clock (Engine.marking places (now (counts .entry))) next (r .next) peak (r .peak) (now (table .entry)) (now (table .exit)) ⌝ }
+{
+    let to = record::reached(instants, clock, next);
+    let n = instants.len();
+    let most = show_until(table, counts, places, n, next, to, peak);
+    Seen {
+        next: to,
+        peak: most,
+    }
+}
+
+// A completion puts the outputs of the first timer's transition and ends the timer. False where a count would pass 2^53.
+fn complete<'a>(
+    places: usize,
+    transitions: usize,
+    initial: &'a [u64; 32],
+    capacity: &'a [u64; 32],
+    rate: &'a [f64; 64],
+    delay: &'a [f64; 64],
+    arcs: &'a [usize; 64],
+    kind: &'a [u64; 1024],
+    place: &'a [usize; 1024],
+    weight: &'a [u64; 1024],
+    limit: &'a [u64; 1024],
+    counts: &mut [u64; 32],
+    ats: &mut [f64; 256],
+    whos: &mut [usize; 256],
+    running: usize,
+    clock: f64,
+    rng: Xoshiro256,
+) -> bool
+    requires { ⌜ (Stepping.Ready (Engine.netOf places transitions (now initial) (now capacity) (now rate) (now delay) (now arcs) (now kind) (now place) (now weight)) (now limit) (now counts) (now ats) (now whos) running) × (0 < running) ⌝ }
+    ensures is { λ r. ⌜ Stepping.EventBy (Rule.complete (Record.readable (Engine.netOf places transitions (now (initial .entry)) (now (capacity .entry)) (now (rate .entry)) (now (delay .entry))
+        (now (arcs .entry)) (now (kind .entry)) (now (place .entry)) (now (weight .entry)))) (Stepping.stateOf (Engine.netOf places transitions (now (initial .entry)) (now (capacity .entry)) (now (rate .entry)) (now (delay .entry))
+        (now (arcs .entry)) (now (kind .entry)) (now (place .entry)) (now (weight .entry))) (now (counts .entry)) (now (ats .entry)) (now (whos .entry)) running clock (rng .s)))
+        (Stepping.stateOf (Engine.netOf places transitions (now (initial .entry)) (now (capacity .entry)) (now (rate .entry)) (now (delay .entry))
+        (now (arcs .entry)) (now (kind .entry)) (now (place .entry)) (now (weight .entry))) (now (counts .exit)) (now (ats .exit)) (now (whos .exit)) (running - 1) clock (rng .s)) r ⌝ }
+    ensures ready { λ r. ⌜ Stepping.Ready (Engine.netOf places transitions (now (initial .entry)) (now (capacity .entry)) (now (rate .entry)) (now (delay .entry))
+        (now (arcs .entry)) (now (kind .entry)) (now (place .entry)) (now (weight .entry))) (now (limit .entry)) (now (counts .exit)) (now (ats .exit)) (now (whos .exit)) (running - 1) ⌝ }
+{
+    let x = timers::first(ats, whos, running);
+    timers::remove_first(ats, whos, running);
+    let j = x.who;
+    if j < transitions {
+        return marking::put(places, arcs, kind, place, weight, counts, j);
+    }
+    true
+}
+
+// The generator after a race, and whether the counts fit.
+pub struct Fired {
+    pub rng: Xoshiro256,
+    pub fits: bool,
+}
+
+// A race draws, chooses and fires.
+fn race<'a>(
+    places: usize,
+    transitions: usize,
+    initial: &'a [u64; 32],
+    capacity: &'a [u64; 32],
+    rate: &'a [f64; 64],
+    delay: &'a [f64; 64],
+    arcs: &'a [usize; 64],
+    kind: &'a [u64; 1024],
+    place: &'a [usize; 1024],
+    weight: &'a [u64; 1024],
+    limit: &'a [u64; 1024],
+    counts: &mut [u64; 32],
+    ats: &'a [f64; 256],
+    whos: &'a [usize; 256],
+    props: &[f64; 64],
+    running: usize,
+    clock: f64,
+    a0: f64,
+    rng: Xoshiro256,
+) -> Fired
+    requires { ⌜ (Stepping.Ready (Engine.netOf places transitions (now initial) (now capacity) (now rate) (now delay) (now arcs) (now kind) (now place) (now weight)) (now limit) (now counts) (now ats) (now whos) running) × (length (now props) ≡ 64) ⌝ }
+    ensures is { λ r. ⌜ Stepping.EventBy (Rule.raced (Record.readable (Engine.netOf places transitions (now (initial .entry)) (now (capacity .entry)) (now (rate .entry)) (now (delay .entry))
+        (now (arcs .entry)) (now (kind .entry)) (now (place .entry)) (now (weight .entry)))) (Stepping.stateOf (Engine.netOf places transitions (now (initial .entry)) (now (capacity .entry)) (now (rate .entry)) (now (delay .entry))
+        (now (arcs .entry)) (now (kind .entry)) (now (place .entry)) (now (weight .entry))) (now (counts .entry)) (now (ats .entry)) (now (whos .entry)) running clock (rng .s)) a0
+        (ListN.take transitions (now (props .entry))))
+        (Stepping.stateOf (Engine.netOf places transitions (now (initial .entry)) (now (capacity .entry)) (now (rate .entry)) (now (delay .entry))
+        (now (arcs .entry)) (now (kind .entry)) (now (place .entry)) (now (weight .entry))) (now (counts .exit)) (now (ats .entry)) (now (whos .entry)) running clock (r .rng .s)) (r .fits) ⌝ }
+    ensures ready { λ r. ⌜ Stepping.Ready (Engine.netOf places transitions (now (initial .entry)) (now (capacity .entry)) (now (rate .entry)) (now (delay .entry))
+        (now (arcs .entry)) (now (kind .entry)) (now (place .entry)) (now (weight .entry))) (now (limit .entry)) (now (counts .exit)) (now (ats .entry)) (now (whos .entry)) running ⌝ }
+{
+    let d = rng.uniform();
+    let g = d.rng;
+    let chosen = event::choose(transitions, props, d.value * a0);
+    match chosen {
+        Choice::Nobody => Fired { rng: g, fits: true },
+        Choice::Chosen(j) => {
+            if j < transitions {
+                marking::take(places, arcs, kind, place, weight, counts, j);
+                let fits = marking::put(places, arcs, kind, place, weight, counts, j);
+                return Fired { rng: g, fits: fits };
+            }
+            Fired { rng: g, fits: true }
+        }
+    }
+}
+
+// One step.
+pub fn one_step<'a>(
+    places: usize,
+    transitions: usize,
+    initial: &'a [u64; 32],
+    capacity: &'a [u64; 32],
+    rate: &'a [f64; 64],
+    delay: &'a [f64; 64],
+    arcs: &'a [usize; 64],
+    kind: &'a [u64; 1024],
+    place: &'a [usize; 1024],
+    weight: &'a [u64; 1024],
+    limit: &'a [u64; 1024],
+    timed: bool,
+    counts: &mut [u64; 32],
+    ats: &mut [f64; 256],
+    whos: &mut [usize; 256],
+    props: &mut [f64; 64],
+    instants: &[f64],
+    last: f64,
+    table: &mut [f64],
+    s: Now,
+) -> Stepped
+    requires { ⌜ (Stepping.Ready (Engine.netOf places transitions (now initial) (now capacity) (now rate) (now delay) (now arcs) (now kind) (now place) (now weight)) (now limit) (now counts) (now ats) (now whos) (s .timers)) × (timed ≡ Engine.anyTimed transitions (now delay)) × (length (now props) ≡ 64)
+        × (s .next ≤ length (now instants)) × (length (now instants) ≤ 1024) × (places * length (now instants) ≤ length (now table)) ⌝ }
+    ensures is { λ r. ⌜ Stepping.StepBy
+        (Rule.step (Record.readable (Engine.netOf places transitions (now (initial .entry)) (now (capacity .entry)) (now (rate .entry)) (now (delay .entry))
+        (now (arcs .entry)) (now (kind .entry)) (now (place .entry)) (now (weight .entry)))) (Stepping.stateOf (Engine.netOf places transitions (now (initial .entry)) (now (capacity .entry)) (now (rate .entry)) (now (delay .entry))
+        (now (arcs .entry)) (now (kind .entry)) (now (place .entry)) (now (weight .entry))) (now (counts .entry)) (now (ats .entry)) (now (whos .entry)) (s .timers) (s .clock) (s .rng .s)))
+        (Stepping.stateOf (Engine.netOf places transitions (now (initial .entry)) (now (capacity .entry)) (now (rate .entry)) (now (delay .entry))
+        (now (arcs .entry)) (now (kind .entry)) (now (place .entry)) (now (weight .entry))) (now (counts .entry)) (now (ats .entry)) (now (whos .entry)) (s .timers) (s .clock) (s .rng .s))
+        last
+        (λ u. Stepping.ShownBy places (now (instants .entry)) (u .clock) (u .counts) (s .next) (r .now .next) (s .peak) (r .now .peak) (now (table .entry)) (now (table .exit)))
+        (Stepping.NotShown (s .next) (r .now .next) (s .peak) (r .now .peak) (now (table .entry)) (now (table .exit)))
+        (Stepping.stateOf (Engine.netOf places transitions (now (initial .entry)) (now (capacity .entry)) (now (rate .entry)) (now (delay .entry))
+        (now (arcs .entry)) (now (kind .entry)) (now (place .entry)) (now (weight .entry))) (now (counts .exit)) (now (ats .exit)) (now (whos .exit)) (r .now .timers) (r .now .clock) (r .now .rng .s))
+        (r .ending) ⌝ }
+    ensures ready { λ r. ⌜ (Stepping.Ready (Engine.netOf places transitions (now (initial .entry)) (now (capacity .entry)) (now (rate .entry)) (now (delay .entry))
+        (now (arcs .entry)) (now (kind .entry)) (now (place .entry)) (now (weight .entry))) (now (limit .entry)) (now (counts .exit)) (now (ats .exit)) (now (whos .exit)) (r .now .timers)) × (length (now (props .exit)) ≡ 64) × (length (now (table .exit)) ≡ length (now (table .entry)))
+        × Cells.Stay places (length (now (instants .entry))) (now (table .entry)) (now (table .exit)) ⌝ }
+{
+    let t = s.clock;
+    let rng = s.rng;
+    let d = advance(
+        places,
+        transitions,
+        initial,
+        capacity,
+        rate,
+        delay,
+        arcs,
+        kind,
+        place,
+        weight,
+        limit,
+        timed,
+        counts,
+        ats,
+        whos,
+        props,
+        s.timers,
+        t,
+        rng,
+    );
+    let running = d.timers;
+    let clock = d.clock;
+    let g = d.rng;
+    let due = d.due;
+    match due {
+        Due::Full => {
+            let now = Now {
+                clock: clock,
+                timers: running,
+                next: s.next,
+                peak: s.peak,
+                rng: g,
+            };
+            Stepped {
+                now: now,
+                ending: Ending::Refused(refusals::TOO_MANY_TIMERS),
+            }
+        }
+        Due::Nothing => {
+            let now = Now {
+                clock: clock,
+                timers: running,
+                next: s.next,
+                peak: s.peak,
+                rng: g,
+            };
+            Stepped {
+                now: now,
+                ending: Ending::Quiet,
+            }
+        }
+        Due::Race => {
+            let seen = show(instants, table, counts, places, clock, s.next, s.peak);
+            if last < clock {
+                let now = Now {
+                    clock: clock,
+                    timers: running,
+                    next: seen.next,
+                    peak: seen.peak,
+                    rng: g,
+                };
+                return Stepped {
+                    now: now,
+                    ending: Ending::Reached,
+                };
+            }
+            let f = race(
+                places,
+                transitions,
+                initial,
+                capacity,
+                rate,
+                delay,
+                arcs,
+                kind,
+                place,
+                weight,
+                limit,
+                counts,
+                ats,
+                whos,
+                props,
+                running,
+                clock,
+                d.a0,
+                g,
+            );
+            let h = f.rng;
+            if f.fits {
+                let now = Now {
+                    clock: clock,
+                    timers: running,
+                    next: seen.next,
+                    peak: seen.peak,
+                    rng: h,
+                };
+                return Stepped {
+                    now: now,
+                    ending: Ending::GoesOn,
+                };
+            }
+            let now = Now {
+                clock: clock,
+                timers: running,
+                next: seen.next,
+                peak: seen.peak,
+                rng: h,
+            };
+            Stepped {
+                now: now,
+                ending: Ending::Refused(refusals::COUNT_TOO_LARGE),
+            }
+        }
+        Due::Completion => {
+            let seen = show(instants, table, counts, places, clock, s.next, s.peak);
+            if last < clock {
+                let now = Now {
+                    clock: clock,
+                    timers: running,
+                    next: seen.next,
+                    peak: seen.peak,
+                    rng: g,
+                };
+                return Stepped {
+                    now: now,
+                    ending: Ending::Reached,
+                };
+            }
+            let fits = complete(
+                places,
+                transitions,
+                initial,
+                capacity,
+                rate,
+                delay,
+                arcs,
+                kind,
+                place,
+                weight,
+                limit,
+                counts,
+                ats,
+                whos,
+                running,
+                clock,
+                g,
+            );
+            let left = running - 1;
+            if fits {
+                let now = Now {
+                    clock: clock,
+                    timers: left,
+                    next: seen.next,
+                    peak: seen.peak,
+                    rng: g,
+                };
+                return Stepped {
+                    now: now,
+                    ending: Ending::GoesOn,
+                };
+            }
+            let now = Now {
+                clock: clock,
+                timers: left,
+                next: seen.next,
+                peak: seen.peak,
+                rng: g,
+            };
+            Stepped {
+                now: now,
+                ending: Ending::Refused(refusals::COUNT_TOO_LARGE),
+            }
+        }
+    }
+}

@@ -1,0 +1,791 @@
+//! Whole paths: cases for the program crates/path_replay, and their answers. An answer is worked by a
+//! second player, written from document 01 and apart from both sides; where the source's `realization`
+//! has an answer, which is the counts and the generator after it, the two are held to be equal first.
+use crate::draw::Draw;
+use crate::nets::{example, Arc, Move, Net, Place};
+use crate::rattle;
+use crate::ssa::inside::filled;
+use crate::ssa::{plog, realization, Xoshiro256};
+use std::fmt::Write;
+
+const MOST_STEPS: u64 = 1_000_000;
+const MOST_TOKENS: i64 = 1 << 53;
+/// The cells of the program's table, and what stands in each before the call.
+const CELLS: usize = 2048;
+const BEFORE: f64 = 7.0;
+
+#[derive(Clone)]
+pub struct Case {
+    pub net: Net,
+    pub state: [u64; 4],
+    pub limit: u64,
+    pub instants: Vec<f64>,
+}
+
+#[derive(Clone, Copy, PartialEq, Debug)]
+pub enum End {
+    Quiet,
+    Spent,
+    Reached,
+    Refused(u64),
+}
+
+#[derive(Clone)]
+pub struct Answer {
+    pub end: End,
+    pub steps: u64,
+    pub settled: usize,
+    pub peak: i64,
+    pub state: [u64; 4],
+    /// The counts shown, place by place; none where nothing is touched.
+    pub cells: Option<Vec<f64>>,
+    /// Whether some race drew r = 0, for which the source has another rule.
+    pub zero: bool,
+    /// The last reading of the clock.
+    pub clock: f64,
+}
+
+// ---- the second player
+
+fn amount(weight: i64) -> i64 {
+    weight.max(1)
+}
+
+/// The first of 2 to 7 that applies, place by place and then transition by transition.
+fn fault(net: &Net) -> Option<u64> {
+    for (i, p) in net.places.iter().enumerate() {
+        if i >= 32 {
+            return Some(2);
+        }
+        if !(0..=MOST_TOKENS).contains(&p.initial) || !(0..=MOST_TOKENS).contains(&p.capacity) {
+            return Some(4);
+        }
+    }
+    if net.places.is_empty() {
+        return Some(2);
+    }
+    for (j, m) in net.moves.iter().enumerate() {
+        if j >= 64 || m.arcs.len() > 16 {
+            return Some(2);
+        }
+        if m.arcs.iter().any(|a| a.place() >= net.places.len()) {
+            return Some(3);
+        }
+        let rate = m.rate == 0.0 || (2f64.powi(-100) <= m.rate && m.rate <= 2f64.powi(100));
+        let delay = 0.0 <= m.delay && m.delay <= 2f64.powi(30);
+        if !rate || !delay || m.arcs.iter().any(|a| !(0..=1_000_000).contains(&a.weight())) {
+            return Some(4);
+        }
+        let mut taken: Vec<usize> = takes(m).map(|(p, ..)| p).collect();
+        taken.sort_unstable();
+        if taken.windows(2).any(|w| w[0] == w[1]) {
+            return Some(5);
+        }
+        if m.delay > 0.0 && taken.is_empty() {
+            return Some(6);
+        }
+        if takes(m).filter(|&(_, _, kinetic)| kinetic).map(|(_, w, _)| w).sum::<i64>() > 16 {
+            return Some(7);
+        }
+    }
+    None
+}
+
+fn takes(m: &Move) -> impl Iterator<Item = (usize, i64, bool)> + '_ {
+    m.arcs.iter().filter_map(|a| match *a {
+        Arc::Take { place, weight, kinetic } => Some((place, amount(weight), kinetic)),
+        _ => None,
+    })
+}
+
+fn puts(m: &Move) -> impl Iterator<Item = (usize, i64)> + '_ {
+    m.arcs.iter().filter_map(|a| match *a {
+        Arc::Put { place, weight } => Some((place, amount(weight))),
+        _ => None,
+    })
+}
+
+fn enabled(net: &Net, counts: &[i64], m: &Move) -> bool {
+    let arcs = m.arcs.iter().all(|a| match *a {
+        Arc::Take { place, weight, .. } | Arc::Read { place, weight } => amount(weight) <= counts[place],
+        Arc::Block { place, weight } => counts[place] < amount(weight),
+        Arc::Put { .. } => true,
+    });
+    let room = (0..counts.len()).all(|p| {
+        let put: i64 = puts(m).filter(|&(q, _)| q == p).map(|(_, w)| w).sum();
+        let taken: i64 = takes(m).filter(|&(q, ..)| q == p).map(|(_, w, _)| w).sum();
+        let capacity = net.places[p].capacity;
+        capacity == 0 || put <= taken || counts[p] + (put - taken) <= capacity
+    });
+    arcs && room
+}
+
+/// The ways to choose w of m tokens: multiplied and divided factor by factor.
+fn ways(m: i64, w: i64) -> f64 {
+    (0..w).fold(1.0, |x, i| x * (m - i) as f64 / (i + 1) as f64)
+}
+
+fn propensity(net: &Net, counts: &[i64], m: &Move) -> f64 {
+    if m.delay > 0.0 || !enabled(net, counts, m) {
+        return 0.0;
+    }
+    let rate = if m.rate == 0.0 { 1.0 } else { m.rate };
+    takes(m).filter(|&(_, _, kinetic)| kinetic).fold(rate, |x, (p, w, _)| x * ways(counts[p], w))
+}
+
+/// A running timer: when it completes, how many were started before it, and whose it is.
+struct Timer {
+    at: f64,
+    number: u64,
+    who: usize,
+}
+
+fn fits(xs: &[f64]) -> bool {
+    let low = [0.0].into_iter().chain(xs.iter().copied());
+    (1..=1024).contains(&xs.len()) && low.zip(xs).all(|(a, &b)| a <= b) && xs.iter().all(|&x| x <= 2f64.powi(31))
+}
+
+fn turned_down(case: &Case, number: u64, cells: Option<Vec<f64>>) -> Answer {
+    Answer { end: End::Refused(number), steps: 0, settled: 0, peak: 0, state: case.state, cells, zero: false, clock: 0.0 }
+}
+
+/// What document 01 says of the case.
+pub fn play(case: &Case) -> Answer {
+    let (net, xs) = (&case.net, &case.instants);
+    if let Some(number) = fault(net) {
+        return turned_down(case, number, None);
+    }
+    if !fits(xs) {
+        return turned_down(case, 12, None);
+    }
+    if !(1..=MOST_STEPS).contains(&case.limit) {
+        return turned_down(case, 13, None);
+    }
+    let cells = net.places.len() * xs.len();
+    if cells > CELLS {
+        return turned_down(case, 11, None);
+    }
+    run(case).unwrap_or_else(|number| turned_down(case, number, Some(vec![0.0; cells])))
+}
+
+/// An accepted case, or by which of 14 and 15 it is turned down.
+fn run(case: &Case) -> Result<Answer, u64> {
+    let (net, xs) = (&case.net, &case.instants);
+    let last = *xs.last().unwrap();
+    let mut counts: Vec<i64> = net.places.iter().map(|p| p.initial).collect();
+    let mut timers: Vec<Timer> = vec![];
+    let mut rng = Xoshiro256::from_state(case.state);
+    let mut shown: Vec<Vec<i64>> = vec![];
+    let (mut clock, mut steps, mut started, mut zero) = (0.0, 0, 0, false);
+    let read = |clock: f64, counts: &[i64], shown: &mut Vec<Vec<i64>>| {
+        while shown.len() < xs.len() && xs[shown.len()] <= clock {
+            shown.push(counts.to_vec());
+        }
+    };
+    read(clock, &counts, &mut shown);
+    let end = loop {
+        if clock >= last {
+            break End::Reached;
+        }
+        if steps == case.limit {
+            break End::Spent;
+        }
+        steps += 1;
+        loop {
+            let before = started;
+            for (who, m) in net.moves.iter().enumerate() {
+                if m.delay > 0.0 && enabled(net, &counts, m) {
+                    if timers.len() == 256 {
+                        return Err(15);
+                    }
+                    takes(m).for_each(|(p, w, _)| counts[p] -= w);
+                    timers.push(Timer { at: clock + m.delay, number: started, who });
+                    started += 1;
+                }
+            }
+            if started == before {
+                break;
+            }
+        }
+        let a: Vec<f64> = net.moves.iter().map(|m| propensity(net, &counts, m)).collect();
+        let a0 = a.iter().fold(0.0, |sum, x| sum + x);
+        let race = if a0 > 0.0 { clock + -plog(1.0 - rng.uniform()) / a0 } else { f64::INFINITY };
+        let first = (0..timers.len()).min_by(|&i, &k| {
+            let (x, y) = (&timers[i], &timers[k]);
+            x.at.partial_cmp(&y.at).unwrap().then(x.number.cmp(&y.number))
+        });
+        let completes = first.filter(|&i| timers[i].at <= race);
+        clock = match completes {
+            Some(i) => timers[i].at,
+            None if a0 > 0.0 => race,
+            None => break End::Quiet,
+        };
+        read(clock, &counts, &mut shown);
+        if clock > last {
+            break End::Reached;
+        }
+        let who = match completes {
+            Some(i) => timers.remove(i).who,
+            None => {
+                let r = rng.uniform() * a0;
+                zero |= r == 0.0;
+                let positive = || (0..a.len()).filter(|&j| a[j] > 0.0);
+                let sum = |j: usize| a[..=j].iter().fold(0.0, |sum, x| sum + x);
+                let j = positive().find(|&j| r <= sum(j)).or(positive().last()).unwrap();
+                takes(&net.moves[j]).for_each(|(p, w, _)| counts[p] -= w);
+                j
+            }
+        };
+        puts(&net.moves[who]).for_each(|(p, w)| counts[p] += w);
+        if counts.iter().any(|&c| c > MOST_TOKENS) {
+            return Err(14);
+        }
+    };
+    let settled = if end == End::Spent { shown.len() } else { xs.len() };
+    shown.resize(xs.len(), counts);
+    Ok(Answer {
+        end,
+        steps,
+        settled,
+        peak: shown.iter().map(|c| c.iter().sum()).max().unwrap(),
+        state: rng.state(),
+        cells: Some((0..net.places.len()).flat_map(|p| shown.iter().map(move |c| c[p] as f64)).collect()),
+        zero,
+        clock,
+    })
+}
+
+// ---- the source
+
+/// Whether the source's answer to a case is what the second player says; None where the source has
+/// none, or another rule: where the run is turned down or spent, and where r is 0.
+pub fn source_agrees(case: &Case, answer: &Answer) -> Option<bool> {
+    if matches!(answer.end, End::Refused(_)) || (answer.end == End::Spent && case.limit != MOST_STEPS) || answer.zero {
+        return None;
+    }
+    let mut rng = Xoshiro256::from_state(case.state);
+    let cells = realization(&filled(&case.net), &case.instants, &mut rng).concat();
+    let ours = answer.cells.as_ref().unwrap();
+    Some(rng.state() == answer.state && cells.len() == ours.len() && cells.iter().zip(ours).all(|(a, b)| a.to_bits() == b.to_bits()))
+}
+
+// ---- the program's form
+
+fn put_case(out: &mut String, case: &Case) {
+    let mut n = |x: u64| writeln!(out, "{x:016x}").unwrap();
+    let net = &case.net;
+    n(net.places.len() as u64);
+    n(net.moves.len() as u64);
+    for p in net.places.iter().take(32) {
+        n(p.initial as u64);
+        n(p.capacity as u64);
+    }
+    for m in net.moves.iter().take(64) {
+        n(m.rate.to_bits());
+        n(m.delay.to_bits());
+        n(m.arcs.len() as u64);
+        for a in m.arcs.iter().take(16) {
+            n(a.kind());
+            n(a.place() as u64);
+            n(a.weight() as u64);
+        }
+    }
+    case.state.iter().for_each(|&w| n(w));
+    n(case.limit);
+    n(case.instants.len() as u64);
+    case.instants.iter().take(CELLS).for_each(|x| n(x.to_bits()));
+}
+
+impl End {
+    /// As the library tells it.
+    fn number(self) -> u64 {
+        match self {
+            End::Refused(number) => number,
+            End::Quiet => 100,
+            End::Spent => 101,
+            End::Reached => 102,
+        }
+    }
+}
+
+/// The line that the program writes for a case.
+fn line(case: &Case, end: u64, steps: u64, settled: u64, peak: u64, state: [u64; 4], table: &[f64]) -> String {
+    let mut out = match end {
+        100 => "quiet".into(),
+        101 => "spent".into(),
+        102 => "reached".into(),
+        number => format!("refused {number}"),
+    };
+    write!(out, " {steps} {settled} {peak}").unwrap();
+    state.iter().for_each(|w| write!(out, " {w:016x}").unwrap());
+    let places = case.net.places.len();
+    let shown = if places > 32 { 0 } else { CELLS.min(places * case.instants.len() + 1) };
+    table[..shown].iter().for_each(|x| write!(out, " {:016x}", x.to_bits()).unwrap());
+    out.push('\n');
+    out
+}
+
+impl Answer {
+    pub fn line(&self, case: &Case) -> String {
+        let mut table = vec![BEFORE; CELLS];
+        if let Some(cells) = &self.cells {
+            table[..cells.len()].copy_from_slice(cells);
+        }
+        line(case, self.end.number(), self.steps, self.settled as u64, self.peak as u64, self.state, &table)
+    }
+}
+
+/// The same line, worked by the proved library.
+pub fn by_library(case: &Case) -> String {
+    let mut table = vec![BEFORE; CELLS];
+    let mut state = case.state;
+    let [end, steps, settled, peak] = rattle::path(&rattle::Fields::of(&case.net), &mut state, &case.instants, case.limit, &mut table);
+    line(case, end, steps, settled, peak, state, &table)
+}
+
+// ---- the cases at edges
+
+fn take(place: usize, weight: i64) -> Arc {
+    Arc::Take { place, weight, kinetic: true }
+}
+
+fn plain(place: usize, weight: i64) -> Arc {
+    Arc::Take { place, weight, kinetic: false }
+}
+
+fn put(place: usize, weight: i64) -> Arc {
+    Arc::Put { place, weight }
+}
+
+fn read(place: usize, weight: i64) -> Arc {
+    Arc::Read { place, weight }
+}
+
+fn block(place: usize, weight: i64) -> Arc {
+    Arc::Block { place, weight }
+}
+
+fn net(initial: &[i64], moves: Vec<(f64, f64, Vec<Arc>)>) -> Net {
+    Net {
+        places: initial.iter().map(|&initial| Place { initial, capacity: 0 }).collect(),
+        moves: moves.into_iter().map(|(rate, delay, arcs)| Move { rate, delay, arcs }).collect(),
+    }
+}
+
+fn bounded(mut net: Net, capacities: &[i64]) -> Net {
+    net.places.iter_mut().zip(capacities).for_each(|(p, &c)| p.capacity = c);
+    net
+}
+
+const STATE: [u64; 4] = [0x0123_4567_89AB_CDEF, 0xFEDC_BA98_7654_3210, 0x0F1E_2D3C_4B5A_6978, 0x8796_A5B4_C3D2_E1F0];
+
+fn case(net: Net, limit: u64, instants: &[f64]) -> Case {
+    Case { net, state: STATE, limit, instants: instants.to_vec() }
+}
+
+fn from(state: [u64; 4], mut case: Case) -> Case {
+    case.state = state;
+    case
+}
+
+/// The cases that document 01 and the rulings on it name.
+pub fn edges() -> Vec<Case> {
+    let most = MOST_STEPS;
+    let sample = [0.0, 1.0, 2.0];
+    let line = || net(&[20, 0], vec![(1.0, 0.0, vec![take(0, 1), put(1, 1)])]);
+    let mut v = vec![];
+    // document 01's net: 3 steps and quiet, or spent; the last instant at a completion, before and behind it
+    for limit in [most, 3, 2, 1] {
+        v.push(case(example(), limit, &sample));
+    }
+    for xs in [&[1.0][..], &[0.5], &[0.5, 1.0, 1.0], &[1.0, 1.0, 1.5], &[0.0, 3.0], &[2147483648.0]] {
+        v.push(case(example(), most, xs));
+        v.push(case(example(), 1, xs));
+    }
+    // no step at all; -0 reads as 0; no transition; nothing enabled
+    for xs in [&[0.0][..], &[-0.0], &[-0.0, 0.0, -0.0]] {
+        v.push(case(line(), most, xs));
+    }
+    v.push(case(line(), most, &[0.0, -0.0, 0.25]));
+    v.push(case(net(&[3], vec![]), most, &sample));
+    v.push(case(net(&[0], vec![(1.0, 0.0, vec![take(0, 1)])]), 1, &sample));
+    // a limit met on the very step, one less, one more
+    for limit in [1, 19, 20, 21, 22] {
+        v.push(case(line(), limit, &[0.0, 1.0, 100.0]));
+    }
+    // kinetic total 16 and 17, in one take and in several, weight 0 counted as 1; plain takes do not count
+    for w in [16, 17] {
+        v.push(case(net(&[40, 0], vec![(1e-9, 0.0, vec![take(0, w), put(1, 1)])]), most, &sample));
+        v.push(case(net(&[40, 9, 9, 0], vec![(1e-9, 0.0, vec![take(0, w - 3), take(1, 2), take(2, 0), plain(3, 0)]), (0.0, 0.0, vec![put(3, 1)])]), 50, &sample));
+    }
+    v.push(case(net(&[90, 9], vec![(1.0, 0.0, vec![plain(0, 30), take(1, 1)])]), most, &sample));
+    // timers: 256, a 257th, and one that starts as another ends
+    for n in [255, 256, 257] {
+        v.push(case(net(&[n, 0], vec![(0.0, 1.0, vec![take(0, 1), put(1, 1)])]), most, &sample));
+        v.push(case(net(&[n, 0], vec![(0.0, 1.0, vec![take(0, 1), put(1, 1)]), (0.0, 1.0, vec![take(1, 1), put(0, 1)])]), 300, &sample));
+    }
+    v.push(case(net(&[256, 0], vec![(0.0, 1.0, vec![take(0, 1), put(0, 2)])]), most, &sample));
+    // r = 0: the first with positive propensity
+    let dead = || net(&[0, 4, 0, 0], vec![(1.0, 0.0, vec![take(0, 1), put(2, 1)]), (0.5, 0.0, vec![take(1, 1), put(3, 1)]), (0.5, 0.0, vec![take(1, 1), put(2, 5)])]);
+    for limit in [1, 2, most] {
+        v.push(from([1, 2, 3, 4], case(dead(), limit, &[0.0, 50.0])));
+    }
+    // the zero state: the clock stands still, and r is 0
+    for limit in [1, 5, 20, 21, 22] {
+        v.push(from([0; 4], case(line(), limit, &sample)));
+    }
+    v.push(from([0; 4], case(net(&[2], vec![(1.0, 0.0, vec![take(0, 1), put(0, 1)])]), 40, &[0.0, 0.0, 1.0])));
+    // a completion exactly at t + dt: by a clock that stands still, and by a delay set to the wait and to its neighbours
+    v.push(from([0; 4], case(net(&[1, 0, 0, 0, 0], vec![
+        (0.0, 1.0, vec![take(0, 1), put(1, 1), put(2, 1)]),
+        (0.0, 2f64.powi(-60), vec![take(1, 1), put(3, 1)]),
+        (1.0, 0.0, vec![take(2, 1), put(4, 1)]),
+    ]), most, &sample)));
+    let wait = -plog(1.0 - Xoshiro256::from_state(STATE).uniform()) / 2.0;
+    let near = |d: i64| f64::from_bits(wait.to_bits().wrapping_add_signed(d));
+    for d in [-1, 0, 1] {
+        let race = net(&[1, 2, 0, 0], vec![(0.0, near(d), vec![take(0, 1), put(2, 1)]), (1.0, 0.0, vec![take(1, 1), put(3, 1)])]);
+        for e in [-1, 0, 1] {
+            v.push(case(race.clone(), 1, &[0.0, near(e)]));
+        }
+        v.push(case(race.clone(), 1, &[0.0, 9.0]));
+        v.push(case(race, most, &[near(-1), near(0), near(1), 9.0]));
+    }
+    // the wait itself as the last instant: fired, not shown
+    for e in [-1, 0, 1] {
+        v.push(case(net(&[2, 0], vec![(1.0, 0.0, vec![take(0, 1), put(1, 1)])]), most, &[near(e)]));
+        v.push(case(net(&[2, 0], vec![(1.0, 0.0, vec![take(0, 1), put(1, 1)])]), 1, &[near(e)]));
+    }
+    // equal completion times leave first in, first out; by transition, by pass and by step
+    let equal = || net(&[2, 1, 0, 0, 0, 0], vec![
+        (0.0, 0.5, vec![take(2, 1), put(3, 1)]),
+        (0.0, 1.0, vec![take(0, 1), put(4, 1)]),
+        (0.0, 0.5, vec![take(1, 1), put(2, 1)]),
+        (0.0, 1.0, vec![take(3, 1), put(5, 1)]),
+        (0.0, 1.0, vec![take(4, 1), put(0, 1), put(3, 1)]),
+    ]);
+    for limit in 1..=8 {
+        v.push(case(equal(), limit, &[0.0, 0.5, 1.0, 1.0, 1.5, 4.0]));
+    }
+    // counts at 2^53: kept, reached, passed; judged after all of a firing's takes and puts; by a completion at and behind the last instant
+    let full = MOST_TOKENS;
+    v.push(case(net(&[full], vec![(1.0, 0.0, vec![put(0, 1)])]), most, &sample));
+    v.push(case(net(&[full], vec![(2f64.powi(-53), 0.0, vec![take(0, 1), put(0, 1)])]), 30, &sample));
+    v.push(case(net(&[full, 5], vec![(1.0, 0.0, vec![plain(0, 2), take(1, 1), put(0, 1), put(0, 1)])]), most, &[0.0, 9.0]));
+    v.push(case(net(&[full, 5], vec![(1.0, 0.0, vec![put(0, 1), plain(0, 1), take(1, 1)])]), most, &[0.0, 9.0]));
+    for initial in [full - 1, full - 2] {
+        v.push(case(net(&[initial, 2], vec![(1.0, 0.0, vec![take(1, 1), put(0, 1)])]), most, &[0.0, 99.0]));
+    }
+    for end in [0.5, 1.0, 1.5] {
+        v.push(case(net(&[1, full], vec![(0.0, 1.0, vec![take(0, 1), put(1, 1)])]), most, &[0.0, end]));
+    }
+    v.push(case(net(&[full, full, full, full], vec![]), most, &sample));
+    // 14 and 15 in one run: whichever comes first
+    v.push(case(net(&[256, full], vec![(0.0, 1.0, vec![take(0, 1), put(0, 2), put(1, 1)])]), most, &sample));
+    // capacity: judged at the start, so a completion may pass it; an initial count above it; net change 0 and below
+    let filling = vec![(0.0, 1.0, vec![take(0, 1), put(1, 2)]), (0.0, 1.0, vec![take(0, 1), put(1, 1)])];
+    v.push(case(bounded(net(&[4, 0], filling), &[0, 2]), most, &[0.0, 1.0, 1.5, 2.5]));
+    v.push(case(bounded(net(&[9, 5], vec![(1.0, 0.0, vec![take(0, 1), put(1, 1)])]), &[3, 3]), most, &sample));
+    v.push(case(bounded(net(&[5, 1], vec![(1.0, 0.0, vec![take(0, 2), put(0, 2), put(1, 1)]), (1.0, 0.0, vec![take(0, 2), put(0, 1)])]), &[2, 6]), most, &[0.0, 9.0]));
+    v.push(case(bounded(net(&[9, 0], vec![(0.0, 0.0, vec![take(0, 0), put(1, 0), put(1, 0)])]), &[0, 5]), most, &[0.0, 9.0]));
+    // reads and inhibitors, at their weight and beside it; weight 0 as 1; several on one place
+    for n in [1, 2, 3] {
+        v.push(case(net(&[n, 6, 0], vec![(1.0, 0.0, vec![read(0, 2), take(1, 1), put(2, 1)])]), most, &[0.0, 9.0]));
+        v.push(case(net(&[n, 6, 0], vec![(1.0, 0.0, vec![block(0, 2), take(1, 1), put(2, 1)])]), most, &[0.0, 9.0]));
+        v.push(case(net(&[n, 6, 0], vec![(1.0, 0.0, vec![block(0, 9), read(0, 0), block(0, 3), read(0, 1), take(1, 1), put(2, 1)])]), most, &[0.0, 9.0]));
+        v.push(case(net(&[n - 1, 6, 0], vec![(0.0, 0.5, vec![block(0, 0), take(1, 1), put(2, 1), put(0, 1)])]), most, &[0.0, 9.0]));
+    }
+    // a taken place that is read too: enabled by the count before the take
+    v.push(case(net(&[5, 0], vec![(1.0, 0.0, vec![take(0, 1), read(0, 2), block(0, 5), put(1, 1)]), (1.0, 0.0, vec![take(0, 3), put(0, 2)])]), most, &[0.0, 50.0]));
+    // rates at both ends and a delay at the end of its domain
+    v.push(case(net(&[3, 0], vec![(2f64.powi(100), 0.0, vec![take(0, 1), put(1, 1)])]), most, &sample));
+    v.push(case(net(&[3, 0], vec![(2f64.powi(-100), 0.0, vec![take(0, 1), put(1, 1)])]), most, &[0.0, 2147483648.0]));
+    v.push(case(net(&[3, 0], vec![(1.0, 2f64.powi(30), vec![take(0, 1), put(1, 1)]), (-0.0, -0.0, vec![take(1, 2)])]), most, &[0.0, 1073741824.0, 2147483648.0]));
+    v.push(case(net(&[3, 0], vec![(1.0, f64::from_bits(1), vec![take(0, 1), put(1, 1)])]), most, &sample));
+    // tables of 2,048 cells and of more; 1,024 instants
+    let many: Vec<f64> = (0..1024).map(|i| i as f64 / 64.0).collect();
+    v.push(case(net(&[20, 0], vec![(0.125, 0.0, vec![take(0, 1), put(1, 1)])]), most, &many));
+    v.push(case(net(&[20, 0, 0], vec![(0.125, 0.0, vec![take(0, 1), put(1, 1)])]), most, &many));
+    // 12, 13, and 12 before 13 before 11; a net's fault before them
+    let over: Vec<f64> = (0..1025).map(|i| i as f64).collect();
+    for xs in [&[][..], &over, &[1.0, 0.5], &[0.0, f64::NAN], &[f64::NAN], &[-1.0], &[0.0, f64::INFINITY], &[2147483649.0], &[-f64::from_bits(1)]] {
+        v.push(case(line(), most, xs));
+    }
+    for limit in [0, most + 1, u64::MAX] {
+        v.push(case(line(), limit, &sample));
+    }
+    v.push(case(net(&[20, 0, 0], vec![]), 0, &[1.0, 0.5]));
+    v.push(case(net(&[20, 0, 0], vec![]), 0, &many));
+    v.push(case(net(&[full + 1], vec![]), 0, &[1.0, 0.5]));
+    v.push(case(net(&[0; 33], vec![]), most, &sample));
+    v.push(case(net(&[], vec![]), most, &sample));
+    v.push(case(net(&[1], vec![(1.0, 1.0, vec![put(0, 1)])]), most, &sample));
+    v.push(case(net(&[1], vec![(1.0, 0.0, vec![take(0, 1), plain(0, 1)])]), most, &sample));
+    v.push(case(net(&[1], vec![(1.0, 0.0, vec![take(1, 1)])]), most, &sample));
+    v
+}
+
+// ---- cases drawn
+
+fn one_of<T: Copy>(draw: &mut Draw, xs: &[T]) -> T {
+    xs[draw.below(xs.len() as u64) as usize]
+}
+
+fn drawn_arcs(draw: &mut Draw, places: usize, timed: bool, most: u64) -> Vec<Arc> {
+    let mut arcs = vec![];
+    let mut taken = vec![false; places];
+    let mut kinetic_left = 16;
+    for i in 0..1 + draw.below(most) {
+        let place = draw.below(places as u64) as usize;
+        let weight = match draw.below(40) {
+            0..=3 => 0,
+            4..=9 => 2,
+            10..=12 => 3 + draw.below(6) as i64,
+            13 => 1 + draw.below(1000) as i64,
+            _ => 1,
+        };
+        let kind = if i == 0 && (timed || draw.below(4) > 0) { 0 } else { draw.below(10) };
+        match kind {
+            0..=3 if !taken[place] => {
+                let kinetic = draw.below(5) > 0 && amount(weight) <= kinetic_left;
+                if kinetic {
+                    kinetic_left -= amount(weight);
+                }
+                taken[place] = true;
+                arcs.push(Arc::Take { place, weight, kinetic });
+            }
+            8 => arcs.push(read(place, weight)),
+            9 => arcs.push(block(place, weight * (1 + draw.below(12) as i64))),
+            _ => arcs.push(put(place, weight)),
+        }
+    }
+    // line order is free
+    for i in (1..arcs.len()).rev() {
+        arcs.swap(i, draw.below(i as u64 + 1) as usize);
+    }
+    arcs
+}
+
+fn drawn_net(draw: &mut Draw) -> Net {
+    let (places, moves, arcs) = match draw.below(16) {
+        0 => (32, 64, 16),
+        1 => (1 + draw.below(32), draw.below(65), 1 + draw.below(16)),
+        2..=5 => (1 + draw.below(12), 1 + draw.below(16), 6),
+        _ => (1 + draw.below(5), 1 + draw.below(6), 4),
+    };
+    let crowded = draw.below(6) == 0;
+    let with_delays = draw.below(3) > 0;
+    let places: Vec<Place> = (0..places)
+        .map(|_| Place {
+            initial: match draw.below(20) {
+                0..=3 => 0,
+                4 => draw.below(1000) as i64,
+                5..=6 if crowded => MOST_TOKENS - draw.below(4) as i64,
+                7 if crowded => draw.below(1 << 53) as i64,
+                _ => draw.below(20) as i64,
+            },
+            capacity: match draw.below(12) {
+                0..=2 => 1 + draw.below(30) as i64,
+                3 => MOST_TOKENS - draw.below(3) as i64,
+                _ => 0,
+            },
+        })
+        .collect();
+    let moves = (0..moves)
+        .map(|_| {
+            let timed = with_delays && draw.below(3) == 0;
+            Move {
+                rate: match draw.below(24) {
+                    0 => 2f64.powi(draw.below(201) as i32 - 100),
+                    1..=4 => 0.0,
+                    5 => -0.0,
+                    _ => (draw.unit() * 8.0 - 5.0).exp2(),
+                },
+                delay: match draw.below(16) {
+                    _ if !timed => 0.0,
+                    0 => 2f64.powi(draw.below(130) as i32 - 100),
+                    1..=9 => one_of(draw, &[0.25, 0.5, 0.5, 1.0, 1.0, 1.5, 2.0]),
+                    _ => draw.unit() * 4.0,
+                },
+                arcs: drawn_arcs(draw, places.len(), timed, arcs),
+            }
+        })
+        .collect();
+    Net { places, moves }
+}
+
+/// A fault put into a net, so that it is turned down.
+fn spoil(draw: &mut Draw, net: &mut Net) {
+    let p = draw.below(net.places.len() as u64) as usize;
+    match draw.below(6) {
+        0 => net.places[p].initial = MOST_TOKENS + 1,
+        1 => net.places[p].capacity = MOST_TOKENS + 1 + draw.below(9) as i64,
+        n => {
+            if net.moves.is_empty() {
+                return;
+            }
+            let j = draw.below(net.moves.len() as u64) as usize;
+            let m = &mut net.moves[j];
+            match n {
+                2 => m.arcs.insert(0, read(net.places.len(), 1)),
+                3 => m.rate = one_of(draw, &[f64::NAN, -1.0, 2f64.powi(-101), 2f64.powi(101), f64::INFINITY]),
+                4 => m.delay = one_of(draw, &[f64::NAN, -1.0, 2f64.powi(31), 0.5]),
+                _ => m.arcs.push(take(p, 1 + draw.below(17) as i64)),
+            }
+        }
+    }
+}
+
+fn drawn_instants(draw: &mut Draw, places: usize) -> Vec<f64> {
+    let n = match draw.below(12) {
+        0 => 1,
+        1 => 1 + draw.below(1024.min((CELLS / places) as u64)) as usize,
+        _ => 1 + draw.below(12) as usize,
+    };
+    let end = match draw.below(12) {
+        0 => (draw.unit() * 40.0 - 10.0).exp2(),
+        _ => one_of(draw, &[0.5, 1.0, 2.0, 3.0, 4.0, 6.0, 10.0]),
+    };
+    let mut xs: Vec<f64> = match draw.below(3) {
+        0 => (0..n).map(|i| i as f64 * (end / (n.max(2) - 1) as f64)).collect(),
+        1 => (0..n).map(|_| (draw.unit() * end * 4.0).ceil() / 4.0).collect(),
+        _ => (0..n).map(|_| draw.unit() * end).collect(),
+    };
+    for i in 1..n {
+        if draw.below(10) == 0 {
+            xs[i] = xs[i - 1];
+        }
+    }
+    if draw.below(4) == 0 {
+        xs[0] = one_of(draw, &[0.0, -0.0]);
+    }
+    xs.sort_by(|a, b| a.partial_cmp(b).unwrap());
+    xs
+}
+
+fn drawn_state(draw: &mut Draw) -> [u64; 4] {
+    match draw.below(12) {
+        0 => [0; 4],
+        1 => [1, 2, 3, 4],
+        2..=3 => draw.state(),
+        _ => [draw.word(), draw.word(), draw.word(), draw.word()],
+    }
+}
+
+/// How many steps a drawn run may take.
+const SHORT: u64 = 2000;
+
+/// A case with its answer. A run that would be long is cut by its limit or by an earlier last instant.
+pub fn drawn(draw: &mut Draw) -> (Case, Answer) {
+    let mut net = drawn_net(draw);
+    if draw.below(25) == 0 {
+        spoil(draw, &mut net);
+    }
+    let instants = drawn_instants(draw, net.places.len());
+    let mut case = Case { net, state: drawn_state(draw), limit: SHORT, instants };
+    let mut answer = play(&case);
+    if answer.end == End::Spent && answer.clock > 0.0 && draw.below(4) > 0 {
+        let share = answer.clock / case.instants.last().unwrap() * (0.2 + 0.7 * draw.unit());
+        case.instants.iter_mut().for_each(|x| *x *= share);
+        answer = play(&case);
+    }
+    case.limit = match draw.below(10) {
+        0 => 1 + draw.below(SHORT),
+        1..=2 => 1 + draw.below(answer.steps + 2),
+        _ if answer.end == End::Spent => SHORT,
+        _ => MOST_STEPS,
+    };
+    answer = play(&case);
+    (case, answer)
+}
+
+// ---- batches
+
+#[derive(Default)]
+struct Batch {
+    input: String,
+    answers: String,
+    cases: u64,
+    source: u64,
+    differ: u64,
+    kinds: std::collections::BTreeMap<String, u64>,
+}
+
+impl Batch {
+    fn add(&mut self, case: &Case, answer: &Answer) {
+        self.cases += 1;
+        if let Some(agrees) = source_agrees(case, answer) {
+            self.source += 1;
+            if !agrees {
+                self.differ += 1;
+                eprintln!("case {}: the source differs from the rules as worked here", self.cases);
+            }
+        }
+        *self.kinds.entry(format!("{:?}", answer.end)).or_default() += 1;
+        put_case(&mut self.input, case);
+        self.answers.push_str(&answer.line(case));
+    }
+
+    fn write(&self, input: &str, answers: &str) {
+        for (path, text) in [(input, &self.input), (answers, &self.answers)] {
+            std::fs::write(path, text).unwrap_or_else(|e| panic!("{path}: {e}"));
+        }
+        let kinds: Vec<String> = self.kinds.iter().map(|(k, n)| format!("{k} {n}")).collect();
+        println!("{} paths ({}); the source answers {} of them, {} otherwise", self.cases, kinds.join(", "), self.source, self.differ);
+        assert_eq!(self.differ, 0);
+    }
+}
+
+/// Writes FILE.in and FILE.out: so many cases drawn from the seed.
+pub fn batch(seed: u64, count: u64, file: &str) {
+    let mut draw = Draw::new(seed);
+    let mut batch = Batch::default();
+    for _ in 0..count {
+        let (case, answer) = drawn(&mut draw);
+        batch.add(&case, &answer);
+    }
+    batch.write(&format!("{file}.in"), &format!("{file}.out"));
+}
+
+/// Writes the recorded sample: the cases at edges, and some drawn ones of few cells.
+pub fn record(folder: &str) {
+    let mut draw = Draw::new(crate::sample::SEED);
+    let mut batch = Batch::default();
+    for case in edges() {
+        batch.add(&case, &play(&case));
+    }
+    let mut left = 40;
+    while left > 0 {
+        let (case, answer) = drawn(&mut draw);
+        if case.net.places.len() * case.instants.len() <= 60 && answer.steps <= 400 {
+            batch.add(&case, &answer);
+            left -= 1;
+        }
+    }
+    batch.write(&format!("{folder}/stdin"), &format!("{folder}/stdout"));
+}
+
+// ---- for the benchmark
+
+/// Three nets, small to large, each with a run of some thousand steps.
+pub fn measured() -> Vec<(&'static str, Case)> {
+    let grid: Vec<f64> = (0..64).map(|i| i as f64 / 63.0).collect();
+    let scaled = |end: f64| grid.iter().map(|x| x * end).collect::<Vec<f64>>();
+    let small = net(&[1_000_000, 0], vec![(1.0, 0.0, vec![take(0, 1), put(1, 1)])]);
+    let ring = |j: usize| if j % 4 == 3 { (0.0, 0.125, vec![take(j % 8, 1), put((j + 3) % 8, 1)]) } else { (1.0, 0.0, vec![take(j % 8, 1), put((j + 1) % 8, 1)]) };
+    let middle = net(&[20; 8], (0..16).map(ring).collect());
+    let wide = |j: usize| {
+        let mut arcs = vec![];
+        for i in 0..4 {
+            let p = j + 5 * i;
+            arcs.extend([take(p % 32, 1), put((p + 3) % 32, 1), read((p + 1) % 32, 1), block((p + 2) % 32, 1000)]);
+        }
+        (2f64.powi(-20), 0.0, arcs)
+    };
+    let large = net(&[50; 32], (0..64).map(wide).collect());
+    vec![
+        ("2 places, 1 transition", case(small, MOST_STEPS, &scaled(0.01))),
+        ("8 places, 16 transitions, timers", case(middle, MOST_STEPS, &scaled(40.0))),
+        ("32 places, 64 transitions, 16 arcs", case(large, MOST_STEPS, &scaled(20.0))),
+    ]
+}
