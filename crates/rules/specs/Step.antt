@@ -73,7 +73,7 @@ passes (suc k) n t m q =
     let again = passes k n t in
     unlessNone again (pass n t 0 (n .transitions) m q)
 
--- 257 passes are enough: each but the last starts a timer, and at most 256 run (Rules, starts-done)
+-- 257 passes are enough: each but the last starts a timer, and at most 256 run (proofs/Detours, starts-done)
 abbrev pub starts : Net → State → Answer Starts
 starts n s = passes 257 n (s .clock) (s .counts) (s .timers)
 
@@ -122,7 +122,7 @@ event n s e timers g =
 abbrev pub complete : Net → State → Answer Event
 complete n s = event n s (completed (first (s .timers) .who)) (others (s .timers)) (s .generator)
 
--- A race fires the chosen transition. Where a0 > 0 there is one (Rules, chosen-some); without one nothing would happen.
+-- A race fires the chosen transition. Where a0 > 0 there is one (proofs/Detours, chosen-some); without one nothing would happen.
 abbrev pub fire : Net → State → Option ℕ → Answer Event
 fire n s none = given (record { what = []; leaves = s })
 fire n s (some j) = event n s (fired j) (s .timers) (s .generator)
@@ -135,7 +135,7 @@ raced n s a0 xs =
 
 -- ---- the step
 
--- Nothing is left: none has started and nothing was drawn (Rules, still-same, not-drawn). Or these start, the clock is set, which gives this
+-- Nothing is left: none has started and nothing was drawn (proofs/Detours, still-same and not-drawn). Or these start, the clock is set, which gives this
 -- state, and this event follows unless the clock is now past the last instant.
 pub data Step : Type 0 where
   still : Step
