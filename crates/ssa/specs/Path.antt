@@ -37,7 +37,7 @@ pub record Call : Type 0 where
   pub generator : Generator
   pub table : List Float
 
--- a refusal gives the generator back as lent, and says nothing of steps, settled instants and peak
+-- a refusal gives the generator back as lent, and 0 for steps, settled instants and peak
 abbrev pub turnedDown : ℕ → Generator → List Float → Call
 turnedDown c g table = record { end = refused c; steps = 0; settled = 0; peak = 0; generator = g; table = table }
 
