@@ -54,6 +54,14 @@ pub amount-pos : (w : ℕ) → (w ≡ 0 → ⊥) → amount w ≡ w
 amount-pos zero h = absurd (h refl)
 amount-pos (suc w) h = refl
 
+pub amount-above : (w : ℕ) → 0 < amount w
+amount-above zero = omega arith
+amount-above (suc w) = omega arith
+
+pub amount-one : (w : ℕ) → w ≤ 1 → amount w ≡ 1
+amount-one zero h = refl
+amount-one (suc w) h = omega arith
+
 pub amount-most : (w : ℕ) → w ≤ 1_000_000 → amount w ≤ 1_000_000
 amount-most zero h = omega arith
 amount-most (suc w) h = h

@@ -5,6 +5,7 @@ pub mod Limits
 pub mod Lists
 pub mod Tidying
 pub mod Marks
+pub mod OneWay
 pub mod Factors
 pub mod Totals
 pub mod TimerList
@@ -15,3 +16,5 @@ pub mod Playing
 pub mod Accepted
 pub mod Demand3
 pub mod Steps
+pub mod Summing
+pub mod Requested

@@ -193,4 +193,4 @@ module _ (n : NetRecord) (arcs kind place weight : List ℕ) (j : ℕ) (d : Done
       ap with-transitions (transitions-made (n .transitions) 0 (omega arith))
 
   pub made-tidy : Sound n → Tidy made
-  made-tidy s = record { places = s .places; transitions = s .transitions; arcs = d .few; place = d .low; weight = d .light }
+  made-tidy s = record { places = s .places; transitions = s .transitions; arcs = d .few; place = d .low; weight = d .light; capacity = s .capacity }

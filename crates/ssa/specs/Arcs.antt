@@ -1,19 +1,12 @@
--- What one slot asks, puts and takes, by its kind. Summed over the slots of a transition these are the rules' words (proofs/Arcs, Open, Room).
+-- What one slot puts and takes, by its kind. Summed over the slots of a transition these are the rules' words (proofs/Arcs, Room).
 use Prim.Native.Nat.{ℕ, _≤_, _<_}
 use mathlib.Core.Path.{_≡_}
 use mathlib.Core.Logic.{_⊎_}
-use mathlib.Core.Bool.{Bool}
 use mathlib.Core.List.{List}
-use lib.Dec.{eqb, leb, ltb}
+use lib.Dec.{eqb, leb}
 use lib.ListN.{length, getD}
 use Rattle.net.specs.Net.{pick, amount}
-use Rattle.net.specs.Readable.{isPut, isRead}
-
--- "each input and read place holds at least the weight, each inhibitor place less"; a put asks for a count below its limit
-abbrev pub slotOpen : ℕ → ℕ → ℕ → ℕ → Bool
-slotOpen kind weight limit count =
-    pick (isPut kind) (ltb count limit)
-    (pick (leb kind 1) (leb (amount weight) count) (pick (isRead kind) (leb (amount weight) count) (ltb count (amount weight))))
+use Rattle.net.specs.Readable.{isPut}
 
 -- what a slot puts into place p, and takes from it
 abbrev pub putSlot : ℕ → ℕ → ℕ → ℕ → ℕ

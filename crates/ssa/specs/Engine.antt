@@ -34,13 +34,14 @@ AtMost b xs = (a : ℕ) → getD xs a 0 ≤ b
 abbrev pub Below : ℕ → List ℕ → Type 0
 Below b xs = (a : ℕ) → getD xs a 0 < b
 
--- the bounds that hold in every slot, used or not, once the unused ones are cleared
+-- the bounds of an accepted net; those of slots hold in every slot, used or not, once the unused ones are cleared
 pub record Tidy (n : NetRecord) : Type 0 where
   pub places : n .places ≤ 32
   pub transitions : n .transitions ≤ 64
   pub arcs : AtMost 16 (n .arcs)
   pub place : Below (n .places) (n .place)
   pub weight : AtMost 1_000_000 (n .weight)
+  pub capacity : (p : ℕ) → p < n .places → getD (n .capacity) p 0 ≤ 2 ^ 53
 
 -- whether one of the first k delays is above 0
 abbrev pub someAbove : List Float → Bool

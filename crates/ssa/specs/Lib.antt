@@ -7,3 +7,5 @@ pub mod Stepping
 pub mod Path
 pub mod Playing
 pub mod Demand3
+pub mod Ensemble
+pub mod Summing

@@ -1,5 +1,7 @@
--- The table of limits that a call makes once: a put whose place has a capacity lets its transition run at the counts below its limit.
--- It says the same as document 01's "count + net change ≤ capacity on each place with capacity > 0 and net change > 0" (proofs/Room).
+-- The table of limits that a call makes once: one number for each slot, which says at what counts of its place the slot lets its transition run.
+-- Below 2^63 it is an upper limit: at the counts below it. From 2^63 on it is a lower limit: 2^64 less the smallest count. For a take, a read and a
+-- block the limit is what its arc asks. A put has one where its place has a capacity; it says the same as document 01's "count + net change ≤
+-- capacity on each place with capacity > 0 and net change > 0" (proofs/Room).
 use Prim.Native.Nat.{ℕ, _+_, _-_, _*_, _/_, _<_}
 use mathlib.Core.Path.{_≡_}
 use mathlib.Core.Bool.{Bool, true, false, _||_}
@@ -7,12 +9,20 @@ use mathlib.Core.List.{List}
 use lib.Dec.{eqb, leb, ltb}
 use lib.ListN.{getD}
 use Rattle.net.specs.declared.Net.{Net as NetRecord}
-use Rattle.net.specs.Net.{pick, moved, takenBy}
-use Rattle.net.specs.Readable.{Slot, takesOf, arcsOf, isPut, slotsOf}
+use Rattle.net.specs.Net.{pick, amount, moved, takenBy}
+use Rattle.net.specs.Readable.{Slot, takesOf, arcsOf, isPut, isBlock, slotsOf}
 
--- the largest number of 64 bits: no count reaches it
+-- whether a slot of that limit is open at a count: the lower limits are tested from above
+abbrev pub slotOpen : ℕ → ℕ → Bool
+slotOpen limit count = pick (ltb limit 0x8000_0000_0000_0000) (ltb count limit) (ltb (0xFFFF_FFFF_FFFF_FFFF - count) limit)
+
+-- the largest upper limit: no count reaches it
 abbrev pub noLimit : ℕ
-noLimit = 0xFFFF_FFFF_FFFF_FFFF
+noLimit = 0x7FFF_FFFF_FFFF_FFFF
+
+-- the lower limit that lets the counts from a on pass
+abbrev pub atLeast : ℕ → ℕ
+atLeast a = 0x1_0000_0000_0000_0000 - a
 
 -- at a place of capacity q, for a transition that puts and takes so much there, the counts with room are those below this
 abbrev pub roomLimit : ℕ → ℕ → ℕ → ℕ
@@ -22,13 +32,17 @@ roomLimit q put taken = pick (eqb q 0 || leb put taken) noLimit (q + 1 + taken -
 abbrev pub bound : ℕ → List ℕ → ℕ → ℕ
 bound n capacity p = pick (ltb p n) (getD capacity p 0) 0
 
--- the limit of a slot of that kind and place, among all slots of its transition: none where it is no put
-abbrev pub slotLimit : ℕ → List ℕ → List Slot → ℕ → ℕ → ℕ
-slotLimit n capacity all kind p =
-    pick (isPut kind) (roomLimit (bound n capacity p) (moved (arcsOf isPut all) p) (takenBy (takesOf all) p)) noLimit
+-- "each input and read place holds at least the weight, each inhibitor place less": the limit of a slot that is no put
+abbrev pub arcLimit : ℕ → ℕ → ℕ
+arcLimit kind weight = pick (isBlock kind) (amount weight) (atLeast (amount weight))
+
+-- the limit of a slot of that kind, place and weight, among all slots of its transition
+abbrev pub slotLimit : ℕ → List ℕ → List Slot → ℕ → ℕ → ℕ → ℕ
+slotLimit n capacity all kind p weight =
+    pick (isPut kind) (roomLimit (bound n capacity p) (moved (arcsOf isPut all) p) (takenBy (takesOf all) p)) (arcLimit kind weight)
 
 abbrev pub limitAt : NetRecord → ℕ → ℕ
-limitAt n a = slotLimit (n .places) (n .capacity) (slotsOf n (a / 16)) (getD (n .kind) a 0) (getD (n .place) a 0)
+limitAt n a = slotLimit (n .places) (n .capacity) (slotsOf n (a / 16)) (getD (n .kind) a 0) (getD (n .place) a 0) (getD (n .weight) a 0)
 
 -- the table says it of every slot of every transition
 abbrev pub Limits : NetRecord → List ℕ → Type 0

@@ -2,6 +2,7 @@
 mod accept;
 mod event;
 mod marking;
+mod members;
 mod record;
 mod run;
 mod slots;
@@ -11,6 +12,7 @@ mod timers;
 
 ghost use mathlib.Core.Path.{_≡_};
 ghost use Rattle.rng.specs.State as Random;
+ghost use Rattle.ssa.specs.Ensemble as Ensemble;
 ghost use Rattle.ssa.specs.Path as Path;
 use net::Net;
 use net::Verdict;
@@ -30,6 +32,14 @@ pub struct PathAnswer {
     pub settled: u64,
     pub peak: u64,
     pub generator: Xoshiro256,
+}
+
+// How many paths of an ensemble were spent, and whether there are deviations; or the number by which the call was turned down; or the number by which a
+// path was refused, and the path's own.
+pub enum EnsembleAnswer {
+    Averaged(u64, bool),
+    TurnedDown(u64),
+    Stopped(u64, u64),
 }
 
 // A path of the net from the generator's state: place p at instant i is cell p * n + i of the table, n instants. The end, the steps, how many
@@ -59,4 +69,55 @@ pub fn path(
         return accept::turned_down(refusals::SHORT_TABLE, generator);
     }
     accept::accepted_path(net, generator, instants, limit, table)
+}
+
+// Paths from consecutive seeds over a grid of instants: their means and deviations go to the first cells of those tables, place p at instant i in cell
+// p * samples + i, and the last path to the path table. How many paths were spent is the answer, and whether there are deviations. A net, samples,
+// realizations, a horizon or a table that does not fit is turned down with nothing touched; a path that is refused leaves +0 in the answer's cells of
+// all three tables, and its number is given.
+pub fn ensemble(
+    net: Net,
+    samples: u64,
+    realizations: u64,
+    seed: u64,
+    horizon: f64,
+    mean: &mut [f64],
+    deviation: &mut [f64],
+    path: &mut [f64],
+) -> EnsembleAnswer
+    ensures { λ r. ⌜ Ensemble.callOf r (now (mean .exit)) (now (deviation .exit)) (now (path .exit))
+        ≡ Ensemble.called net (record { samples = samples; realizations = realizations; seed = seed; horizon = horizon })
+        (record { mean = now (mean .entry); deviation = now (deviation .entry); path = now (path .entry) }) ⌝ }
+{
+    if let Verdict::Refused(c) = net::test_net(net) {
+        return EnsembleAnswer::TurnedDown(c);
+    }
+    if let Verdict::Refused(c) = averages::request::request_fault(
+        samples,
+        realizations,
+        seed,
+        horizon,
+    ) {
+        return EnsembleAnswer::TurnedDown(c);
+    }
+    let places = net.places;
+    let cells = places * (samples as usize);
+    if let Verdict::Refused(c) = averages::request::tables_fault(
+        cells,
+        mean.len(),
+        deviation.len(),
+        path.len(),
+    ) {
+        return EnsembleAnswer::TurnedDown(c);
+    }
+    members::accepted(
+        net,
+        samples,
+        realizations,
+        seed,
+        horizon,
+        mean,
+        deviation,
+        path,
+    )
 }

@@ -11,25 +11,18 @@ ghost use Rattle.rules.specs.Propensity as Propensity;
 ghost use Rattle.rules.specs.Moves as Moves;
 ghost use Rattle.ssa.specs.Engine as Engine;
 ghost use Rattle.ssa.specs.Limits as Limits;
-ghost use Rattle.ssa.specs.Arcs as Arcs;
 use crate::slots;
 use combinations::Ways;
 
-// Does one slot let its transition run, at the count of its place?
-fn slot_open(kind: u64, weight: u64, limit: u64, count: u64) -> bool
-    ensures { λ r. ⌜ r ≡ Arcs.slotOpen kind weight limit count ⌝ }
+// Does a slot of this limit let its transition run, at the count of its place? Below 2^63 the limit is one from above, else 2^64 less one from below;
+// so it compiles to one comparison.
+fn slot_open(limit: u64, count: u64) -> bool
+    ensures { λ r. ⌜ r ≡ Limits.slotOpen limit count ⌝ }
 {
-    if kind == 2 {
+    if limit < 0x8000_0000_0000_0000 {
         return count < limit;
     }
-    let a = slots::amount(weight);
-    if kind <= 1 {
-        return a <= count;
-    }
-    if kind == 3 {
-        return a <= count;
-    }
-    count < a
+    0xFFFF_FFFF_FFFF_FFFF - count < limit
 }
 
 // May transition j run, at these counts? By the table of limits.
@@ -62,7 +55,7 @@ pub fn enabled<'a>(
     let mut a = from;
     while a < end {
         let p = place[a];
-        if !slot_open(kind[a], weight[a], limit[a], counts[p]) {
+        if !slot_open(limit[a], counts[p]) {
             return false;
         }
         a += 1;
@@ -95,42 +88,21 @@ fn rate_of(rate: f64, delay: f64) -> f64
     rate
 }
 
-// x times the ways of one slot, at the count of its place: only a kinetic take has them.
+// x times the ways of one slot, at the count of its place: only a kinetic take has them. A single token is taken in as many ways as there are tokens.
 fn times(x: f64, kind: u64, weight: u64, count: u64) -> f64
     requires { ⌜ (count ≤ 2 ^ 53) × (weight ≤ 1_000_000) ⌝ }
     ensures { λ r. ⌜ r ≡ Reader.pick (eqb kind 0) (mul binary64 x (Propensity.ways count (Reader.amount weight))) x ⌝ }
 {
     if kind == 0 {
-        return x * ways(count, slots::amount(weight));
+        if weight <= 1 {
+            return x * (count as i64 as f64);
+        }
+        return x * ways(count, weight);
     }
     x
 }
 
-// A rate times the ways of the slots from `from` to before `end`.
-fn factored<'a>(
-    kind: &'a [u64; 1024],
-    place: &'a [usize; 1024],
-    weight: &'a [u64; 1024],
-    counts: &[u64; 32],
-    from: usize,
-    end: usize,
-    rate: f64,
-) -> f64
-    requires { ⌜ (end ≤ 1024) × Engine.Below 32 (now place) × Engine.AtMost 1_000_000 (now weight) × Engine.Counts (now counts) ⌝ }
-    ensures { λ r. ⌜ r ≡ Propensity.factored (now (counts .entry)) rate
-        (Record.takesOf (Record.slots (now (kind .entry)) (now (place .entry)) (now (weight .entry)) from (end - from))) ⌝ }
-{
-    let mut x = rate;
-    let mut a = from;
-    while a < end {
-        let p = place[a];
-        x = times(x, kind[a], weight[a], counts[p]);
-        a += 1;
-    }
-    x
-}
-
-// The propensity of transition j, at these counts.
+// The propensity of transition j, at these counts: its rate times the ways of its slots, and 0 from the first slot on that is not open.
 fn propensity<'a>(
     places: usize,
     transitions: usize,
@@ -155,34 +127,20 @@ fn propensity<'a>(
         (Record.transition (Engine.netOf places transitions (now (initial .entry)) (now (capacity .entry)) (now (rate .entry)) (now (delay .entry))
         (now (arcs .entry)) (now (kind .entry)) (now (place .entry)) (now (weight .entry))) j) ⌝ }
 {
-    if !enabled(
-        places,
-        transitions,
-        initial,
-        capacity,
-        rate,
-        delay,
-        arcs,
-        kind,
-        place,
-        weight,
-        limit,
-        counts,
-        j,
-    ) {
-        return 0.0;
-    }
     let from = 16 * j;
     let end = from + arcs[j];
-    factored(
-        kind,
-        place,
-        weight,
-        counts,
-        from,
-        end,
-        rate_of(rate[j], delay[j]),
-    )
+    let mut x = rate_of(rate[j], delay[j]);
+    let mut a = from;
+    while a < end {
+        let p = place[a];
+        let c = counts[p];
+        if !slot_open(limit[a], c) {
+            return 0.0;
+        }
+        x = times(x, kind[a], weight[a], c);
+        a += 1;
+    }
+    x
 }
 
 // Fills the table of propensities, and answers their total.

@@ -1,4 +1,4 @@
-// The slots of a net's arcs: cleared where they are not used, and the limits that capacities set, both once a call.
+// The slots of a net's arcs: cleared where they are not used, and the limit of each, both once a call.
 ghost use mathlib.Core.Path.{_≡_};
 ghost use mathlib.Core.Option.{none};
 ghost use Prim.Native.Nat.{ℕ, _+_, _-_, _*_, _^_, _<_, _≤_};
@@ -91,7 +91,7 @@ pub fn amount(w: u64) -> u64
 }
 
 // No count reaches it.
-const NO_LIMIT: u64 = 0xFFFF_FFFF_FFFF_FFFF;
+const NO_LIMIT: u64 = 0x7FFF_FFFF_FFFF_FFFF;
 
 // What a transition puts into a place, and takes from it.
 struct Change {
@@ -172,6 +172,18 @@ fn room_limit(q: u64, c: Change) -> u64
     q - more + 1
 }
 
+// The limit of a slot that is no put: from above for a block, else from below.
+fn arc_limit(kind: u64, weight: u64) -> u64
+    requires { ⌜ weight ≤ 1_000_000 ⌝ }
+    ensures { λ r. ⌜ r ≡ Limits.arcLimit kind weight ⌝ }
+{
+    let w = amount(weight);
+    if net::BLOCK <= kind {
+        return w;
+    }
+    0xFFFF_FFFF_FFFF_FFFF - w + 1
+}
+
 // The limit of slot a.
 fn slot_limit<'a>(
     places: usize,
@@ -190,8 +202,9 @@ fn slot_limit<'a>(
     ensures { λ r. ⌜ r ≡ Limits.limitAt (Engine.netOf places transitions (now (initial .entry)) (now (capacity .entry)) (now (rate .entry)) (now (delay .entry))
         (now (arcs .entry)) (now (kind .entry)) (now (place .entry)) (now (weight .entry))) a ⌝ }
 {
-    if kind[a] != net::PUT {
-        return NO_LIMIT;
+    let k = kind[a];
+    if k != net::PUT {
+        return arc_limit(k, weight[a]);
     }
     let j = a / 16;
     let from = 16 * j;

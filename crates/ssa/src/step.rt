@@ -468,13 +468,13 @@ pub fn one_step<'a>(
             }
         }
         Due::Completion => {
-            let seen = show(instants, table, counts, places, clock, s.next, s.peak);
+            let shown = show(instants, table, counts, places, clock, s.next, s.peak);
             if last < clock {
                 let now = Now {
                     clock: clock,
                     timers: running,
-                    next: seen.next,
-                    peak: seen.peak,
+                    next: shown.next,
+                    peak: shown.peak,
                     rng: g,
                 };
                 return Stepped {
@@ -506,8 +506,8 @@ pub fn one_step<'a>(
                 let now = Now {
                     clock: clock,
                     timers: left,
-                    next: seen.next,
-                    peak: seen.peak,
+                    next: shown.next,
+                    peak: shown.peak,
                     rng: g,
                 };
                 return Stepped {
@@ -518,8 +518,8 @@ pub fn one_step<'a>(
             let now = Now {
                 clock: clock,
                 timers: left,
-                next: seen.next,
-                peak: seen.peak,
+                next: shown.next,
+                peak: shown.peak,
                 rng: g,
             };
             Stepped {

@@ -1,54 +1,55 @@
+-- The slots that are left are open where the transition is enabled. Assumes nothing.
 use lib.ListN.{getD}
 use borrow.Author.Tests.{not-true, not-false}
 use Rattle.net.specs.Readable.{readable, transition}
 use Rattle.rules.specs.Enabled.{enabled}
 use Rattle.ssa.specs.Engine.{netOf, marking}
+use Rattle.ssa.specs.Limits.{limitAt}
 use Rattle.ssa.proofs.Arcs.{and-stop, and-go}
 use Rattle.ssa.proofs.Limits.{openFrom, open-all, from-turn, from-end}
 use borrow.Author.Needs.{needs}
 use native.Mathlib.Omega.{arith}
-use mathlib.Core.Path.{_≡_, refl, sym, ap, _∙_}
-use Prim.Native.Nat.{ℕ, _+_, _-_, _*_, _≤_, _<_}
+use mathlib.Core.Path.{_≡_, sym, _∙_}
+use Prim.Native.Nat.{_+_, _-_, _*_, _<_}
 use Rattle.ssa.proofs.marking.enabled.Statement.{statement}
 use Rattle.ssa.proofs.marking.enabled.Tie as tie
 
 abbrev Inv-loop : tie.InvT-loop
 Inv-loop places transitions initial capacity rate delay arcs kind place weight limit counts j from end a₀ a =
-    openFrom kind place weight limit counts a (end - a) ≡ (let n = netOf places transitions initial capacity rate delay arcs kind place weight in enabled (readable n) (marking places counts) (transition n j))
+    let n = netOf places transitions initial capacity rate delay arcs kind place weight in
+    openFrom (limitAt n) place counts a (end - a) ≡ enabled (readable n) (marking places counts) (transition n j)
 
 abbrev μ-loop : tie.MeasureT-loop
-μ-loop places transitions initial capacity rate delay arcs kind place weight limit counts j from end a₀ a =
-    end - a
+μ-loop places transitions initial capacity rate delay arcs kind place weight limit counts j from end a₀ a = end - a
 
-mul-from : tie.Need-mul-from Inv-loop μ-loop
-mul-from c =
-    omega (arith, c .pre .0, c .pre .1 .transitions)
-
-mul-end : tie.Need-mul-end Inv-loop μ-loop
-mul-end c =
-    omega (arith, c .pre .0, c .pre .1 .transitions)
-
-element-copy-out-end : tie.Need-element-copy-out-end Inv-loop μ-loop
-element-copy-out-end c =
-    omega (arith, c .pre .0, c .pre .1 .transitions)
-
-add-end : tie.Need-add-end Inv-loop μ-loop
-add-end c = omega (arith, c .before .pre .0, c .before .pre .1 .transitions, c .before .pre .1 .arcs (c .before .args .j))
-
--- the line is one of the table
+-- the slot is one of the table
 in-table : (c : tie.In-loop Inv-loop μ-loop) → c .before .loop .a < 1024
 in-table c =
     let s = c .before .before .before in
     omega (arith, c .loop-test .taken, s .pre .0, s .pre .1 .transitions, s .pre .1 .arcs (s .args .j))
 
+mul-from : tie.Need-mul-from Inv-loop μ-loop
+mul-from c = omega (arith, c .pre .0, c .pre .1 .transitions)
+
+mul-end : tie.Need-mul-end Inv-loop μ-loop
+mul-end c = omega (arith, c .pre .0, c .pre .1 .transitions)
+
+element-copy-out-end : tie.Need-element-copy-out-end Inv-loop μ-loop
+element-copy-out-end c = omega (arith, c .pre .0, c .pre .1 .transitions)
+
+add-end : tie.Need-add-end Inv-loop μ-loop
+add-end c = omega (arith, c .before .pre .0, c .before .pre .1 .transitions, c .before .pre .1 .arcs (c .before .args .j))
+
 loop-holds : tie.Need-loop-holds Inv-loop μ-loop
-loop-holds c = let s = c .before .args in open-all (netOf (s .places) (s .transitions) (s .initial .now) (s .capacity .now) (s .rate .now) (s .delay .now) (s .arcs .now) (s .kind .now) (s .place .now) (s .weight .now)) (s .counts .now) (s .limit .now) (s .j) (c .before .pre .0) (c .before .pre .1) (c .before .pre .2) (c .before .pre .3 .small)
+loop-holds c =
+    let s = c .before .args in
+    open-all (netOf (s .places) (s .transitions) (s .initial .now) (s .capacity .now) (s .rate .now) (s .delay .now) (s .arcs .now) (s .kind .now) (s .place .now) (s .weight .now)) (s .counts .now) (s .j) (c .before .pre .1) (c .before .pre .3 .small)
 
 mul-p : tie.Need-mul-p Inv-loop μ-loop
-mul-p c = omega (arith, in-table (c))
+mul-p c = omega (arith, in-table c)
 
 element-copy-out-p : tie.Need-element-copy-out-p Inv-loop μ-loop
-element-copy-out-p c = omega (arith, in-table (c))
+element-copy-out-p c = omega (arith, in-table c)
 
 mul-slot-open : tie.Need-mul-slot-open Inv-loop μ-loop
 mul-slot-open c = omega (arith, in-table (c .before))
@@ -57,26 +58,14 @@ element-copy-out-slot-open : tie.Need-element-copy-out-slot-open Inv-loop μ-loo
 element-copy-out-slot-open c = omega (arith, in-table (c .before))
 
 mul-slot-open-2 : tie.Need-mul-slot-open-2 Inv-loop μ-loop
-mul-slot-open-2 c = omega (arith, in-table (c .before .before))
-
-element-copy-out-slot-open-2 : tie.Need-element-copy-out-slot-open-2 Inv-loop μ-loop
-element-copy-out-slot-open-2 c = omega (arith, in-table (c .before .before))
-
-mul-slot-open-3 : tie.Need-mul-slot-open-3 Inv-loop μ-loop
-mul-slot-open-3 c = omega (arith, in-table (c .before .before .before))
-
-element-copy-out-slot-open-3 : tie.Need-element-copy-out-slot-open-3 Inv-loop μ-loop
-element-copy-out-slot-open-3 c = omega (arith, in-table (c .before .before .before))
-
-mul-slot-open-4 : tie.Need-mul-slot-open-4 Inv-loop μ-loop
-mul-slot-open-4 c =
-    let l = c .before .before .before .before .before in
+mul-slot-open-2 c =
+    let l = c .before .before .before in
     let s = l .before .before in
     omega (arith, s .pre .1 .place (l .loop .a), s .pre .1 .places)
 
-element-copy-out-slot-open-4 : tie.Need-element-copy-out-slot-open-4 Inv-loop μ-loop
-element-copy-out-slot-open-4 c =
-    let l = c .before .before .before .before .before in
+element-copy-out-slot-open-2 : tie.Need-element-copy-out-slot-open-2 Inv-loop μ-loop
+element-copy-out-slot-open-2 c =
+    let l = c .before .before .before in
     let s = l .before .before in
     omega (arith, s .pre .1 .place (l .loop .a), s .pre .1 .places)
 
@@ -85,27 +74,35 @@ slot-open-requires c κs = search needs
 
 returns : tie.Need-returns Inv-loop μ-loop
 returns c =
-    let l = c .before .before .before .before .before .before .before in
-    let s = l .before .before .before .args in
-    and-stop _ _ (from-turn (s .kind .now) (s .place .now) (s .weight .now) (s .limit .now) (s .counts .now) (l .before .loop .a) (16 * s .j + getD (s .arcs .now) (s .j) 0) (l .loop-test .taken) (l .before .loop .inv)) (sym (c .before .slot-open .ensures) ∙ not-true _ (c .if1 .taken))
+    let l = c .before .before .before .before .before in
+    let r = l .before .before .before in
+    let s = r .args in
+    and-stop _ _
+    (from-turn (netOf (s .places) (s .transitions) (s .initial .now) (s .capacity .now) (s .rate .now) (s .delay .now) (s .arcs .now) (s .kind .now) (s .place .now) (s .weight .now)) (s .counts .now) (s .limit .now) (l .before .loop .a) (16 * s .j + getD (s .arcs .now) (s .j) 0) (r .pre .2)
+    (omega (arith, l .loop-test .taken, r .pre .0, r .pre .1 .arcs (s .j))) (l .loop-test .taken) (l .before .loop .inv))
+    (sym (c .before .slot-open .ensures) ∙ not-true _ (c .if1 .taken))
 
 add-a : tie.Need-add-a Inv-loop μ-loop
-add-a c = omega (arith, in-table (c .before .before .before .before .before .before .before))
+add-a c = omega (arith, in-table (c .before .before .before .before .before))
 
 loop-less : tie.Need-loop-less Inv-loop μ-loop
 loop-less c = search needs
 
 loop-again : tie.Need-loop-again Inv-loop μ-loop
 loop-again c =
-    let l = c .before .before .before .before .before .before .before in
-    let s = l .before .before .before .args in
-    and-go _ _ (from-turn (s .kind .now) (s .place .now) (s .weight .now) (s .limit .now) (s .counts .now) (l .before .loop .a) (16 * s .j + getD (s .arcs .now) (s .j) 0) (l .loop-test .taken) (l .before .loop .inv)) (sym (c .before .slot-open .ensures) ∙ not-false _ (c .if1 .left))
+    let l = c .before .before .before .before .before in
+    let r = l .before .before .before in
+    let s = r .args in
+    and-go _ _
+    (from-turn (netOf (s .places) (s .transitions) (s .initial .now) (s .capacity .now) (s .rate .now) (s .delay .now) (s .arcs .now) (s .kind .now) (s .place .now) (s .weight .now)) (s .counts .now) (s .limit .now) (l .before .loop .a) (16 * s .j + getD (s .arcs .now) (s .j) 0) (r .pre .2)
+    (omega (arith, l .loop-test .taken, r .pre .0, r .pre .1 .arcs (s .j))) (l .loop-test .taken) (l .before .loop .inv))
+    (sym (c .before .slot-open .ensures) ∙ not-false _ (c .if1 .left))
 
 returns-2 : tie.Need-returns-2 Inv-loop μ-loop
 returns-2 c =
     let l = c .before in
     let s = l .before .before .args in
-    from-end (s .kind .now) (s .place .now) (s .weight .now) (s .limit .now) (s .counts .now) (l .loop .a) (16 * s .j + getD (s .arcs .now) (s .j) 0) (c .loop-test .left) (l .loop .inv)
+    from-end (netOf (s .places) (s .transitions) (s .initial .now) (s .capacity .now) (s .rate .now) (s .delay .now) (s .arcs .now) (s .kind .now) (s .place .now) (s .weight .now)) (s .counts .now) (s .limit .now) (l .loop .a) (16 * s .j + getD (s .arcs .now) (s .j) 0) (c .loop-test .left) (l .loop .inv)
 
 pub enabled-spec : {M : Type 1} → statement M
 enabled-spec =
@@ -124,10 +121,6 @@ enabled-spec =
     element-copy-out-slot-open
     mul-slot-open-2
     element-copy-out-slot-open-2
-    mul-slot-open-3
-    element-copy-out-slot-open-3
-    mul-slot-open-4
-    element-copy-out-slot-open-4
     slot-open-requires
     returns
     add-a

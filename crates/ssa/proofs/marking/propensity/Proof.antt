@@ -1,75 +1,170 @@
--- Not enabled, it is 0; else the factors over the counts are those over the marking. Assumes nothing.
+-- The slots that are left are open where the transition is enabled, and their factors, on top of x, come to the whole. At a slot that is not open
+-- the transition is not enabled, and its propensity is 0. Assumes nothing.
+use lib.ListN.{getD}
+use lib.Ieee.{Float}
+use mathlib.Core.Bool.{true, false}
+use mathlib.Core.List.{List}
+use mathlib.Core.Path.{_≡_, refl, sym, ap, _∙_}
+use Prim.Native.Nat.{_+_, _-_, _*_, _<_}
 use native.Mathlib.Omega.{arith}
 use borrow.Author.Needs.{needs}
 use borrow.Author.Tests.{not-true, not-false}
-use Rattle.ssa.specs.Engine.{netOf}
-use Rattle.ssa.proofs.Factors.{prop-stop, prop-go}
+use Rattle.net.specs.Net.{rateOf}
+use Rattle.net.specs.Readable.{Slot, slots, takesOf, readable, transition}
+use Rattle.rules.specs.Enabled.{enabled}
+use Rattle.rules.specs.Propensity.{factored}
+use Rattle.ssa.specs.Engine.{netOf, marking}
+use Rattle.ssa.specs.Limits.{limitAt}
+use Rattle.ssa.proofs.Arcs.{and-stop, and-go, slots-end}
+use Rattle.ssa.proofs.Limits.{openFrom, open-all, from-turn, from-end}
+use Rattle.ssa.proofs.Factors.{factored-turn, prop-stop, prop-go}
 use Rattle.ssa.proofs.marking.propensity.Statement.{statement}
 use Rattle.ssa.proofs.marking.propensity.Tie as tie
 
-enabled-requires : tie.Need-enabled-requires
-enabled-requires c κs = c .pre
+abbrev Inv-loop : tie.InvT-loop
+Inv-loop places transitions initial capacity rate delay arcs kind place weight limit counts j from end x₀ a₀ x a =
+    let n = netOf places transitions initial capacity rate delay arcs kind place weight in
+    (openFrom (limitAt n) place counts a (end - a) ≡ enabled (readable n) (marking places counts) (transition n j))
+    × (factored counts x (takesOf (slots kind place weight a (end - a))) ≡ factored counts (rateOf (transition n j)) (takesOf (slots kind place weight from (end - from))))
 
-returns : tie.Need-returns
-returns c =
-    let s = c .before .before .args in
-    prop-stop (netOf (s .places) (s .transitions) (s .initial .now) (s .capacity .now) (s .rate .now) (s .delay .now) (s .arcs .now) (s .kind .now) (s .place .now) (s .weight .now)) (s .counts .now) (s .j) (c .before .enabled .result) (c .before .enabled .ensures) (not-true _ (c .if1 .taken))
+abbrev μ-loop : tie.MeasureT-loop
+μ-loop places transitions initial capacity rate delay arcs kind place weight limit counts j from end x₀ a₀ x a = end - a
 
-mul-from : tie.Need-mul-from
-mul-from c = omega (arith, c .before .before .pre .0, c .before .before .pre .1 .transitions)
+-- the slot is one of the table
+in-table : (c : tie.In-loop Inv-loop μ-loop) → c .before .loop .a < 1024
+in-table c =
+    let s = c .before .before .before .before .before .before in
+    omega (arith, c .loop-test .taken, s .pre .0, s .pre .1 .transitions, s .pre .1 .arcs (s .args .j))
 
-mul-end : tie.Need-mul-end
-mul-end c = omega (arith, c .before .before .pre .0, c .before .before .pre .1 .transitions)
+mul-from : tie.Need-mul-from Inv-loop μ-loop
+mul-from c = omega (arith, c .pre .0, c .pre .1 .transitions)
 
-element-copy-out-end : tie.Need-element-copy-out-end
-element-copy-out-end c = omega (arith, c .before .before .pre .0, c .before .before .pre .1 .transitions)
+mul-end : tie.Need-mul-end Inv-loop μ-loop
+mul-end c = omega (arith, c .pre .0, c .pre .1 .transitions)
 
-add-end : tie.Need-add-end
-add-end c =
-    let s = c .before .before .before in
-    omega (arith, s .pre .0, s .pre .1 .transitions, s .pre .1 .arcs (s .args .j))
+element-copy-out-end : tie.Need-element-copy-out-end Inv-loop μ-loop
+element-copy-out-end c = omega (arith, c .pre .0, c .pre .1 .transitions)
 
-mul-rate-of : tie.Need-mul-rate-of
-mul-rate-of c =
-    let s = c .before .before .before in
-    omega (arith, s .pre .0, s .pre .1 .transitions)
+add-end : tie.Need-add-end Inv-loop μ-loop
+add-end c = omega (arith, c .before .pre .0, c .before .pre .1 .transitions, c .before .pre .1 .arcs (c .before .args .j))
 
-element-copy-out-rate-of : tie.Need-element-copy-out-rate-of
-element-copy-out-rate-of c =
-    let s = c .before .before .before in
-    omega (arith, s .pre .0, s .pre .1 .transitions)
+mul-rate-of : tie.Need-mul-rate-of Inv-loop μ-loop
+mul-rate-of c = omega (arith, c .before .pre .0, c .before .pre .1 .transitions)
 
-mul-rate-of-2 : tie.Need-mul-rate-of-2
-mul-rate-of-2 c =
-    let s = c .before .before .before .before in
-    omega (arith, s .pre .0, s .pre .1 .transitions)
+element-copy-out-rate-of : tie.Need-element-copy-out-rate-of Inv-loop μ-loop
+element-copy-out-rate-of c = omega (arith, c .before .pre .0, c .before .pre .1 .transitions)
 
-element-copy-out-rate-of-2 : tie.Need-element-copy-out-rate-of-2
-element-copy-out-rate-of-2 c =
-    let s = c .before .before .before .before in
-    omega (arith, s .pre .0, s .pre .1 .transitions)
+mul-rate-of-2 : tie.Need-mul-rate-of-2 Inv-loop μ-loop
+mul-rate-of-2 c = omega (arith, c .before .before .pre .0, c .before .before .pre .1 .transitions)
 
-rate-of-requires : tie.Need-rate-of-requires
+element-copy-out-rate-of-2 : tie.Need-element-copy-out-rate-of-2 Inv-loop μ-loop
+element-copy-out-rate-of-2 c = omega (arith, c .before .before .pre .0, c .before .before .pre .1 .transitions)
+
+rate-of-requires : tie.Need-rate-of-requires Inv-loop μ-loop
 rate-of-requires c κs = search needs
 
-factored-requires : tie.Need-factored-requires
-factored-requires c κs =
-    let s = c .before .before .before .before .before .before in
-    (omega (arith, s .pre .0, s .pre .1 .transitions, s .pre .1 .arcs (s .args .j)), λ a. omega (arith, s .pre .1 .places, s .pre .1 .place a), s .pre .1 .weight, s .pre .3)
+loop-holds : tie.Need-loop-holds Inv-loop μ-loop
+loop-holds c =
+    let r = c .before .before .before .before in
+    let s = r .args in (
+      open-all (netOf (s .places) (s .transitions) (s .initial .now) (s .capacity .now) (s .rate .now) (s .delay .now) (s .arcs .now) (s .kind .now) (s .place .now) (s .weight .now)) (s .counts .now) (s .j) (r .pre .1) (r .pre .3 .small),
+      ap (λ (z : Float). factored (s .counts .now) z (takesOf (slots (s .kind .now) (s .place .now) (s .weight .now) (16 * s .j) ((16 * s .j + getD (s .arcs .now) (s .j) 0) - 16 * s .j)))) (c .rate-of .ensures),
+    )
 
-returns-2 : tie.Need-returns-2
+mul-p : tie.Need-mul-p Inv-loop μ-loop
+mul-p c = omega (arith, in-table c)
+
+element-copy-out-p : tie.Need-element-copy-out-p Inv-loop μ-loop
+element-copy-out-p c = omega (arith, in-table c)
+
+mul-c : tie.Need-mul-c Inv-loop μ-loop
+mul-c c =
+    let l = c .before .before in
+    let s = l .before .before .before .before .before in
+    omega (arith, s .pre .1 .place (l .loop .a), s .pre .1 .places)
+
+element-copy-out-c : tie.Need-element-copy-out-c Inv-loop μ-loop
+element-copy-out-c c =
+    let l = c .before .before in
+    let s = l .before .before .before .before .before in
+    omega (arith, s .pre .1 .place (l .loop .a), s .pre .1 .places)
+
+mul-slot-open : tie.Need-mul-slot-open Inv-loop μ-loop
+mul-slot-open c = omega (arith, in-table (c .before .before))
+
+element-copy-out-slot-open : tie.Need-element-copy-out-slot-open Inv-loop μ-loop
+element-copy-out-slot-open c = omega (arith, in-table (c .before .before))
+
+slot-open-requires : tie.Need-slot-open-requires Inv-loop μ-loop
+slot-open-requires c κs = search needs
+
+returns : tie.Need-returns Inv-loop μ-loop
+returns c =
+    let l = c .before .before .before .before .before in
+    let r = l .before .before .before .before .before .before in
+    let s = r .args in
+    prop-stop (netOf (s .places) (s .transitions) (s .initial .now) (s .capacity .now) (s .rate .now) (s .delay .now) (s .arcs .now) (s .kind .now) (s .place .now) (s .weight .now)) (s .counts .now) (s .j) false
+    (and-stop _ _ (from-turn (netOf (s .places) (s .transitions) (s .initial .now) (s .capacity .now) (s .rate .now) (s .delay .now) (s .arcs .now) (s .kind .now) (s .place .now) (s .weight .now)) (s .counts .now) (s .limit .now) (l .before .loop .a) (16 * s .j + getD (s .arcs .now) (s .j) 0) (r .pre .2)
+    (omega (arith, l .loop-test .taken, r .pre .0, r .pre .1 .arcs (s .j))) (l .loop-test .taken) (l .before .loop .inv .0))
+    (sym (c .before .slot-open .ensures) ∙ not-true _ (c .if1 .taken)))
+    refl
+
+mul-times : tie.Need-mul-times Inv-loop μ-loop
+mul-times c = omega (arith, in-table (c .before .before .before .before .before))
+
+element-copy-out-times : tie.Need-element-copy-out-times Inv-loop μ-loop
+element-copy-out-times c = omega (arith, in-table (c .before .before .before .before .before))
+
+mul-times-2 : tie.Need-mul-times-2 Inv-loop μ-loop
+mul-times-2 c = omega (arith, in-table (c .before .before .before .before .before .before))
+
+element-copy-out-times-2 : tie.Need-element-copy-out-times-2 Inv-loop μ-loop
+element-copy-out-times-2 c = omega (arith, in-table (c .before .before .before .before .before .before))
+
+times-requires : tie.Need-times-requires Inv-loop μ-loop
+times-requires c κs =
+    let l = c .before .before .before .before .before .before .before .before in
+    let r = l .before .before .before .before .before in
+    (r .pre .3 .small (getD (r .args .place .now) (l .loop .a) 0), r .pre .1 .weight (l .loop .a))
+
+add-a : tie.Need-add-a Inv-loop μ-loop
+add-a c = omega (arith, in-table (c .before .before .before .before .before .before .before .before))
+
+loop-less : tie.Need-loop-less Inv-loop μ-loop
+loop-less c = search needs
+
+loop-again : tie.Need-loop-again Inv-loop μ-loop
+loop-again c =
+    let l = c .before .before .before .before .before .before .before .before in
+    let r = l .before .before .before .before .before .before in
+    let s = r .args in
+    let o = c .before .before .before .before in (
+      and-go _ _ (from-turn (netOf (s .places) (s .transitions) (s .initial .now) (s .capacity .now) (s .rate .now) (s .delay .now) (s .arcs .now) (s .kind .now) (s .place .now) (s .weight .now)) (s .counts .now) (s .limit .now) (l .before .loop .a) (16 * s .j + getD (s .arcs .now) (s .j) 0) (r .pre .2)
+          (omega (arith, l .loop-test .taken, r .pre .0, r .pre .1 .arcs (s .j))) (l .loop-test .taken) (l .before .loop .inv .0))
+          (sym (o .slot-open .ensures) ∙ not-false _ (c .before .before .before .if1 .left)),
+      ap (λ (x : Float). factored (s .counts .now) x (takesOf (slots (s .kind .now) (s .place .now) (s .weight .now) (l .before .loop .a + 1) ((16 * s .j + getD (s .arcs .now) (s .j) 0) - (l .before .loop .a + 1))))) (c .times .ensures)
+          ∙ sym (factored-turn (s .counts .now) (l .before .loop .x) (s .kind .now) (s .place .now) (s .weight .now) (l .before .loop .a) (16 * s .j + getD (s .arcs .now) (s .j) 0) (l .loop-test .taken))
+          ∙ l .before .loop .inv .1,
+    )
+
+returns-2 : tie.Need-returns-2 Inv-loop μ-loop
 returns-2 c =
-    let e = c .before .before .before .before .before .before in
-    let s = e .before .args in
-    prop-go (netOf (s .places) (s .transitions) (s .initial .now) (s .capacity .now) (s .rate .now) (s .delay .now) (s .arcs .now) (s .kind .now) (s .place .now) (s .weight .now)) (s .counts .now) (s .j) (e .before .pre .1 .place) (e .enabled .result) (c .before .rate-of .result) (c .factored .result)
-    (e .enabled .ensures) (not-false _ (c .before .before .before .before .before .if1 .left)) (c .before .rate-of .ensures) (c .factored .ensures)
+    let l = c .before in
+    let r = l .before .before .before .before .before in
+    let s = r .args in
+    let n = netOf (s .places) (s .transitions) (s .initial .now) (s .capacity .now) (s .rate .now) (s .delay .now) (s .arcs .now) (s .kind .now) (s .place .now) (s .weight .now) in
+    let end = 16 * s .j + getD (s .arcs .now) (s .j) 0 in
+    prop-go n (s .counts .now) (s .j) (r .pre .1 .place) true (rateOf (transition n (s .j))) (l .loop .x)
+    (from-end n (s .counts .now) (s .limit .now) (l .loop .a) end (c .loop-test .left) (l .loop .inv .0)) refl refl
+    (sym (ap (λ (ls : List Slot). factored (s .counts .now) (l .loop .x) (takesOf ls)) (slots-end (s .kind .now) (s .place .now) (s .weight .now) (l .loop .a) end (c .loop-test .left)))
+    ∙ l .loop .inv .1)
 
 pub propensity-spec : {M : Type 1} → statement M
 propensity-spec =
     tie.close
     (tie.spec
-    enabled-requires
-    returns
+    Inv-loop
+    μ-loop
     mul-from
     mul-end
     element-copy-out-end
@@ -79,5 +174,21 @@ propensity-spec =
     mul-rate-of-2
     element-copy-out-rate-of-2
     rate-of-requires
-    factored-requires
+    loop-holds
+    mul-p
+    element-copy-out-p
+    mul-c
+    element-copy-out-c
+    mul-slot-open
+    element-copy-out-slot-open
+    slot-open-requires
+    returns
+    mul-times
+    element-copy-out-times
+    mul-times-2
+    element-copy-out-times-2
+    times-requires
+    add-a
+    loop-less
+    loop-again
     returns-2)

@@ -1,4 +1,4 @@
--- A slot that is no put has no limit. For a put, the parts that the code works out are those of the definition (Limits, limit-made). Assumes nothing.
+-- A slot that is no put has the limit of its arc. For a put, the parts that the code works out are those of the definition (Limits, limit-made). Assumes nothing.
 use native.Mathlib.Omega.{arith}
 use Prim.Native.Nat.{_/_}
 use borrow.Author.Tests.{ne-eqb}
@@ -8,14 +8,23 @@ use borrow.Author.Needs.{needs}
 use Rattle.ssa.proofs.slots.slot_limit.Statement.{statement}
 use Rattle.ssa.proofs.slots.slot_limit.Tie as tie
 
-mul-if1 : tie.Need-mul-if1
-mul-if1 c = search needs
+mul-k : tie.Need-mul-k
+mul-k c = search needs
 
-element-copy-out-if1 : tie.Need-element-copy-out-if1
-element-copy-out-if1 c = search needs
+element-copy-out-k : tie.Need-element-copy-out-k
+element-copy-out-k c = search needs
+
+mul-arc-limit : tie.Need-mul-arc-limit
+mul-arc-limit c = search needs
+
+element-copy-out-arc-limit : tie.Need-element-copy-out-arc-limit
+element-copy-out-arc-limit c = search needs
+
+arc-limit-requires : tie.Need-arc-limit-requires
+arc-limit-requires c κs = let s = c .before .before .before in s .pre .1 .weight (s .args .a)
 
 returns : tie.Need-returns
-returns c = simp (ne-eqb _ _ (c .if1 .taken))
+returns c = simp (ne-eqb _ _ (c .before .before .if1 .taken), c .arc-limit .ensures)
 
 mul-from : tie.Need-mul-from
 mul-from c = search needs
@@ -61,8 +70,11 @@ pub slot-limit-spec : {M : Type 1} → statement M
 slot-limit-spec =
     tie.close
     (tie.spec
-    mul-if1
-    element-copy-out-if1
+    mul-k
+    element-copy-out-k
+    mul-arc-limit
+    element-copy-out-arc-limit
+    arc-limit-requires
     returns
     mul-from
     mul-end

@@ -1,0 +1,4 @@
+pub mod Fronts
+pub mod Sums
+pub mod Grid
+pub mod Rows

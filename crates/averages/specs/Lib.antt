@@ -1,0 +1,4 @@
+pub mod Request
+pub mod Front
+pub mod Moments
+pub mod Row

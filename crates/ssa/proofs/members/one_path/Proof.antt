@@ -1,0 +1,65 @@
+-- The tables that the run asks for are lent, the counts are made here, and the generator is that of the path's own seed. Assumes nothing.
+use borrow.Author.Needs.{needs}
+use mathlib.Core.Path.{ap, _∙_}
+use lib.ListN.{length}
+use Rattle.net.specs.Readable.{readable}
+use Rattle.rng.specs.State.{State as Generator}
+use Rattle.rng.specs.Splitmix.{seeded}
+use Rattle.rules.specs.Shown.{worked}
+use Rattle.ssa.specs.Engine.{netOf}
+use Rattle.ssa.specs.Path.{played}
+use Rattle.ssa.specs.Summing.{drawn}
+use Rattle.ssa.proofs.Lists.{initial-is}
+use Rattle.ssa.proofs.Accepted.{fitting}
+use Rattle.ssa.proofs.members.one_path.Statement.{statement}
+use Rattle.ssa.proofs.members.one_path.Tie as tie
+
+first-counts-requires : tie.Need-first-counts-requires
+first-counts-requires c κs = search needs
+
+seed-of-requires : tie.Need-seed-of-requires
+seed-of-requires c κs = search needs
+
+new-requires : tie.Need-new-requires
+new-requires c κs = search needs
+
+play-requires : tie.Need-play-requires
+play-requires c κs =
+    let s = c .before .before .before .before .before .before .before in
+    let a = s .args in
+    let l = s .pre .0 in
+    let f = fitting (a .instants .now) (l .fit) in
+    let counts = c .before .before .before .before .first-counts .ensures in (
+      l .tidy,
+      l .limits,
+      counts .1,
+      counts .0 ∙ initial-is (netOf (a .places) (a .transitions) (a .initial .now) (a .capacity .now) (a .rate .now) (a .delay .now) (a .arcs .now) (a .kind .now) (a .place .now) (a .weight .now)),
+      l .timers,
+      f .some-instant,
+      f .few,
+      f .risen,
+      s .pre .1,
+    )
+
+same-length : tie.Need-same-length
+same-length c = search needs
+
+returns : tie.Need-returns
+unfolding drawn
+returns c =
+    let a = c .before .before .before .before .before .before .before .before .before .before .args in
+    let net = readable (netOf (a .places) (a .transitions) (a .initial .now) (a .capacity .now) (a .rate .now) (a .delay .now) (a .arcs .now) (a .kind .now) (a .place .now) (a .weight .now)) in
+    let xs = a .instants .now in
+    c .before .before .play .ensures
+    ∙ ap (λ (g : Generator). played (a .places) (length xs) g (a .path .now) (worked net g xs 1_000_000)) (c .before .before .before .before .before .new .ensures ∙ ap seeded (c .before .before .before .before .before .before .seed-of .ensures))
+
+pub one-path-spec : {M : Type 1} → statement M
+one-path-spec =
+    tie.close
+    (tie.spec
+    first-counts-requires
+    seed-of-requires
+    new-requires
+    play-requires
+    same-length
+    returns)

@@ -1,0 +1,416 @@
+// The paths of an ensemble, one after the other on the lent path table, and the sums over them in the lent mean and deviation tables.
+ghost use mathlib.Core.Path.{_≡_};
+ghost use mathlib.Core.Bool.{true, not};
+ghost use mathlib.Core.Option.{none};
+ghost use Prim.Native.Nat.{ℕ, _*_, _^_, _<_, _≤_};
+ghost use lib.Dec.{eqb};
+ghost use lib.ListN.{length, getD};
+ghost use Rattle.net.specs.Net.{pick};
+ghost use Rattle.net.specs.Readable as Record;
+ghost use Rattle.rng.specs.State as Random;
+ghost use Rattle.rng.specs.Splitmix as Seeding;
+ghost use Rattle.rules.specs.Propensity.{float};
+ghost use Rattle.rules.specs.Shown as Shown;
+ghost use Rattle.averages.specs.Front as Front;
+ghost use Rattle.averages.specs.Moments as Moments;
+ghost use Rattle.averages.specs.Request as Request;
+ghost use Rattle.ssa.specs.Cells as Cells;
+ghost use Rattle.ssa.specs.Engine as Engine;
+ghost use Rattle.ssa.specs.Ensemble as Ensemble;
+ghost use Rattle.ssa.specs.Limits as Limits;
+ghost use Rattle.ssa.specs.Path as Path;
+ghost use Rattle.ssa.specs.Summing as Summing;
+use crate::EnsembleAnswer;
+use crate::PathAnswer;
+use crate::PathEnd;
+use crate::record;
+use crate::run;
+use crate::slots;
+use averages::moments;
+use averages::request;
+use net::Net;
+use rng::Xoshiro256;
+
+// The step limit of an ensemble's paths.
+const MOST_STEPS: u64 = 1_000_000;
+
+// A path was refused by that number, or it was added, and so many are spent so far.
+pub enum Turn {
+    Stopped(u64),
+    Went(u64),
+}
+
+// A path was refused by a number, and its own number; or all were added, and so many are spent.
+pub enum Summed {
+    Stopped(u64, u64),
+    Done(u64),
+}
+
+// Path k: from its own seed, on the path table.
+fn one_path<'a>(
+    places: usize,
+    transitions: usize,
+    initial: &'a [u64; 32],
+    capacity: &'a [u64; 32],
+    rate: &'a [f64; 64],
+    delay: &'a [f64; 64],
+    arcs: &'a [usize; 64],
+    kind: &'a [u64; 1024],
+    place: &'a [usize; 1024],
+    weight: &'a [u64; 1024],
+    limit: &'a [u64; 1024],
+    timed: bool,
+    instants: &[f64],
+    seed: u64,
+    k: u64,
+    path: &mut [f64],
+) -> PathAnswer
+    requires { ⌜ Summing.Lent (Engine.netOf places transitions (now initial) (now capacity) (now rate) (now delay) (now arcs) (now kind) (now place) (now weight)) (now limit) timed (now instants)
+        × (places * length (now instants) ≤ length (now path)) ⌝ }
+    ensures { λ r. ⌜ Path.callOf r (now (path .exit)) ≡ Path.played places (length (now (instants .entry))) (Seeding.seeded (Request.seedOf seed k)) (now (path .entry))
+        (Summing.drawn (Record.readable (Engine.netOf places transitions (now (initial .entry)) (now (capacity .entry)) (now (rate .entry)) (now (delay .entry))
+        (now (arcs .entry)) (now (kind .entry)) (now (place .entry)) (now (weight .entry)))) seed (now (instants .entry)) k) ⌝ }
+{
+    let mut counts = slots::first_counts(places, initial);
+    let rng = Xoshiro256::new(request::seed_of(seed, k));
+    run::play(
+        places,
+        transitions,
+        initial,
+        capacity,
+        rate,
+        delay,
+        arcs,
+        kind,
+        place,
+        weight,
+        limit,
+        timed,
+        &mut counts,
+        instants,
+        MOST_STEPS,
+        rng,
+        path,
+    )
+}
+
+// 1 for a spent path.
+fn one_if_spent(end: PathEnd) -> u64
+    ensures { λ r. ⌜ r ≡ Summing.oneBySpent end ⌝ }
+{
+    match end {
+        PathEnd::Quiet => 0,
+        PathEnd::Spent => 1,
+        PathEnd::Reached => 0,
+        PathEnd::Refused(_) => 0,
+    }
+}
+
+// Path k, and its cells added to the sums.
+fn member_turn<'a>(
+    places: usize,
+    transitions: usize,
+    initial: &'a [u64; 32],
+    capacity: &'a [u64; 32],
+    rate: &'a [f64; 64],
+    delay: &'a [f64; 64],
+    arcs: &'a [usize; 64],
+    kind: &'a [u64; 1024],
+    place: &'a [usize; 1024],
+    weight: &'a [u64; 1024],
+    limit: &'a [u64; 1024],
+    timed: bool,
+    instants: &[f64],
+    seed: u64,
+    k: u64,
+    spent: u64,
+    mean: &mut [f64],
+    deviation: &mut [f64],
+    path: &mut [f64],
+) -> Turn
+    requires { ⌜ Summing.Lent (Engine.netOf places transitions (now initial) (now capacity) (now rate) (now delay) (now arcs) (now kind) (now place) (now weight)) (now limit) timed (now instants)
+        × (places * length (now instants) ≤ length (now path)) × (spent < 65_535) ⌝ }
+    ensures { λ r. ⌜ Summing.TurnBy (Summing.drawn (Record.readable (Engine.netOf places transitions (now (initial .entry)) (now (capacity .entry)) (now (rate .entry)) (now (delay .entry))
+        (now (arcs .entry)) (now (kind .entry)) (now (place .entry)) (now (weight .entry)))) seed (now (instants .entry)) k) places (length (now (instants .entry))) spent
+        (now (mean .entry)) (now (mean .exit)) (now (deviation .entry)) (now (deviation .exit)) (now (path .entry)) (now (path .exit)) r ⌝ }
+{
+    let r = one_path(
+        places,
+        transitions,
+        initial,
+        capacity,
+        rate,
+        delay,
+        arcs,
+        kind,
+        place,
+        weight,
+        limit,
+        timed,
+        instants,
+        seed,
+        k,
+        path,
+    );
+    let end = r.end;
+    if let PathEnd::Refused(c) = end {
+        return Turn::Stopped(c);
+    }
+    let cells = places * instants.len();
+    moments::add(cells, path, mean);
+    moments::add_squares(cells, path, deviation);
+    Turn::Went(spent + one_if_spent(end))
+}
+
+// All paths, from number 0 on, until one is refused.
+fn sum_paths<'a>(
+    places: usize,
+    transitions: usize,
+    initial: &'a [u64; 32],
+    capacity: &'a [u64; 32],
+    rate: &'a [f64; 64],
+    delay: &'a [f64; 64],
+    arcs: &'a [usize; 64],
+    kind: &'a [u64; 1024],
+    place: &'a [usize; 1024],
+    weight: &'a [u64; 1024],
+    limit: &'a [u64; 1024],
+    timed: bool,
+    instants: &[f64],
+    seed: u64,
+    realizations: u64,
+    mean: &mut [f64],
+    deviation: &mut [f64],
+    path: &mut [f64],
+) -> Summed
+    requires { ⌜ Summing.Lent (Engine.netOf places transitions (now initial) (now capacity) (now rate) (now delay) (now arcs) (now kind) (now place) (now weight)) (now limit) timed (now instants)
+        × (realizations ≤ 65_535) × (places * length (now instants) ≤ length (now mean)) × (places * length (now instants) ≤ length (now deviation)) × (places * length (now instants) ≤ length (now path))
+        × (now mean ≡ Cells.cleared (places * length (now instants)) (now mean)) × (now deviation ≡ Cells.cleared (places * length (now instants)) (now deviation)) ⌝ }
+    ensures { λ r. ⌜ Summing.SummedBy (Summing.pathsFrom (Summing.drawn (Record.readable (Engine.netOf places transitions (now (initial .entry)) (now (capacity .entry)) (now (rate .entry)) (now (delay .entry))
+        (now (arcs .entry)) (now (kind .entry)) (now (place .entry)) (now (weight .entry)))) seed (now (instants .entry))) 0 realizations) places (length (now (instants .entry))) realizations
+        (now (mean .entry)) (now (mean .exit)) (now (deviation .entry)) (now (deviation .exit)) (now (path .entry)) (now (path .exit)) r ⌝ }
+{
+    let mut spent: u64 = 0;
+    let mut k: u64 = 0;
+    while k < realizations {
+        let next = k + 1;
+        let t = member_turn(
+            places,
+            transitions,
+            initial,
+            capacity,
+            rate,
+            delay,
+            arcs,
+            kind,
+            place,
+            weight,
+            limit,
+            timed,
+            instants,
+            seed,
+            k,
+            spent,
+            mean,
+            deviation,
+            path,
+        );
+        match t {
+            Turn::Went(s) => spent = s,
+            Turn::Stopped(c) => return Summed::Stopped(c, k),
+        }
+        k = next;
+    }
+    Summed::Done(spent)
+}
+
+// Turns the sums over so many paths into means and deviations; with one path the deviations are +0. Are there deviations?
+fn finish(cells: usize, realizations: u64, mean: &mut [f64], deviation: &mut [f64]) -> bool
+    requires { ⌜ (realizations ≤ 65_535) × (cells ≤ length (now deviation)) ⌝ }
+    ensures { λ r. ⌜ (r ≡ not (eqb realizations 1)) × (now (mean .exit) ≡ Front.onFront (Moments.meanOf (float realizations)) cells (now (mean .entry)))
+        × (now (deviation .exit) ≡ pick (eqb realizations 1) (Cells.cleared cells (now (deviation .entry)))
+        (Front.withFront (Moments.deviationOf (float realizations)) cells (now (mean .exit)) (now (deviation .entry)))) ⌝ }
+{
+    let n = realizations as f64;
+    moments::to_means(cells, n, mean);
+    if realizations == 1 {
+        record::clear(deviation, cells);
+        return false;
+    }
+    moments::to_deviations(cells, n, mean, deviation);
+    true
+}
+
+// The paths of the tidy net whose fields are lent, at instants that fit, and what is made of their sums. A refused path leaves +0 in the answer's
+// cells of the path table; the others are cleared here.
+fn averaged<'a>(
+    places: usize,
+    transitions: usize,
+    initial: &'a [u64; 32],
+    capacity: &'a [u64; 32],
+    rate: &'a [f64; 64],
+    delay: &'a [f64; 64],
+    arcs: &'a [usize; 64],
+    kind: &'a [u64; 1024],
+    place: &'a [usize; 1024],
+    weight: &'a [u64; 1024],
+    limit: &'a [u64; 1024],
+    timed: bool,
+    instants: &[f64],
+    seed: u64,
+    realizations: u64,
+    mean: &mut [f64],
+    deviation: &mut [f64],
+    path: &mut [f64],
+) -> EnsembleAnswer
+    requires { ⌜ Summing.Lent (Engine.netOf places transitions (now initial) (now capacity) (now rate) (now delay) (now arcs) (now kind) (now place) (now weight)) (now limit) timed (now instants)
+        × (realizations ≤ 65_535) × (places * length (now instants) ≤ length (now mean)) × (places * length (now instants) ≤ length (now deviation)) × (places * length (now instants) ≤ length (now path)) ⌝ }
+    ensures { λ r. ⌜ Ensemble.callOf r (now (mean .exit)) (now (deviation .exit)) (now (path .exit)) ≡ Ensemble.tabulated places (length (now (instants .entry)))
+        (record { mean = now (mean .entry); deviation = now (deviation .entry); path = now (path .entry) })
+        (Summing.pathsFrom (Summing.drawn (Record.readable (Engine.netOf places transitions (now (initial .entry)) (now (capacity .entry)) (now (rate .entry)) (now (delay .entry))
+        (now (arcs .entry)) (now (kind .entry)) (now (place .entry)) (now (weight .entry)))) seed (now (instants .entry))) 0 realizations) ⌝ }
+{
+    let cells = places * instants.len();
+    record::clear(mean, cells);
+    record::clear(deviation, cells);
+    let s = sum_paths(
+        places,
+        transitions,
+        initial,
+        capacity,
+        rate,
+        delay,
+        arcs,
+        kind,
+        place,
+        weight,
+        limit,
+        timed,
+        instants,
+        seed,
+        realizations,
+        mean,
+        deviation,
+        path,
+    );
+    match s {
+        Summed::Stopped(c, k) => {
+            record::clear(mean, cells);
+            record::clear(deviation, cells);
+            EnsembleAnswer::Stopped(c, k)
+        }
+        Summed::Done(spent) => {
+            let deviates = finish(cells, realizations, mean, deviation);
+            EnsembleAnswer::Averaged(spent, deviates)
+        }
+    }
+}
+
+// The ensemble over the tidy net whose fields are lent: the tables that a call makes once, then its paths.
+fn lent<'a>(
+    places: usize,
+    transitions: usize,
+    initial: &'a [u64; 32],
+    capacity: &'a [u64; 32],
+    rate: &'a [f64; 64],
+    delay: &'a [f64; 64],
+    arcs: &'a [usize; 64],
+    kind: &'a [u64; 1024],
+    place: &'a [usize; 1024],
+    weight: &'a [u64; 1024],
+    samples: u64,
+    realizations: u64,
+    seed: u64,
+    horizon: f64,
+    mean: &mut [f64],
+    deviation: &mut [f64],
+    path: &mut [f64],
+) -> EnsembleAnswer
+    requires { ⌜ Engine.Tidy (Engine.netOf places transitions (now initial) (now capacity) (now rate) (now delay) (now arcs) (now kind) (now place) (now weight))
+        × ((p : ℕ) → p < places → getD (now initial) p 0 ≤ 2 ^ 53)
+        × (Request.requestFault (record { samples = samples; realizations = realizations; seed = seed; horizon = horizon }) ≡ none)
+        × (places * samples ≤ length (now mean)) × (places * samples ≤ length (now deviation)) × (places * samples ≤ length (now path)) ⌝ }
+    ensures { λ r. ⌜ Ensemble.callOf r (now (mean .exit)) (now (deviation .exit)) (now (path .exit)) ≡ Ensemble.tabulated places samples
+        (record { mean = now (mean .entry); deviation = now (deviation .entry); path = now (path .entry) })
+        (Ensemble.membersFrom (Record.readable (Engine.netOf places transitions (now (initial .entry)) (now (capacity .entry)) (now (rate .entry)) (now (delay .entry))
+        (now (arcs .entry)) (now (kind .entry)) (now (place .entry)) (now (weight .entry)))) (record { samples = samples; realizations = realizations; seed = seed; horizon = horizon }) 0 realizations) ⌝ }
+{
+    let mut limit = [0u64; 1024];
+    slots::fill_limits(
+        places,
+        transitions,
+        initial,
+        capacity,
+        rate,
+        delay,
+        arcs,
+        kind,
+        place,
+        weight,
+        &mut limit,
+    );
+    let timed = slots::any_timed(transitions, delay);
+    let mut grid = [0.0; 1024];
+    let few = samples as u32;
+    request::fill_grid(few, request::interval(few, horizon), &mut grid);
+    let n = samples as usize;
+    averaged(
+        places,
+        transitions,
+        initial,
+        capacity,
+        rate,
+        delay,
+        arcs,
+        kind,
+        place,
+        weight,
+        &limit,
+        timed,
+        &grid[..n],
+        seed,
+        realizations,
+        mean,
+        deviation,
+        path,
+    )
+}
+
+// The ensemble of a call that no test turns down.
+pub fn accepted(
+    net: Net,
+    samples: u64,
+    realizations: u64,
+    seed: u64,
+    horizon: f64,
+    mean: &mut [f64],
+    deviation: &mut [f64],
+    path: &mut [f64],
+) -> EnsembleAnswer
+    requires { ⌜ (Record.fault net ≡ none) × (Request.requestFault (record { samples = samples; realizations = realizations; seed = seed; horizon = horizon }) ≡ none)
+        × (net .places * samples ≤ length (now mean)) × (net .places * samples ≤ length (now deviation)) × (net .places * samples ≤ length (now path)) ⌝ }
+    ensures { λ r. ⌜ Ensemble.callOf r (now (mean .exit)) (now (deviation .exit)) (now (path .exit)) ≡ Ensemble.tabulated (net .places) samples
+        (record { mean = now (mean .entry); deviation = now (deviation .entry); path = now (path .entry) })
+        (Ensemble.membersFrom (Record.readable net) (record { samples = samples; realizations = realizations; seed = seed; horizon = horizon }) 0 realizations) ⌝ }
+{
+    let n = slots::tidied(net);
+    lent(
+        n.places,
+        n.transitions,
+        &n.initial,
+        &n.capacity,
+        &n.rate,
+        &n.delay,
+        &n.arcs,
+        &n.kind,
+        &n.place,
+        &n.weight,
+        samples,
+        realizations,
+        seed,
+        horizon,
+        mean,
+        deviation,
+        path,
+    )
+}
