@@ -1,3 +1,4 @@
 pub mod Drawn
 pub mod Told
 pub mod Played
+pub mod Averaged

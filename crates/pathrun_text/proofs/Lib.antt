@@ -1,0 +1,4 @@
+pub mod Rows
+pub mod Called
+pub mod Answers
+pub mod Sample

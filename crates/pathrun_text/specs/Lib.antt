@@ -1,0 +1,2 @@
+pub mod Pathrun
+pub mod Printing
