@@ -1,159 +1,44 @@
--- A net whose used slots are copied and whose other slots are 0 reads as the net, and every slot keeps the bounds of an accepted one: a used slot
--- by proofs/Sound of the crate net, any other since 0 keeps them. Assumes nothing.
+-- A net whose used slots are copied, the puts of each transition behind its other arcs, and whose other slots are 0 reads as the net: each list of
+-- arcs takes its slots from one group, in their order. Every slot keeps the bounds of an accepted net: a used one by proofs/Sound of the crate net, any
+-- other since 0 keeps them. Assumes nothing.
 use Prim.Native.Nat.{ℕ, zero, suc, _+_, _-_, _*_, _≤_, _<_}
-use mathlib.Core.Path.{_≡_, refl, sym, ap, _∙_, subst}
-use mathlib.Core.List.{List, _∷_}
+use mathlib.Core.Path.{_≡_, refl, sym, ap, _∙_, subst, subst⁻¹}
+use mathlib.Core.Bool.{Bool, true, false}
+use mathlib.Core.List.{List, [], _∷_, _++_, append-assoc, append-nil}
 use mathlib.Core.Logic.{_⊎_, inl, inr, ⊎-elim}
 use native.Mathlib.Omega.{arith}
-use native.Mathlib.Nat.{ne-of-lt}
-use lib.Dec.{eqb, ltb}
-use lib.ListN.{length, getD, set, length-set, replicate, length-replicate}
+use native.Mathlib.Nat.{ne-of-lt, eq-or-lt-of-le}
+use lib.Dec.{eqb, leb, ltb}
+use lib.ListN.{length, getD, set, length-set, length-append, replicate, length-replicate}
 use lib.Seq.{getD-set-same, getD-set-other}
-use lib.Ieee.{nan}
+use lib.Ieee.{Float, nan}
 use borrow.Author.Count.{below-none, below-more}
-use borrow.Author.Tests.{eqb-true, eqb-false, ltb-true, ltb-false}
-use Rattle.net.specs.Net.{Transition, Net}
+use borrow.Author.Tests.{eqb-true, ne-eqb, ltb-true, ltb-false, leb-true}
+use Rattle.net.specs.Net.{Arc, Take, Transition, Net, pick}
 use Rattle.net.specs.declared.Net.{Net as NetRecord}
-use Rattle.net.specs.Readable.{slots, slotsOf, transition, transitionOf, transitionsFrom, placesFrom, readable}
+use Rattle.net.specs.Readable.{Slot, slotAt, slots, slotsOf, takesOf, arcsOf, isPut, isRead, isBlock, transition, transitionOf, transitionsFrom, placesFrom, readable}
 use Rattle.net.specs.Sound.{Sound}
 use Rattle.ssa.specs.Engine.{AtMost, Below, Tidy, netOf}
-use Rattle.ssa.specs.Arcs.{Copied}
-use Rattle.ssa.proofs.Arcs.{on-bool}
+use Rattle.ssa.specs.Arcs.{group, ofGroup, Copied}
+use Rattle.ssa.proofs.Arcs.{on-bool, slots-step}
 use Rattle.ssa.proofs.Lists.{each-zero, each-set}
 
--- ---- slots that are copied
+-- ---- slots of arrays
 
-pub copied-none : (from : ℕ) (source xs : List ℕ) → Copied from from source xs xs
-copied-none from source xs = record { long = refl; inside = λ a g h. absurd (omega arith); outside = λ a h. refl }
+module _ (k p w : List ℕ) where
+  slots-length : (i a : ℕ) → length (slots k p w a i) ≡ i
+  slots-length zero a = refl
+  slots-length (suc i) a = ap suc (slots-length i (a + 1))
 
-module _ (from a : ℕ) (source before after : List ℕ) (c : Copied from a source before after) (i : from ≤ a) (l : a < length after) where
-  abbrev x : ℕ
-  x = getD source a 0
-
-  copied-inside : (b : ℕ) → from ≤ b → b < a + 1 → getD (set after a x) b 0 ≡ getD source b 0
-  copied-inside b g h =
-      on-bool (eqb b a)
-      (λ e. let d : b ≡ a = eqb-true b a e in ap (λ (z : ℕ). getD (set after a x) z 0) d ∙ getD-set-same after a x 0 l ∙ sym (ap (λ (z : ℕ). getD source z 0) d))
-      (λ e. let d = eqb-false b a e in getD-set-other after a b x 0 d ∙ c .inside b g (below b h d))
-    where
-      below : (b : ℕ) → b < a + 1 → (b ≡ a → ⊥) → b < a
-      below b h d = omega arith
-
-  copied-outside : (b : ℕ) → ((b < from) ⊎ (a + 1 ≤ b)) → getD (set after a x) b 0 ≡ getD before b 0
-  copied-outside b h =
-      ⊎-elim
-      (λ g. getD-set-other after a b x 0 (λ e. omega arith) ∙ c .outside b (inl g))
-      (λ g. getD-set-other after a b x 0 (λ e. omega arith) ∙ c .outside b (inr (omega arith)))
-      h
-
-  pub copied-more : Copied from (a + 1) source before (set after a x)
-  copied-more = record { long = length-set after a x ∙ c .long; inside = copied-inside; outside = copied-outside }
-
-pub copied-to : {from a e : ℕ} {source before after : List ℕ} → a ≡ e → Copied from a source before after → Copied from e source before after
-copied-to {from} {source = source} {before = before} {after = after} d c = subst (λ (z : ℕ). Copied from z source before after) d c
-
-each-copied : (P : ℕ → Type 0) {from end : ℕ} {source before after : List ℕ} → Copied from end source before after
-    → ((a : ℕ) → from ≤ a → a < end → P (getD source a 0)) → ((a : ℕ) → P (getD before a 0)) → (a : ℕ) → P (getD after a 0)
-each-copied P {from} {end} c new old a =
-    on-bool (ltb a from)
-    (λ e. subst P (sym (c .outside a (inl (ltb-true a from e)))) (old a))
-    (λ e. on-bool (ltb a end)
-    (λ f. subst P (sym (c .inside a (ltb-false a from e) (ltb-true a end f))) (new a (ltb-false a from e) (ltb-true a end f)))
-    (λ f. subst P (sym (c .outside a (inr (ltb-false a end f)))) (old a)))
-
--- ---- the first j transitions are done
-
--- the used slots of the first j transitions are those of the source
-abbrev Same : List ℕ → ℕ → List ℕ → List ℕ → Type 0
-Same arcs j source xs = (i b : ℕ) → i < j → 16 * i ≤ b → b < 16 * i + getD arcs i 0 → getD xs b 0 ≡ getD source b 0
-
-pub record Done (n : NetRecord) (arcs kind place weight : List ℕ) (j : ℕ) : Type 0 where
-  pub within : j ≤ n .transitions
-  pub long-arcs : length arcs ≡ 64
-  pub long-kind : length kind ≡ 1024
-  pub long-place : length place ≡ 1024
-  pub long-weight : length weight ≡ 1024
-  pub same-arcs : (i : ℕ) → i < j → getD arcs i 0 ≡ getD (n .arcs) i 0
-  pub same-kind : Same (n .arcs) j (n .kind) kind
-  pub same-place : Same (n .arcs) j (n .place) place
-  pub same-weight : Same (n .arcs) j (n .weight) weight
-  pub few : AtMost 16 arcs
-  pub low : Below (n .places) place
-  pub light : AtMost 1_000_000 weight
-
-same-none : (arcs source xs : List ℕ) → Same arcs 0 source xs
-same-none arcs source xs i b h = absurd (omega arith)
-
-module _ (n : NetRecord) (s : Sound n) where
-  pub done-none : Done n (replicate 64 0) (replicate 1024 0) (replicate 1024 0) (replicate 1024 0) 0
-  done-none =
-      record {
-        within = omega arith;
-        long-arcs = length-replicate {A = ℕ} 64 0;
-        long-kind = length-replicate {A = ℕ} 1024 0;
-        long-place = length-replicate {A = ℕ} 1024 0;
-        long-weight = length-replicate {A = ℕ} 1024 0;
-        same-arcs = below-none _;
-        same-kind = same-none (n .arcs) (n .kind) (replicate 1024 0);
-        same-place = same-none (n .arcs) (n .place) (replicate 1024 0);
-        same-weight = same-none (n .arcs) (n .weight) (replicate 1024 0);
-        few = each-zero (λ (x : ℕ). x ≤ 16) 64 (omega arith);
-        low = each-zero (λ (x : ℕ). x < n .places) 1024 (omega (arith, s .place-one));
-        light = each-zero (λ (x : ℕ). x ≤ 1_000_000) 1024 (omega arith);
-      }
-
-  module _ (j : ℕ) (h : j < n .transitions) where
-    abbrev end : ℕ
-    end = 16 * j + getD (n .arcs) j 0
-
-    same-more : {source before after : List ℕ} → Copied (16 * j) end source before after → Same (n .arcs) j source before → Same (n .arcs) (j + 1) source after
-    same-more {source} {before} {after} c f i b k g l =
-        on-bool (eqb i j)
-        (λ e.
-        let d : i ≡ j = eqb-true i j e in
-        let m : b < end = subst (λ (z : ℕ). b < 16 * z + getD (n .arcs) z 0) d l in
-        c .inside b (omega arith) m)
-        (λ e.
-        let d = eqb-false i j e in
-        let m : i < j = earlier d k in
-        c .outside b (inl (omega (arith, s .arcs i (omega arith)))) ∙ f i b m g l)
-      where
-        earlier : {i j : ℕ} → (i ≡ j → ⊥) → i < j + 1 → i < j
-        earlier d k = omega arith
-
-    slot : (b : ℕ) → 16 * j ≤ b → 16 * j + (b - 16 * j) ≡ b
-    slot b g = omega arith
-
-    used-place : (b : ℕ) → 16 * j ≤ b → b < end → getD (n .place) b 0 < n .places
-    used-place b g l = subst (λ (z : ℕ). getD (n .place) z 0 < n .places) (slot b g) (s .place j (b - 16 * j) h (omega arith))
-
-    used-weight : (b : ℕ) → 16 * j ≤ b → b < end → getD (n .weight) b 0 ≤ 1_000_000
-    used-weight b g l = subst (λ (z : ℕ). getD (n .weight) z 0 ≤ 1_000_000) (slot b g) (s .weight j (b - 16 * j) h (omega arith))
-
-    pub done-more : {arcs kind place weight kind′ place′ weight′ : List ℕ} → Done n arcs kind place weight j
-        → Copied (16 * j) end (n .kind) kind kind′ → Copied (16 * j) end (n .place) place place′ → Copied (16 * j) end (n .weight) weight weight′
-        → Done n (set arcs j (getD (n .arcs) j 0)) kind′ place′ weight′ (j + 1)
-    done-more {arcs} d ck cp cw =
-        let x = getD (n .arcs) j 0 in
-        let l : j < length arcs = omega (arith, d .long-arcs, s .transitions) in
-        record {
-          within = omega arith;
-          long-arcs = length-set arcs j x ∙ d .long-arcs;
-          long-kind = ck .long ∙ d .long-kind;
-          long-place = cp .long ∙ d .long-place;
-          long-weight = cw .long ∙ d .long-weight;
-          same-arcs =
-              below-more (λ (i : ℕ). getD (set arcs j x) i 0 ≡ getD (n .arcs) i 0) j
-              (λ i k. getD-set-other arcs j i x 0 (ne-of-lt k) ∙ d .same-arcs i k) (getD-set-same arcs j x 0 l);
-          same-kind = same-more ck (d .same-kind);
-          same-place = same-more cp (d .same-place);
-          same-weight = same-more cw (d .same-weight);
-          few = each-set (λ (y : ℕ). y ≤ 16) arcs j x l (s .arcs j h) (d .few);
-          low = each-copied (λ (y : ℕ). y < n .places) cp used-place (d .low);
-          light = each-copied (λ (y : ℕ). y ≤ 1_000_000) cw used-weight (d .light);
-        }
-
--- ---- all are done
+  slots-split : (i m n a : ℕ) → n ≡ i + m → slots k p w a n ≡ slots k p w a i ++ slots k p w (a + i) m
+  slots-split zero m n a e =
+      let d : n ≡ m = omega arith in
+      let f : a ≡ a + 0 = omega arith in
+      ap (slots k p w a) d ∙ ap (λ (z : ℕ). slots k p w z m) f
+  slots-split (suc i) m zero a e = absurd (omega arith)
+  slots-split (suc i) m (suc n) a e =
+      let f : a + 1 + i ≡ a + suc i = omega arith in
+      ap (λ (ls : List Slot). slotAt k p w a ∷ ls) (slots-split i m n (a + 1) (omega arith) ∙ ap (λ (z : ℕ). slots k p w (a + 1) i ++ slots k p w z m) f)
 
 slots-same : (k p w k′ p′ w′ : List ℕ) (i a : ℕ)
     → ((b : ℕ) → a ≤ b → b < a + i → getD k′ b 0 ≡ getD k b 0) → ((b : ℕ) → a ≤ b → b < a + i → getD p′ b 0 ≡ getD p b 0)
@@ -168,6 +53,385 @@ slots-same k p w k′ p′ w′ (suc i) a f g h =
     (λ b x y. h b (omega arith) (omega arith)) in
     simp (e₁, e₂, e₃, rest)
 
+-- a property of every slot of a list
+data All (P : Slot → Type 0) : List Slot → Type 0 where
+  none : All P []
+  more : {l : Slot} {ls : List Slot} → P l → All P ls → All P (l ∷ ls)
+
+module _ (P : Slot → Type 0) where
+  all-pick : (b : Bool) {xs ys : List Slot} → All P xs → All P ys → All P (pick b xs ys)
+  all-pick true f g = f
+  all-pick false f g = g
+
+  all-group : (g : ℕ) {ls : List Slot} → All P ls → All P (ofGroup g ls)
+  all-group g none = none
+  all-group g (more {l} h f) = all-pick (eqb (group (l .kind)) g) (more h (all-group g f)) (all-group g f)
+
+  all-append : {xs ys : List Slot} → All P xs → All P ys → All P (xs ++ ys)
+  all-append none g = g
+  all-append (more h f) g = more h (all-append f g)
+
+  module _ (k p w : List ℕ) where
+    all-from : (i a : ℕ) → ((b : ℕ) → a ≤ b → b < a + i → P (slotAt k p w b)) → All P (slots k p w a i)
+    all-from zero a f = none
+    all-from (suc i) a f = more (f a (omega arith) (omega arith)) (all-from i (a + 1) (λ b x y. f b (omega arith) (omega arith)))
+
+    all-at : (i a : ℕ) → All P (slots k p w a i) → (b : ℕ) → a ≤ b → b < a + i → P (slotAt k p w b)
+    all-at zero a f b x y = absurd (omega arith)
+    all-at (suc i) a (more h f) b x y = ⊎-elim (λ e. subst (λ (z : ℕ). P (slotAt k p w z)) e h) (λ l. all-at i (a + 1) f b (omega arith) (omega arith)) (eq-or-lt-of-le x)
+
+-- ---- the two groups
+
+group-put : (k : ℕ) → isPut k ≡ true → group k ≡ 1
+group-put k e = ap (λ (b : Bool). pick b 1 0) e
+
+group-other : (k : ℕ) → isPut k ≡ false → group k ≡ 0
+group-other k e = ap (λ (b : Bool). pick b 1 0) e
+
+abbrev inOrder : List Slot → List Slot
+inOrder ls = ofGroup 0 ls ++ ofGroup 1 ls
+
+-- whether a slot goes to the first group, and to the second
+first-test : (k : ℕ) (b : Bool) → isPut k ≡ b → eqb (group k) 0 ≡ pick b false true
+first-test k true e = ap (λ (z : ℕ). eqb z 0) (group-put k e)
+first-test k false e = ap (λ (z : ℕ). eqb z 0) (group-other k e)
+
+second-test : (k : ℕ) (b : Bool) → isPut k ≡ b → eqb (group k) 1 ≡ pick b true false
+second-test k true e = ap (λ (z : ℕ). eqb z 1) (group-put k e)
+second-test k false e = ap (λ (z : ℕ). eqb z 1) (group-other k e)
+
+pub both-groups : (ls : List Slot) → length (ofGroup 0 ls) + length (ofGroup 1 ls) ≡ length ls
+both-groups [] = refl
+both-groups (l ∷ ls) =
+    let ih = both-groups ls in
+    on-bool (isPut (l .kind))
+    (λ e. simp (first-test (l .kind) true e, second-test (l .kind) true e) (omega arith))
+    (λ e. simp (first-test (l .kind) false e, second-test (l .kind) false e) (omega arith))
+
+-- a list of arcs by a test of the kind
+abbrev picked : {A : Type 0} → (ℕ → Bool) → (Slot → A) → List Slot → List A
+picked f g [] = []
+picked f g (l ∷ ls) = pick (f (l .kind)) (g l ∷ picked f g ls) (picked f g ls)
+
+abbrev takeOf : Slot → Take
+takeOf l = record { place = l .place; weight = l .weight; kinetic = eqb (l .kind) 0 }
+
+abbrev arcOf : Slot → Arc
+arcOf l = record { place = l .place; weight = l .weight }
+
+takes-picked : (ls : List Slot) → takesOf ls ≡ picked (λ (k : ℕ). leb k 1) takeOf ls
+takes-picked [] = refl
+takes-picked (l ∷ ls) = ap (λ (ts : List Take). pick (leb (l .kind) 1) (takeOf l ∷ ts) ts) (takes-picked ls)
+
+arcs-picked : (f : ℕ → Bool) (ls : List Slot) → arcsOf f ls ≡ picked f arcOf ls
+arcs-picked f [] = refl
+arcs-picked f (l ∷ ls) = ap (λ (rest : List Arc). pick (f (l .kind)) (arcOf l ∷ rest) rest) (arcs-picked f ls)
+
+module _ {A : Type 0} (f : ℕ → Bool) (g : Slot → A) where
+  picked-append : (xs ys : List Slot) → picked f g (xs ++ ys) ≡ picked f g xs ++ picked f g ys
+  picked-append [] ys = refl
+  picked-append (x ∷ xs) ys =
+      ap (λ (rest : List A). pick (f (x .kind)) (g x ∷ rest) rest) (picked-append xs ys)
+      ∙ joined (f (x .kind)) (g x) (picked f g xs) (picked f g ys)
+    where
+      joined : (b : Bool) (y : A) (us vs : List A) → pick b (y ∷ (us ++ vs)) (us ++ vs) ≡ pick b (y ∷ us) us ++ vs
+      joined true y us vs = refl
+      joined false y us vs = refl
+
+  -- all that the test lets pass are of group q, so the other group gives nothing
+  from-group : (q : ℕ) → ((k : ℕ) → f k ≡ true → eqb (group k) q ≡ true) → (ls : List Slot) → picked f g (ofGroup q ls) ≡ picked f g ls
+  from-group q h [] = refl
+  from-group q h (l ∷ ls) =
+      on-bool (f (l .kind))
+      (λ e. simp (h (l .kind) e, e) (ap (λ (rest : List A). g l ∷ rest) (from-group q h ls)))
+      (λ e. on-bool (eqb (group (l .kind)) q)
+      (λ d. simp (d, e) (from-group q h ls))
+      (λ d. simp (d, e) (from-group q h ls)))
+
+  not-from-group : (q : ℕ) → ((k : ℕ) → f k ≡ true → eqb (group k) q ≡ false) → (ls : List Slot) → picked f g (ofGroup q ls) ≡ []
+  not-from-group q h [] = refl
+  not-from-group q h (l ∷ ls) =
+      on-bool (f (l .kind))
+      (λ e. simp (h (l .kind) e) (not-from-group q h ls))
+      (λ e. on-bool (eqb (group (l .kind)) q)
+      (λ d. simp (d, e) (not-from-group q h ls))
+      (λ d. simp d (not-from-group q h ls)))
+
+  pub first-only : ((k : ℕ) → f k ≡ true → isPut k ≡ false) → (ls : List Slot) → picked f g (inOrder ls) ≡ picked f g ls
+  first-only h ls =
+      picked-append (ofGroup 0 ls) (ofGroup 1 ls)
+      ∙ ap (λ (rest : List A). picked f g (ofGroup 0 ls) ++ rest) (not-from-group 1 (λ k e. second-test k false (h k e)) ls)
+      ∙ append-nil (picked f g (ofGroup 0 ls))
+      ∙ from-group 0 (λ k e. first-test k false (h k e)) ls
+
+  pub second-only : ((k : ℕ) → f k ≡ true → isPut k ≡ true) → (ls : List Slot) → picked f g (inOrder ls) ≡ picked f g ls
+  second-only h ls =
+      picked-append (ofGroup 0 ls) (ofGroup 1 ls)
+      ∙ ap (λ (rest : List A). rest ++ picked f g (ofGroup 1 ls)) (not-from-group 0 (λ k e. first-test k true (h k e)) ls)
+      ∙ from-group 1 (λ k e. second-test k true (h k e)) ls
+
+takes-order : (ls : List Slot) → takesOf (inOrder ls) ≡ takesOf ls
+takes-order ls =
+    takes-picked (inOrder ls)
+    ∙ first-only (λ (k : ℕ). leb k 1) takeOf (λ k e. let h = leb-true k 1 e in ne-eqb k 2 (λ d. omega arith)) ls
+    ∙ sym (takes-picked ls)
+
+arcs-order : (f : ℕ → Bool) → ((k : ℕ) → f k ≡ true → isPut k ≡ false) → (ls : List Slot) → arcsOf f (inOrder ls) ≡ arcsOf f ls
+arcs-order f h ls = arcs-picked f (inOrder ls) ∙ first-only f arcOf h ls ∙ sym (arcs-picked f ls)
+
+puts-order : (ls : List Slot) → arcsOf isPut (inOrder ls) ≡ arcsOf isPut ls
+puts-order ls = arcs-picked isPut (inOrder ls) ∙ second-only isPut arcOf (λ k e. e) ls ∙ sym (arcs-picked isPut ls)
+
+-- a transition reads the same
+order-reads : (r d : Float) (ls : List Slot) → transitionOf r d (inOrder ls) ≡ transitionOf r d ls
+order-reads r d ls =
+    let t = takes-order ls in
+    let u = puts-order ls in
+    let v = arcs-order isRead (λ k e. let h = eqb-true k 3 e in ne-eqb k 2 (λ d. omega arith)) ls in
+    let x = arcs-order isBlock (λ k e. let h = leb-true 4 k e in ne-eqb k 2 (λ d. omega arith)) ls in
+    λ i. record { rate = r; delay = d; takes = t i; puts = u i; reads = v i; blocks = x i }
+
+-- ---- slots that are copied
+
+-- all but the slots from `to` to before b are as they were
+abbrev Outside : ℕ → ℕ → List ℕ → List ℕ → Type 0
+Outside to b xs ys = (a : ℕ) → ((a < to) ⊎ (b ≤ a)) → getD ys a 0 ≡ getD xs a 0
+
+-- the copy of the whole, where these are left
+pub record Copying (to b : ℕ) (left whole : List Slot) (k p w k′ p′ w′ : List ℕ) : Type 0 where
+  pub up : to ≤ b
+  pub long-kind : length k′ ≡ length k
+  pub long-place : length p′ ≡ length p
+  pub long-weight : length w′ ≡ length w
+  pub joined : slots k′ p′ w′ to (b - to) ++ left ≡ whole
+  pub kind : Outside to b k k′
+  pub place : Outside to b p p′
+  pub weight : Outside to b w w′
+
+pub copying-none : (to : ℕ) (whole : List Slot) (k p w : List ℕ) → Copying to to whole whole k p w k p w
+copying-none to whole k p w =
+    let e : to - to ≡ 0 = omega arith in
+    record {
+      up = omega arith;
+      long-kind = refl;
+      long-place = refl;
+      long-weight = refl;
+      joined = ap (λ (i : ℕ). slots k p w to i ++ whole) e;
+      kind = λ a h. refl;
+      place = λ a h. refl;
+      weight = λ a h. refl;
+    }
+
+outside-more : (to b x : ℕ) (xs ys : List ℕ) → to ≤ b → Outside to b xs ys → Outside to (b + 1) xs (set ys b x)
+outside-more to b x xs ys l f a h =
+    ⊎-elim
+    (λ g. getD-set-other ys b a x 0 (λ e. omega arith) ∙ f a (inl g))
+    (λ g. getD-set-other ys b a x 0 (λ e. omega arith) ∙ f a (inr (omega arith)))
+    h
+
+module _ {to b : ℕ} {rest whole : List Slot} {k p w k′ p′ w′ : List ℕ} where
+  -- there is room for the next
+  pub copying-room : (l : Slot) → Copying to b (l ∷ rest) whole k p w k′ p′ w′ → b < to + length whole
+  copying-room l c =
+      omega (arith, c .up, slots-length k′ p′ w′ (b - to) to, simp length-append at (ap (length {A = Slot}) (c .joined)))
+
+  pub copying-more : (l : Slot) → b < length k′ → b < length p′ → b < length w′ → Copying to b (l ∷ rest) whole k p w k′ p′ w′
+      → Copying to (b + 1) rest whole k p w (set k′ b (l .kind)) (set p′ b (l .place)) (set w′ b (l .weight))
+  copying-more l ik ip iw c =
+      let k″ = set k′ b (l .kind) in
+      let p″ = set p′ b (l .place) in
+      let w″ = set w′ b (l .weight) in
+      let n : b + 1 - to ≡ (b - to) + 1 = omega (arith, c .up) in
+      let f : to + (b - to) ≡ b = omega (arith, c .up) in
+      let old : slots k″ p″ w″ to (b - to) ≡ slots k′ p′ w′ to (b - to) =
+      slots-same k′ p′ w′ k″ p″ w″ (b - to) to
+      (λ a x y. getD-set-other k′ b a (l .kind) 0 (λ e. omega arith)) (λ a x y. getD-set-other p′ b a (l .place) 0 (λ e. omega arith)) (λ a x y. getD-set-other w′ b a (l .weight) 0 (λ e. omega arith)) in
+      let ek = getD-set-same k′ b (l .kind) 0 ik in
+      let ep = getD-set-same p′ b (l .place) 0 ip in
+      let ew = getD-set-same w′ b (l .weight) 0 iw in
+      let new : slotAt k″ p″ w″ b ≡ l = λ i. record { kind = ek i; place = ep i; weight = ew i } in
+      record {
+        up = omega (arith, c .up);
+        long-kind = length-set k′ b (l .kind) ∙ c .long-kind;
+        long-place = length-set p′ b (l .place) ∙ c .long-place;
+        long-weight = length-set w′ b (l .weight) ∙ c .long-weight;
+        joined =
+            ap (λ (ls : List Slot). ls ++ rest) (slots-split k″ p″ w″ (b - to) 1 (b + 1 - to) to n)
+            ∙ append-assoc (slots k″ p″ w″ to (b - to)) (slots k″ p″ w″ (to + (b - to)) 1) rest
+            ∙ ap (λ (z : ℕ). slots k″ p″ w″ to (b - to) ++ (slotAt k″ p″ w″ z ∷ rest)) f
+            ∙ (λ i. old i ++ (new i ∷ rest))
+            ∙ c .joined;
+        kind = outside-more to b (l .kind) k k′ (c .up) (c .kind);
+        place = outside-more to b (l .place) p p′ (c .up) (c .place);
+        weight = outside-more to b (l .weight) w w′ (c .up) (c .weight);
+      }
+
+-- a slot that is copied if it is of the group
+pub copying-one : (g : ℕ) {to b r : ℕ} (l : Slot) (ls : List Slot) {whole : List Slot} {k p w k′ p′ w′ k″ p″ w″ : List ℕ}
+    → Copying to b (ofGroup g (l ∷ ls)) whole k p w k′ p′ w′ → (eqb (group (l .kind)) g ≡ true → b < 1024) → length k′ ≡ 1024 → length p′ ≡ 1024 → length w′ ≡ 1024
+    → r ≡ pick (eqb (group (l .kind)) g) (b + 1) b → k″ ≡ pick (eqb (group (l .kind)) g) (set k′ b (l .kind)) k′
+    → p″ ≡ pick (eqb (group (l .kind)) g) (set p′ b (l .place)) p′ → w″ ≡ pick (eqb (group (l .kind)) g) (set w′ b (l .weight)) w′
+    → Copying to r (ofGroup g ls) whole k p w k″ p″ w″
+copying-one g {to} {b} {r} l ls {whole} {k} {p} {w} {k′} {p′} {w′} {k″} {p″} {w″} c room lk lp lw er ek ep ew = go (eqb (group (l .kind)) g) refl c er ek ep ew
+  where
+    go : (t : Bool) → eqb (group (l .kind)) g ≡ t → Copying to b (pick t (l ∷ ofGroup g ls) (ofGroup g ls)) whole k p w k′ p′ w′
+        → r ≡ pick t (b + 1) b → k″ ≡ pick t (set k′ b (l .kind)) k′ → p″ ≡ pick t (set p′ b (l .place)) p′ → w″ ≡ pick t (set w′ b (l .weight)) w′
+        → Copying to r (ofGroup g ls) whole k p w k″ p″ w″
+    go true e c er ek ep ew =
+        let i = room e in
+        coe 1 0 (i. Copying to (er i) (ofGroup g ls) whole k p w (ek i) (ep i) (ew i)) (copying-more l (omega arith) (omega arith) (omega arith) c)
+    go false e c er ek ep ew = coe 1 0 (i. Copying to (er i) (ofGroup g ls) whole k p w (ek i) (ep i) (ew i)) c
+
+-- the next of the slots that are left
+pub copying-turn : (g : ℕ) (ks ps ws : List ℕ) (a e : ℕ) {to b : ℕ} {whole : List Slot} {k p w k′ p′ w′ : List ℕ} → a < e
+    → Copying to b (ofGroup g (slots ks ps ws a (e - a))) whole k p w k′ p′ w′
+    → Copying to b (ofGroup g (slotAt ks ps ws a ∷ slots ks ps ws (a + 1) (e - (a + 1)))) whole k p w k′ p′ w′
+copying-turn g ks ps ws a e {to} {b} {whole} {k} {p} {w} {k′} {p′} {w′} h c =
+    subst (λ (ls : List Slot). Copying to b (ofGroup g ls) whole k p w k′ p′ w′) (slots-step ks ps ws a e h) c
+
+pub copying-fits : (g : ℕ) (l : Slot) (ls : List Slot) {to b : ℕ} {whole : List Slot} {k p w k′ p′ w′ : List ℕ} → to + length whole ≤ 1024
+    → Copying to b (ofGroup g (l ∷ ls)) whole k p w k′ p′ w′ → eqb (group (l .kind)) g ≡ true → b < 1024
+copying-fits g l ls {to} {b} {whole} {k} {p} {w} {k′} {p′} {w′} h c e =
+    omega (arith, copying-room l (subst (λ (t : Bool). Copying to b (pick t (l ∷ ofGroup g ls) (ofGroup g ls)) whole k p w k′ p′ w′) e c))
+
+pub copied-all : {to b : ℕ} {whole : List Slot} {k p w k′ p′ w′ : List ℕ} → Copying to b [] whole k p w k′ p′ w′ → Copied to b whole k p w k′ p′ w′
+copied-all {to} {b} {k′ = k′} {p′ = p′} {w′ = w′} c =
+    record {
+      up = c .up;
+      long-kind = c .long-kind;
+      long-place = c .long-place;
+      long-weight = c .long-weight;
+      inside = sym (append-nil (slots k′ p′ w′ to (b - to))) ∙ c .joined;
+      kind = c .kind;
+      place = c .place;
+      weight = c .weight;
+    }
+
+copied-length : {to m : ℕ} {these : List Slot} {k p w k′ p′ w′ : List ℕ} → Copied to m these k p w k′ p′ w′ → m - to ≡ length these
+copied-length {to} {m} {k′ = k′} {p′ = p′} {w′ = w′} c = sym (slots-length k′ p′ w′ (m - to) to) ∙ ap (length {A = Slot}) (c .inside)
+
+-- ---- the first j transitions are done
+
+pub record Done (n : NetRecord) (arcs kind place weight : List ℕ) (j : ℕ) : Type 0 where
+  pub within : j ≤ n .transitions
+  pub long-arcs : length arcs ≡ 64
+  pub long-kind : length kind ≡ 1024
+  pub long-place : length place ≡ 1024
+  pub long-weight : length weight ≡ 1024
+  pub same-arcs : (i : ℕ) → i < j → getD arcs i 0 ≡ getD (n .arcs) i 0
+  pub sorted : (i : ℕ) → i < j → slots kind place weight (16 * i) (getD (n .arcs) i 0) ≡ inOrder (slotsOf n i)
+  pub few : AtMost 16 arcs
+  pub low : Below (n .places) place
+  pub light : AtMost 1_000_000 weight
+
+module _ (n : NetRecord) (s : Sound n) where
+  pub done-none : Done n (replicate 64 0) (replicate 1024 0) (replicate 1024 0) (replicate 1024 0) 0
+  done-none =
+      record {
+        within = omega arith;
+        long-arcs = length-replicate {A = ℕ} 64 0;
+        long-kind = length-replicate {A = ℕ} 1024 0;
+        long-place = length-replicate {A = ℕ} 1024 0;
+        long-weight = length-replicate {A = ℕ} 1024 0;
+        same-arcs = below-none _;
+        sorted = λ i h. absurd (omega arith);
+        few = each-zero (λ (x : ℕ). x ≤ 16) 64 (omega arith);
+        low = each-zero (λ (x : ℕ). x < n .places) 1024 (omega (arith, s .place-one));
+        light = each-zero (λ (x : ℕ). x ≤ 1_000_000) 1024 (omega arith);
+      }
+
+  module _ (j : ℕ) (h : j < n .transitions) where
+    abbrev count : ℕ
+    count = getD (n .arcs) j 0
+
+    abbrev end : ℕ
+    end = 16 * j + count
+
+    abbrev ls : List Slot
+    ls = slotsOf n j
+
+    pub group-lengths : length (ofGroup 0 ls) + length (ofGroup 1 ls) ≡ count
+    group-lengths = both-groups ls ∙ slots-length (n .kind) (n .place) (n .weight) count (16 * j)
+
+    -- there is room for the second group
+    pub second-room : {m : ℕ} {k p w k′ p′ w′ : List ℕ} → Copied (16 * j) m (ofGroup 0 ls) k p w k′ p′ w′ → m + length (ofGroup 1 ls) ≡ end
+    second-room c = omega (arith, c .up, copied-length c, group-lengths)
+
+    slot : (b : ℕ) → 16 * j ≤ b → 16 * j + (b - 16 * j) ≡ b
+    slot b g = omega arith
+
+    abbrev Fits : Slot → Type 0
+    Fits l = (l .place < n .places) × (l .weight ≤ 1_000_000)
+
+    used : All Fits (inOrder ls)
+    used =
+        let all : All Fits ls = all-from Fits (n .kind) (n .place) (n .weight) count (16 * j) (λ b x y. (
+          subst (λ (z : ℕ). getD (n .place) z 0 < n .places) (slot b x) (s .place j (b - 16 * j) h (omega arith)),
+          subst (λ (z : ℕ). getD (n .weight) z 0 ≤ 1_000_000) (slot b x) (s .weight j (b - 16 * j) h (omega arith)),
+        )) in
+        all-append Fits (all-group Fits 0 all) (all-group Fits 1 all)
+
+    module _ {m r : ℕ} {kind place weight kind′ place′ weight′ kind″ place″ weight″ : List ℕ}
+        (c : Copied (16 * j) m (ofGroup 0 ls) kind place weight kind′ place′ weight′) (d : Copied m r (ofGroup 1 ls) kind′ place′ weight′ kind″ place″ weight″) where
+      r-is : r ≡ end
+      r-is = omega (arith, c .up, d .up, copied-length c, copied-length d, group-lengths)
+
+      new-slots : slots kind″ place″ weight″ (16 * j) count ≡ inOrder ls
+      new-slots =
+          let e : count ≡ (m - 16 * j) + (r - m) = omega (arith, c .up, d .up, r-is) in
+          let f : 16 * j + (m - 16 * j) ≡ m = omega (arith, c .up) in
+          let old : slots kind″ place″ weight″ (16 * j) (m - 16 * j) ≡ slots kind′ place′ weight′ (16 * j) (m - 16 * j) =
+          slots-same kind′ place′ weight′ kind″ place″ weight″ (m - 16 * j) (16 * j)
+          (λ b x y. d .kind b (inl (omega arith))) (λ b x y. d .place b (inl (omega arith))) (λ b x y. d .weight b (inl (omega arith))) in
+          let u = old ∙ c .inside in
+          let v = ap (λ (z : ℕ). slots kind″ place″ weight″ z (r - m)) f ∙ d .inside in
+          slots-split kind″ place″ weight″ (m - 16 * j) (r - m) count (16 * j) e ∙ (λ i. u i ++ v i)
+
+      kept : (xs ys zs : List ℕ) → Outside (16 * j) m xs ys → Outside m r ys zs → Outside (16 * j) end xs zs
+      kept xs ys zs f g a x = ⊎-elim (λ y. g a (inl (omega (arith, c .up))) ∙ f a (inl y)) (λ y. g a (inr (omega (arith, r-is))) ∙ f a (inr (omega (arith, r-is, d .up)))) x
+
+      each-new : (P : ℕ → Type 0) (xs zs : List ℕ) → Outside (16 * j) end xs zs → ((b : ℕ) → 16 * j ≤ b → b < 16 * j + count → P (getD zs b 0)) → ((a : ℕ) → P (getD xs a 0)) → (a : ℕ) → P (getD zs a 0)
+      each-new P xs zs o new old a =
+          on-bool (ltb a (16 * j))
+          (λ e. subst⁻¹ P (o a (inl (ltb-true a (16 * j) e))) (old a))
+          (λ e. on-bool (ltb a end)
+          (λ f. new a (ltb-false a (16 * j) e) (ltb-true a end f))
+          (λ f. subst⁻¹ P (o a (inr (ltb-false a end f))) (old a)))
+
+      fits-new : (b : ℕ) → 16 * j ≤ b → b < 16 * j + count → Fits (slotAt kind″ place″ weight″ b)
+      fits-new = all-at Fits kind″ place″ weight″ count (16 * j) (subst⁻¹ (All Fits) new-slots used)
+
+      sorted-more : ((i : ℕ) → i < j → slots kind place weight (16 * i) (getD (n .arcs) i 0) ≡ inOrder (slotsOf n i))
+          → (i : ℕ) → i < j + 1 → slots kind″ place″ weight″ (16 * i) (getD (n .arcs) i 0) ≡ inOrder (slotsOf n i)
+      sorted-more f =
+          below-more (λ (i : ℕ). slots kind″ place″ weight″ (16 * i) (getD (n .arcs) i 0) ≡ inOrder (slotsOf n i)) j
+          (λ i l.
+          let a = s .arcs i (omega arith) in
+          slots-same kind place weight kind″ place″ weight″ (getD (n .arcs) i 0) (16 * i)
+          (λ b x y. kept kind kind′ kind″ (c .kind) (d .kind) b (inl (omega arith))) (λ b x y. kept place place′ place″ (c .place) (d .place) b (inl (omega arith))) (λ b x y. kept weight weight′ weight″ (c .weight) (d .weight) b (inl (omega arith)))
+          ∙ f i l)
+          new-slots
+
+      pub done-more : {arcs : List ℕ} → Done n arcs kind place weight j → Done n (set arcs j count) kind″ place″ weight″ (j + 1)
+      done-more {arcs} o =
+          let l : j < length arcs = omega (arith, o .long-arcs, s .transitions) in
+          record {
+            within = omega arith;
+            long-arcs = length-set arcs j count ∙ o .long-arcs;
+            long-kind = d .long-kind ∙ c .long-kind ∙ o .long-kind;
+            long-place = d .long-place ∙ c .long-place ∙ o .long-place;
+            long-weight = d .long-weight ∙ c .long-weight ∙ o .long-weight;
+            same-arcs =
+                below-more (λ (i : ℕ). getD (set arcs j count) i 0 ≡ getD (n .arcs) i 0) j
+                (λ i k. getD-set-other arcs j i count 0 (ne-of-lt k) ∙ o .same-arcs i k) (getD-set-same arcs j count 0 l);
+            sorted = sorted-more (o .sorted);
+            few = each-set (λ (y : ℕ). y ≤ 16) arcs j count l (s .arcs j h) (o .few);
+            low = each-new (λ (y : ℕ). y < n .places) place place″ (kept place place′ place″ (c .place) (d .place)) (λ b x y. fits-new b x y .0) (o .low);
+            light = each-new (λ (y : ℕ). y ≤ 1_000_000) weight weight″ (kept weight weight′ weight″ (c .weight) (d .weight)) (λ b x y. fits-new b x y .1) (o .light);
+          }
+
+-- ---- all are done
+
 module _ (n : NetRecord) (arcs kind place weight : List ℕ) (j : ℕ) (d : Done n arcs kind place weight j) where
   abbrev made : NetRecord
   made = netOf (n .places) (n .transitions) (n .initial) (n .capacity) (n .rate) (n .delay) arcs kind place weight
@@ -175,17 +439,15 @@ module _ (n : NetRecord) (arcs kind place weight : List ℕ) (j : ℕ) (d : Done
   abbrev with-transitions : List Transition → Net
   with-transitions ts = record { places = placesFrom (n .initial) (n .capacity) 0 (n .places); transitions = ts }
 
-  slots-made : (i : ℕ) → i < j → slotsOf made i ≡ slotsOf n i
-  slots-made i h =
-      ap (slots kind place weight (16 * i)) (d .same-arcs i h)
-      ∙ slots-same (n .kind) (n .place) (n .weight) kind place weight (getD (n .arcs) i 0) (16 * i)
-      (λ b. d .same-kind i b h) (λ b. d .same-place i b h) (λ b. d .same-weight i b h)
+  transition-made : (i : ℕ) → i < j → transition made i ≡ transition n i
+  transition-made i h =
+      ap (transitionOf (getD (n .rate) i nan) (getD (n .delay) i nan)) (ap (slots kind place weight (16 * i)) (d .same-arcs i h) ∙ d .sorted i h)
+      ∙ order-reads (getD (n .rate) i nan) (getD (n .delay) i nan) (slotsOf n i)
 
   transitions-made : (k i : ℕ) → i + k ≤ j → transitionsFrom made i k ≡ transitionsFrom n i k
   transitions-made zero i h = refl
   transitions-made (suc k) i h =
-      ap (λ (t : Transition). t ∷ transitionsFrom made (suc i) k)
-      (ap (transitionOf (getD (n .rate) i nan) (getD (n .delay) i nan)) (slots-made i (omega arith)))
+      ap (λ (t : Transition). t ∷ transitionsFrom made (suc i) k) (transition-made i (omega arith))
       ∙ ap (λ (ts : List Transition). transition n i ∷ ts) (transitions-made k (suc i) (omega arith))
 
   pub made-reads : n .transitions ≤ j → readable made ≡ readable n

@@ -14,8 +14,8 @@ ghost use Rattle.ssa.specs.Limits as Limits;
 use crate::slots;
 use combinations::Ways;
 
-// Does a slot of this limit let its transition run, at the count of its place? Below 2^63 the limit is one from above, else 2^64 less one from below;
-// so it compiles to one comparison.
+// Does a slot of this limit let its transition run, at the count of its place? Below 2^63 it is an upper limit, else 2^64 less a lower one (specs/Limits);
+// compiled, the two are one comparison.
 fn slot_open(limit: u64, count: u64) -> bool
     ensures { λ r. ⌜ r ≡ Limits.slotOpen limit count ⌝ }
 {
@@ -25,7 +25,7 @@ fn slot_open(limit: u64, count: u64) -> bool
     0xFFFF_FFFF_FFFF_FFFF - count < limit
 }
 
-// May transition j run, at these counts? By the table of limits.
+// May transition j run, at these counts? By the table of limits; slots behind a stop are puts without a limit.
 pub fn enabled<'a>(
     places: usize,
     transitions: usize,
@@ -55,8 +55,9 @@ pub fn enabled<'a>(
     let mut a = from;
     while a < end {
         let p = place[a];
-        if !slot_open(limit[a], counts[p]) {
-            return false;
+        let l = limit[a];
+        if !slot_open(l, counts[p]) {
+            return l == slots::STOP;
         }
         a += 1;
     }
@@ -102,7 +103,7 @@ fn times(x: f64, kind: u64, weight: u64, count: u64) -> f64
     x
 }
 
-// The propensity of transition j, at these counts: its rate times the ways of its slots, and 0 from the first slot on that is not open.
+// The propensity of transition j, at these counts: its rate times the ways of its slots, and 0 where one is not open.
 fn propensity<'a>(
     places: usize,
     transitions: usize,
@@ -134,7 +135,11 @@ fn propensity<'a>(
     while a < end {
         let p = place[a];
         let c = counts[p];
-        if !slot_open(limit[a], c) {
+        let l = limit[a];
+        if !slot_open(l, c) {
+            if l == slots::STOP {
+                return x;
+            }
             return 0.0;
         }
         x = times(x, kind[a], weight[a], c);

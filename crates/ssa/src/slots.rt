@@ -2,7 +2,9 @@
 ghost use mathlib.Core.Path.{_≡_};
 ghost use mathlib.Core.Option.{none};
 ghost use Prim.Native.Nat.{ℕ, _+_, _-_, _*_, _^_, _<_, _≤_};
-ghost use lib.ListN.{length, getD};
+ghost use lib.ListN.{length, getD, set};
+ghost use lib.Dec.{eqb};
+ghost use mathlib.Core.Bool.{true};
 ghost use Rattle.net.specs.Net as Reader;
 ghost use Rattle.net.specs.Readable as Record;
 ghost use Rattle.ssa.specs.Engine as Engine;
@@ -10,36 +12,75 @@ ghost use Rattle.ssa.specs.Limits as Limits;
 ghost use Rattle.ssa.specs.Arcs as Arcs;
 use net::Net;
 
-// Copies n slots from slot `from` on.
+// The group of a slot, by its kind: puts are behind.
+fn group(kind: u64) -> u64
+    ensures { λ r. ⌜ r ≡ Arcs.group kind ⌝ }
+{
+    if kind == net::PUT {
+        return 1;
+    }
+    0
+}
+
+// Copies a slot to slot b, if it is of group g, and answers with the next slot to fill.
+fn copy_slot(
+    kind: u64,
+    place: usize,
+    weight: u64,
+    g: u64,
+    b: usize,
+    kinds: &mut [u64; 1024],
+    places: &mut [usize; 1024],
+    weights: &mut [u64; 1024],
+) -> usize
+    requires { ⌜ (eqb (Arcs.group kind) g ≡ true → b < 1024) × (length (now kinds) ≡ 1024) × (length (now places) ≡ 1024) × (length (now weights) ≡ 1024) ⌝ }
+    ensures { λ r. ⌜ (r ≡ Reader.pick (eqb (Arcs.group kind) g) (b + 1) b)
+        × (now (kinds .exit) ≡ Reader.pick (eqb (Arcs.group kind) g) (set (now (kinds .entry)) b kind) (now (kinds .entry)))
+        × (now (places .exit) ≡ Reader.pick (eqb (Arcs.group kind) g) (set (now (places .entry)) b place) (now (places .entry)))
+        × (now (weights .exit) ≡ Reader.pick (eqb (Arcs.group kind) g) (set (now (weights .entry)) b weight) (now (weights .entry))) ⌝ }
+{
+    if group(kind) == g {
+        kinds[b] = kind;
+        places[b] = place;
+        weights[b] = weight;
+        return b + 1;
+    }
+    b
+}
+
+// Copies those of n slots from slot `from` on that are of group g to the slots from `to` on, and answers with the slot behind them.
 fn copy_slots<'a>(
     kind: &'a [u64; 1024],
     place: &'a [usize; 1024],
     weight: &'a [u64; 1024],
     from: usize,
     n: usize,
+    g: u64,
+    to: usize,
     kinds: &mut [u64; 1024],
     places: &mut [usize; 1024],
     weights: &mut [u64; 1024],
-)
-    requires { ⌜ (from + n ≤ 1024) × (length (now kinds) ≡ 1024) × (length (now places) ≡ 1024) × (length (now weights) ≡ 1024) ⌝ }
-    ensures { λ _. ⌜ Arcs.Copied from (from + n) (now (kind .entry)) (now (kinds .entry)) (now (kinds .exit))
-        × Arcs.Copied from (from + n) (now (place .entry)) (now (places .entry)) (now (places .exit))
-        × Arcs.Copied from (from + n) (now (weight .entry)) (now (weights .entry)) (now (weights .exit)) ⌝ }
+) -> usize
+    requires { ⌜ (from + n ≤ 1024) × (to + length (Arcs.ofGroup g (Record.slots (now kind) (now place) (now weight) from n)) ≤ 1024)
+        × (length (now kinds) ≡ 1024) × (length (now places) ≡ 1024) × (length (now weights) ≡ 1024) ⌝ }
+    ensures { λ r. ⌜ Arcs.Copied to r (Arcs.ofGroup g (Record.slots (now (kind .entry)) (now (place .entry)) (now (weight .entry)) from n))
+        (now (kinds .entry)) (now (places .entry)) (now (weights .entry)) (now (kinds .exit)) (now (places .exit)) (now (weights .exit)) ⌝ }
 {
     let end = from + n;
+    let mut b = to;
     let mut a = from;
     while a < end {
         let k = kind[a];
         let p = place[a];
         let w = weight[a];
-        kinds[a] = k;
-        places[a] = p;
-        weights[a] = w;
+        b = copy_slot(k, p, w, g, b, kinds, places, weights);
         a += 1;
     }
+    b
 }
 
-// The same net with every slot that is not used at 0: then the bounds of an accepted net hold in all slots.
+// The same net with the puts of a transition behind its other arcs, so that a test may end before them, and with every slot that is not used at 0,
+// so that the bounds of an accepted net hold in all slots. It reads as the same net: the order among takes, reads, blocks and puts stays.
 pub fn tidied(net: Net) -> Net
     requires { ⌜ Record.fault net ≡ none ⌝ }
     ensures { λ r. ⌜ (Record.readable r ≡ Record.readable net) × Engine.Tidy r × (r .places ≡ net .places) × (r .initial ≡ net .initial) ⌝ }
@@ -53,12 +94,27 @@ pub fn tidied(net: Net) -> Net
     while j < transitions {
         let n = net.arcs[j];
         arcs[j] = n;
+        let from = 16 * j;
+        let to = copy_slots(
+            &net.kind,
+            &net.place,
+            &net.weight,
+            from,
+            n,
+            0,
+            from,
+            &mut kind,
+            &mut place,
+            &mut weight,
+        );
         copy_slots(
             &net.kind,
             &net.place,
             &net.weight,
-            16 * j,
+            from,
             n,
+            1,
+            to,
             &mut kind,
             &mut place,
             &mut weight,
@@ -92,6 +148,9 @@ pub fn amount(w: u64) -> u64
 
 // No count reaches it.
 const NO_LIMIT: u64 = 0x7FFF_FFFF_FFFF_FFFF;
+
+// In the table of limits: this slot and all behind it of its transition have no limit. It is open at no count.
+pub const STOP: u64 = 0x8000_0000_0000_0000;
 
 // What a transition puts into a place, and takes from it.
 struct Change {
@@ -215,8 +274,8 @@ fn slot_limit<'a>(
     room_limit(q, c)
 }
 
-// Fills the table of limits.
-pub fn fill_limits<'a>(
+// Fills the table with the limit of every slot.
+fn fill_slots<'a>(
     places: usize,
     transitions: usize,
     initial: &'a [u64; 32],
@@ -230,8 +289,9 @@ pub fn fill_limits<'a>(
     limit: &mut [u64; 1024],
 )
     requires { ⌜ Engine.Tidy (Engine.netOf places transitions (now initial) (now capacity) (now rate) (now delay) (now arcs) (now kind) (now place) (now weight)) × (length (now limit) ≡ 1024) ⌝ }
-    ensures { λ _. ⌜ Limits.Limits (Engine.netOf places transitions (now (initial .entry)) (now (capacity .entry)) (now (rate .entry)) (now (delay .entry))
-        (now (arcs .entry)) (now (kind .entry)) (now (place .entry)) (now (weight .entry))) (now (limit .exit)) ⌝ }
+    ensures { λ _. ⌜ (length (now (limit .exit)) ≡ 1024) × ((a : ℕ) → a < 16 * transitions → getD (now (limit .exit)) a 0 ≡ Limits.limitAt
+        (Engine.netOf places transitions (now (initial .entry)) (now (capacity .entry)) (now (rate .entry)) (now (delay .entry))
+        (now (arcs .entry)) (now (kind .entry)) (now (place .entry)) (now (weight .entry))) a) ⌝ }
 {
     let end = 16 * transitions;
     let mut a: usize = 0;
@@ -253,6 +313,72 @@ pub fn fill_limits<'a>(
         limit[a] = x;
         a = b;
     }
+}
+
+// Marks the slots without a limit at the end of those from `from` to before `end`, and answers with the first of them.
+fn mark_rest(limit: &mut [u64; 1024], from: usize, end: usize) -> usize
+    requires { ⌜ (from ≤ end) × (end ≤ 1024) × (length (now limit) ≡ 1024) ⌝ }
+    ensures { λ r. ⌜ (from ≤ r) × (r ≤ end) × Limits.Rest r end (now (limit .entry)) (now (limit .exit)) ⌝ }
+{
+    let mut a = end;
+    while from < a {
+        let b = a - 1;
+        if limit[b] != NO_LIMIT {
+            return a;
+        }
+        limit[b] = STOP;
+        a = b;
+    }
+    a
+}
+
+// Marks them in every transition.
+fn mark_rests(transitions: usize, arcs: &[usize; 64], limit: &mut [u64; 1024])
+    requires { ⌜ (transitions ≤ 64) × Engine.AtMost 16 (now arcs) × (length (now limit) ≡ 1024) ⌝ }
+    ensures { λ _. ⌜ ((a : ℕ) → Limits.Says (now (arcs .entry)) (λ (b : ℕ). getD (now (limit .entry)) b 0) a (getD (now (limit .exit)) a 0)) ⌝ }
+{
+    let mut j: usize = 0;
+    while j < transitions {
+        let k = j + 1;
+        let from = 16 * j;
+        let end = from + arcs[j];
+        mark_rest(limit, from, end);
+        j = k;
+    }
+}
+
+// Fills the table of limits.
+pub fn fill_limits<'a>(
+    places: usize,
+    transitions: usize,
+    initial: &'a [u64; 32],
+    capacity: &'a [u64; 32],
+    rate: &'a [f64; 64],
+    delay: &'a [f64; 64],
+    arcs: &'a [usize; 64],
+    kind: &'a [u64; 1024],
+    place: &'a [usize; 1024],
+    weight: &'a [u64; 1024],
+    limit: &mut [u64; 1024],
+)
+    requires { ⌜ Engine.Tidy (Engine.netOf places transitions (now initial) (now capacity) (now rate) (now delay) (now arcs) (now kind) (now place) (now weight)) × (length (now limit) ≡ 1024) ⌝ }
+    ensures { λ _. ⌜ Limits.Limits (Engine.netOf places transitions (now (initial .entry)) (now (capacity .entry)) (now (rate .entry)) (now (delay .entry))
+        (now (arcs .entry)) (now (kind .entry)) (now (place .entry)) (now (weight .entry))) (now (limit .exit)) ⌝ }
+{
+    fill_slots(
+        places,
+        transitions,
+        initial,
+        capacity,
+        rate,
+        delay,
+        arcs,
+        kind,
+        place,
+        weight,
+        limit,
+    );
+    mark_rests(transitions, arcs, limit);
 }
 
 // The initial counts of the first `places` places, and 0 beyond.

@@ -5,19 +5,18 @@ use Rattle.net.specs.Readable.{readable, transition}
 use Rattle.rules.specs.Enabled.{enabled}
 use Rattle.ssa.specs.Engine.{netOf, marking}
 use Rattle.ssa.specs.Limits.{limitAt}
-use Rattle.ssa.proofs.Arcs.{and-stop, and-go}
-use Rattle.ssa.proofs.Limits.{openFrom, open-all, from-turn, from-end}
+use Rattle.ssa.proofs.Limits.{openFrom, open-all, from-last, from-open, from-end}
 use borrow.Author.Needs.{needs}
 use native.Mathlib.Omega.{arith}
 use mathlib.Core.Path.{_≡_, sym, _∙_}
-use Prim.Native.Nat.{_+_, _-_, _*_, _<_}
+use Prim.Native.Nat.{_+_, _-_, _*_, _≤_, _<_}
 use Rattle.ssa.proofs.marking.enabled.Statement.{statement}
 use Rattle.ssa.proofs.marking.enabled.Tie as tie
 
 abbrev Inv-loop : tie.InvT-loop
 Inv-loop places transitions initial capacity rate delay arcs kind place weight limit counts j from end a₀ a =
     let n = netOf places transitions initial capacity rate delay arcs kind place weight in
-    openFrom (limitAt n) place counts a (end - a) ≡ enabled (readable n) (marking places counts) (transition n j)
+    (from ≤ a) × (openFrom (limitAt n) place counts a (end - a) ≡ enabled (readable n) (marking places counts) (transition n j))
 
 abbrev μ-loop : tie.MeasureT-loop
 μ-loop places transitions initial capacity rate delay arcs kind place weight limit counts j from end a₀ a = end - a
@@ -43,7 +42,7 @@ add-end c = omega (arith, c .before .pre .0, c .before .pre .1 .transitions, c .
 loop-holds : tie.Need-loop-holds Inv-loop μ-loop
 loop-holds c =
     let s = c .before .args in
-    open-all (netOf (s .places) (s .transitions) (s .initial .now) (s .capacity .now) (s .rate .now) (s .delay .now) (s .arcs .now) (s .kind .now) (s .place .now) (s .weight .now)) (s .counts .now) (s .j) (c .before .pre .1) (c .before .pre .3 .small)
+    (omega arith, open-all (netOf (s .places) (s .transitions) (s .initial .now) (s .capacity .now) (s .rate .now) (s .delay .now) (s .arcs .now) (s .kind .now) (s .place .now) (s .weight .now)) (s .counts .now) (s .j) (c .before .pre .1) (c .before .pre .3 .small))
 
 mul-p : tie.Need-mul-p Inv-loop μ-loop
 mul-p c = omega (arith, in-table c)
@@ -51,20 +50,20 @@ mul-p c = omega (arith, in-table c)
 element-copy-out-p : tie.Need-element-copy-out-p Inv-loop μ-loop
 element-copy-out-p c = omega (arith, in-table c)
 
+mul-l : tie.Need-mul-l Inv-loop μ-loop
+mul-l c = omega (arith, in-table (c .before))
+
+element-copy-out-l : tie.Need-element-copy-out-l Inv-loop μ-loop
+element-copy-out-l c = omega (arith, in-table (c .before))
+
 mul-slot-open : tie.Need-mul-slot-open Inv-loop μ-loop
-mul-slot-open c = omega (arith, in-table (c .before))
-
-element-copy-out-slot-open : tie.Need-element-copy-out-slot-open Inv-loop μ-loop
-element-copy-out-slot-open c = omega (arith, in-table (c .before))
-
-mul-slot-open-2 : tie.Need-mul-slot-open-2 Inv-loop μ-loop
-mul-slot-open-2 c =
+mul-slot-open c =
     let l = c .before .before .before in
     let s = l .before .before in
     omega (arith, s .pre .1 .place (l .loop .a), s .pre .1 .places)
 
-element-copy-out-slot-open-2 : tie.Need-element-copy-out-slot-open-2 Inv-loop μ-loop
-element-copy-out-slot-open-2 c =
+element-copy-out-slot-open : tie.Need-element-copy-out-slot-open Inv-loop μ-loop
+element-copy-out-slot-open c =
     let l = c .before .before .before in
     let s = l .before .before in
     omega (arith, s .pre .1 .place (l .loop .a), s .pre .1 .places)
@@ -77,10 +76,8 @@ returns c =
     let l = c .before .before .before .before .before in
     let r = l .before .before .before in
     let s = r .args in
-    and-stop _ _
-    (from-turn (netOf (s .places) (s .transitions) (s .initial .now) (s .capacity .now) (s .rate .now) (s .delay .now) (s .arcs .now) (s .kind .now) (s .place .now) (s .weight .now)) (s .counts .now) (s .limit .now) (l .before .loop .a) (16 * s .j + getD (s .arcs .now) (s .j) 0) (r .pre .2)
-    (omega (arith, l .loop-test .taken, r .pre .0, r .pre .1 .arcs (s .j))) (l .loop-test .taken) (l .before .loop .inv))
-    (sym (c .before .slot-open .ensures) ∙ not-true _ (c .if1 .taken))
+    from-last (netOf (s .places) (s .transitions) (s .initial .now) (s .capacity .now) (s .rate .now) (s .delay .now) (s .arcs .now) (s .kind .now) (s .place .now) (s .weight .now)) (r .pre .1) (s .counts .now) (r .pre .3 .small) (s .j) (l .before .loop .a) (getD (s .limit .now) (l .before .loop .a) 0) (l .before .loop .inv .0) (l .loop-test .taken)
+    (r .pre .2 (l .before .loop .a) (omega (arith, l .loop-test .taken, r .pre .0, r .pre .1 .arcs (s .j)))) (l .before .loop .inv .1) (sym (c .before .slot-open .ensures) ∙ not-true _ (c .if1 .taken))
 
 add-a : tie.Need-add-a Inv-loop μ-loop
 add-a c = omega (arith, in-table (c .before .before .before .before .before))
@@ -92,17 +89,17 @@ loop-again : tie.Need-loop-again Inv-loop μ-loop
 loop-again c =
     let l = c .before .before .before .before .before in
     let r = l .before .before .before in
-    let s = r .args in
-    and-go _ _
-    (from-turn (netOf (s .places) (s .transitions) (s .initial .now) (s .capacity .now) (s .rate .now) (s .delay .now) (s .arcs .now) (s .kind .now) (s .place .now) (s .weight .now)) (s .counts .now) (s .limit .now) (l .before .loop .a) (16 * s .j + getD (s .arcs .now) (s .j) 0) (r .pre .2)
-    (omega (arith, l .loop-test .taken, r .pre .0, r .pre .1 .arcs (s .j))) (l .loop-test .taken) (l .before .loop .inv))
-    (sym (c .before .slot-open .ensures) ∙ not-false _ (c .if1 .left))
+    let s = r .args in (
+      omega (arith, l .before .loop .inv .0),
+      from-open (netOf (s .places) (s .transitions) (s .initial .now) (s .capacity .now) (s .rate .now) (s .delay .now) (s .arcs .now) (s .kind .now) (s .place .now) (s .weight .now)) (r .pre .1) (s .counts .now) (r .pre .3 .small) (s .j) (l .before .loop .a) (getD (s .limit .now) (l .before .loop .a) 0) (l .before .loop .inv .0) (l .loop-test .taken)
+          (r .pre .2 (l .before .loop .a) (omega (arith, l .loop-test .taken, r .pre .0, r .pre .1 .arcs (s .j)))) (l .before .loop .inv .1) (sym (c .before .slot-open .ensures) ∙ not-false _ (c .if1 .left)),
+    )
 
 returns-2 : tie.Need-returns-2 Inv-loop μ-loop
 returns-2 c =
     let l = c .before in
     let s = l .before .before .args in
-    from-end (netOf (s .places) (s .transitions) (s .initial .now) (s .capacity .now) (s .rate .now) (s .delay .now) (s .arcs .now) (s .kind .now) (s .place .now) (s .weight .now)) (s .counts .now) (s .limit .now) (l .loop .a) (16 * s .j + getD (s .arcs .now) (s .j) 0) (c .loop-test .left) (l .loop .inv)
+    from-end (limitAt (netOf (s .places) (s .transitions) (s .initial .now) (s .capacity .now) (s .rate .now) (s .delay .now) (s .arcs .now) (s .kind .now) (s .place .now) (s .weight .now))) (s .place .now) (s .counts .now) (l .loop .a) (16 * s .j + getD (s .arcs .now) (s .j) 0) (c .loop-test .left) (l .loop .inv .1)
 
 pub enabled-spec : {M : Type 1} → statement M
 enabled-spec =
@@ -117,10 +114,10 @@ enabled-spec =
     loop-holds
     mul-p
     element-copy-out-p
+    mul-l
+    element-copy-out-l
     mul-slot-open
     element-copy-out-slot-open
-    mul-slot-open-2
-    element-copy-out-slot-open-2
     slot-open-requires
     returns
     add-a

@@ -1,11 +1,11 @@
--- The slots that are left are open where the transition is enabled, and their factors, on top of x, come to the whole. At a slot that is not open
--- the transition is not enabled, and its propensity is 0. Assumes nothing.
+-- The slots that are left are open where the transition is enabled, and their factors, on top of x, come to the whole. At a slot that is not open the
+-- transition is not enabled, and its propensity is 0; where the test may end, only puts are left, which have no factors. Assumes nothing.
 use lib.ListN.{getD}
 use lib.Ieee.{Float}
 use mathlib.Core.Bool.{true, false}
 use mathlib.Core.List.{List}
 use mathlib.Core.Path.{_≡_, refl, sym, ap, _∙_}
-use Prim.Native.Nat.{_+_, _-_, _*_, _<_}
+use Prim.Native.Nat.{_+_, _-_, _*_, _≤_, _<_}
 use native.Mathlib.Omega.{arith}
 use borrow.Author.Needs.{needs}
 use borrow.Author.Tests.{not-true, not-false}
@@ -15,8 +15,8 @@ use Rattle.rules.specs.Enabled.{enabled}
 use Rattle.rules.specs.Propensity.{factored}
 use Rattle.ssa.specs.Engine.{netOf, marking}
 use Rattle.ssa.specs.Limits.{limitAt}
-use Rattle.ssa.proofs.Arcs.{and-stop, and-go, slots-end}
-use Rattle.ssa.proofs.Limits.{openFrom, open-all, from-turn, from-end}
+use Rattle.ssa.proofs.Arcs.{slots-end}
+use Rattle.ssa.proofs.Limits.{openFrom, open-all, from-stop, from-shut, from-open, no-takes, from-end}
 use Rattle.ssa.proofs.Factors.{factored-turn, prop-stop, prop-go}
 use Rattle.ssa.proofs.marking.propensity.Statement.{statement}
 use Rattle.ssa.proofs.marking.propensity.Tie as tie
@@ -24,7 +24,8 @@ use Rattle.ssa.proofs.marking.propensity.Tie as tie
 abbrev Inv-loop : tie.InvT-loop
 Inv-loop places transitions initial capacity rate delay arcs kind place weight limit counts j from end x₀ a₀ x a =
     let n = netOf places transitions initial capacity rate delay arcs kind place weight in
-    (openFrom (limitAt n) place counts a (end - a) ≡ enabled (readable n) (marking places counts) (transition n j))
+    (from ≤ a)
+    × (openFrom (limitAt n) place counts a (end - a) ≡ enabled (readable n) (marking places counts) (transition n j))
     × (factored counts x (takesOf (slots kind place weight a (end - a))) ≡ factored counts (rateOf (transition n j)) (takesOf (slots kind place weight from (end - from))))
 
 abbrev μ-loop : tie.MeasureT-loop
@@ -67,6 +68,7 @@ loop-holds : tie.Need-loop-holds Inv-loop μ-loop
 loop-holds c =
     let r = c .before .before .before .before in
     let s = r .args in (
+      omega arith,
       open-all (netOf (s .places) (s .transitions) (s .initial .now) (s .capacity .now) (s .rate .now) (s .delay .now) (s .arcs .now) (s .kind .now) (s .place .now) (s .weight .now)) (s .counts .now) (s .j) (r .pre .1) (r .pre .3 .small),
       ap (λ (z : Float). factored (s .counts .now) z (takesOf (slots (s .kind .now) (s .place .now) (s .weight .now) (16 * s .j) ((16 * s .j + getD (s .arcs .now) (s .j) 0) - 16 * s .j)))) (c .rate-of .ensures),
     )
@@ -89,24 +91,36 @@ element-copy-out-c c =
     let s = l .before .before .before .before .before in
     omega (arith, s .pre .1 .place (l .loop .a), s .pre .1 .places)
 
-mul-slot-open : tie.Need-mul-slot-open Inv-loop μ-loop
-mul-slot-open c = omega (arith, in-table (c .before .before))
+mul-l : tie.Need-mul-l Inv-loop μ-loop
+mul-l c = omega (arith, in-table (c .before .before))
 
-element-copy-out-slot-open : tie.Need-element-copy-out-slot-open Inv-loop μ-loop
-element-copy-out-slot-open c = omega (arith, in-table (c .before .before))
+element-copy-out-l : tie.Need-element-copy-out-l Inv-loop μ-loop
+element-copy-out-l c = omega (arith, in-table (c .before .before))
 
 slot-open-requires : tie.Need-slot-open-requires Inv-loop μ-loop
 slot-open-requires c κs = search needs
 
 returns : tie.Need-returns Inv-loop μ-loop
 returns c =
-    let l = c .before .before .before .before .before in
+    let l = c .before .before .before .before .before .before in
     let r = l .before .before .before .before .before .before in
     let s = r .args in
-    prop-stop (netOf (s .places) (s .transitions) (s .initial .now) (s .capacity .now) (s .rate .now) (s .delay .now) (s .arcs .now) (s .kind .now) (s .place .now) (s .weight .now)) (s .counts .now) (s .j) false
-    (and-stop _ _ (from-turn (netOf (s .places) (s .transitions) (s .initial .now) (s .capacity .now) (s .rate .now) (s .delay .now) (s .arcs .now) (s .kind .now) (s .place .now) (s .weight .now)) (s .counts .now) (s .limit .now) (l .before .loop .a) (16 * s .j + getD (s .arcs .now) (s .j) 0) (r .pre .2)
-    (omega (arith, l .loop-test .taken, r .pre .0, r .pre .1 .arcs (s .j))) (l .loop-test .taken) (l .before .loop .inv .0))
-    (sym (c .before .slot-open .ensures) ∙ not-true _ (c .if1 .taken)))
+    let n = netOf (s .places) (s .transitions) (s .initial .now) (s .capacity .now) (s .rate .now) (s .delay .now) (s .arcs .now) (s .kind .now) (s .place .now) (s .weight .now) in
+    let say = r .pre .2 (l .before .loop .a) (omega (arith, l .loop-test .taken, r .pre .0, r .pre .1 .arcs (s .j))) in
+    prop-go n (s .counts .now) (s .j) (r .pre .1 .place) true (rateOf (transition n (s .j))) (l .before .loop .x)
+    (from-stop n (r .pre .1) (s .counts .now) (r .pre .3 .small) (s .j) (l .before .loop .a) (getD (s .limit .now) (l .before .loop .a) 0) (l .before .loop .inv .0) (l .loop-test .taken) say (l .before .loop .inv .1) (c .if2 .taken)) refl refl
+    (sym (ap (factored (s .counts .now) (l .before .loop .x)) (no-takes n (r .pre .1) (s .counts .now) (r .pre .3 .small) (s .j) (l .before .loop .a) (getD (s .limit .now) (l .before .loop .a) 0) (l .before .loop .inv .0) (l .loop-test .taken) say (c .if2 .taken)))
+    ∙ l .before .loop .inv .2)
+
+returns-2 : tie.Need-returns-2 Inv-loop μ-loop
+returns-2 c =
+    let l = c .before .before .before .before .before .before in
+    let r = l .before .before .before .before .before .before in
+    let s = r .args in
+    let n = netOf (s .places) (s .transitions) (s .initial .now) (s .capacity .now) (s .rate .now) (s .delay .now) (s .arcs .now) (s .kind .now) (s .place .now) (s .weight .now) in
+    let say = r .pre .2 (l .before .loop .a) (omega (arith, l .loop-test .taken, r .pre .0, r .pre .1 .arcs (s .j))) in
+    prop-stop n (s .counts .now) (s .j) false
+    (from-shut n (r .pre .1) (s .counts .now) (r .pre .3 .small) (s .j) (l .before .loop .a) (getD (s .limit .now) (l .before .loop .a) 0) (l .before .loop .inv .0) (l .loop-test .taken) say (l .before .loop .inv .1) (c .if2 .left) (sym (c .before .before .slot-open .ensures) ∙ not-true _ (c .before .if1 .taken)))
     refl
 
 mul-times : tie.Need-mul-times Inv-loop μ-loop
@@ -138,26 +152,27 @@ loop-again c =
     let l = c .before .before .before .before .before .before .before .before in
     let r = l .before .before .before .before .before .before in
     let s = r .args in
-    let o = c .before .before .before .before in (
-      and-go _ _ (from-turn (netOf (s .places) (s .transitions) (s .initial .now) (s .capacity .now) (s .rate .now) (s .delay .now) (s .arcs .now) (s .kind .now) (s .place .now) (s .weight .now)) (s .counts .now) (s .limit .now) (l .before .loop .a) (16 * s .j + getD (s .arcs .now) (s .j) 0) (r .pre .2)
-          (omega (arith, l .loop-test .taken, r .pre .0, r .pre .1 .arcs (s .j))) (l .loop-test .taken) (l .before .loop .inv .0))
-          (sym (o .slot-open .ensures) ∙ not-false _ (c .before .before .before .if1 .left)),
+    let n = netOf (s .places) (s .transitions) (s .initial .now) (s .capacity .now) (s .rate .now) (s .delay .now) (s .arcs .now) (s .kind .now) (s .place .now) (s .weight .now) in
+    let say = r .pre .2 (l .before .loop .a) (omega (arith, l .loop-test .taken, r .pre .0, r .pre .1 .arcs (s .j))) in (
+      omega (arith, l .before .loop .inv .0),
+      from-open n (r .pre .1) (s .counts .now) (r .pre .3 .small) (s .j) (l .before .loop .a) (getD (s .limit .now) (l .before .loop .a) 0) (l .before .loop .inv .0) (l .loop-test .taken) say (l .before .loop .inv .1)
+          (sym (c .before .before .before .before .slot-open .ensures) ∙ not-false _ (c .before .before .before .if1 .left)),
       ap (λ (x : Float). factored (s .counts .now) x (takesOf (slots (s .kind .now) (s .place .now) (s .weight .now) (l .before .loop .a + 1) ((16 * s .j + getD (s .arcs .now) (s .j) 0) - (l .before .loop .a + 1))))) (c .times .ensures)
           ∙ sym (factored-turn (s .counts .now) (l .before .loop .x) (s .kind .now) (s .place .now) (s .weight .now) (l .before .loop .a) (16 * s .j + getD (s .arcs .now) (s .j) 0) (l .loop-test .taken))
-          ∙ l .before .loop .inv .1,
+          ∙ l .before .loop .inv .2,
     )
 
-returns-2 : tie.Need-returns-2 Inv-loop μ-loop
-returns-2 c =
+returns-3 : tie.Need-returns-3 Inv-loop μ-loop
+returns-3 c =
     let l = c .before in
     let r = l .before .before .before .before .before in
     let s = r .args in
     let n = netOf (s .places) (s .transitions) (s .initial .now) (s .capacity .now) (s .rate .now) (s .delay .now) (s .arcs .now) (s .kind .now) (s .place .now) (s .weight .now) in
     let end = 16 * s .j + getD (s .arcs .now) (s .j) 0 in
     prop-go n (s .counts .now) (s .j) (r .pre .1 .place) true (rateOf (transition n (s .j))) (l .loop .x)
-    (from-end n (s .counts .now) (s .limit .now) (l .loop .a) end (c .loop-test .left) (l .loop .inv .0)) refl refl
+    (from-end (limitAt n) (s .place .now) (s .counts .now) (l .loop .a) end (c .loop-test .left) (l .loop .inv .1)) refl refl
     (sym (ap (λ (ls : List Slot). factored (s .counts .now) (l .loop .x) (takesOf ls)) (slots-end (s .kind .now) (s .place .now) (s .weight .now) (l .loop .a) end (c .loop-test .left)))
-    ∙ l .loop .inv .1)
+    ∙ l .loop .inv .2)
 
 pub propensity-spec : {M : Type 1} → statement M
 propensity-spec =
@@ -179,10 +194,11 @@ propensity-spec =
     element-copy-out-p
     mul-c
     element-copy-out-c
-    mul-slot-open
-    element-copy-out-slot-open
+    mul-l
+    element-copy-out-l
     slot-open-requires
     returns
+    returns-2
     mul-times
     element-copy-out-times
     mul-times-2
@@ -191,4 +207,4 @@ propensity-spec =
     add-a
     loop-less
     loop-again
-    returns-2)
+    returns-3)

@@ -1,25 +1,37 @@
--- The slots from `from` to before a are copied, in each of the three arrays. Assumes nothing.
-use Rattle.ssa.specs.Arcs.{Copied}
-use Rattle.ssa.proofs.Tidying.{copied-none, copied-more, copied-to}
+-- What is copied, then what is left of the group, is the whole group (Tidying, Copying). Assumes nothing.
 use borrow.Author.Needs.{needs}
 use native.Mathlib.Omega.{arith}
-use mathlib.Core.Path.{_≡_}
+use mathlib.Core.Path.{_∙_, subst, subst⁻¹}
+use mathlib.Core.List.{List}
 use Prim.Native.Nat.{_+_, _-_, _≤_}
+use Rattle.net.specs.Readable.{Slot, slotAt, slots}
+use Rattle.ssa.specs.Arcs.{ofGroup}
+use Rattle.ssa.proofs.Arcs.{slots-whole, slots-end}
+use Rattle.ssa.proofs.Tidying.{Copying, copying-none, copying-turn, copying-fits, copying-one, copied-all}
 use Rattle.ssa.proofs.slots.copy_slots.Statement.{statement}
 use Rattle.ssa.proofs.slots.copy_slots.Tie as tie
 
 abbrev Inv-loop : tie.InvT-loop
-Inv-loop kind place weight from n kinds₀ places₀ weights₀ end a₀ kinds places weights a =
-    (from ≤ a) × (a ≤ end) × Copied from a kind kinds₀ kinds × Copied from a place places₀ places × Copied from a weight weights₀ weights
+Inv-loop kind place weight from n g to kinds₀ places₀ weights₀ end b₀ a₀ kinds places weights b a =
+    (from ≤ a) × (a ≤ end)
+    × Copying to b (ofGroup g (slots kind place weight a (end - a))) (ofGroup g (slots kind place weight from n)) kinds₀ places₀ weights₀ kinds places weights
 
 abbrev μ-loop : tie.MeasureT-loop
-μ-loop kind place weight from n kinds₀ places₀ weights₀ end a₀ kinds places weights a = end - a
+μ-loop kind place weight from n g to kinds₀ places₀ weights₀ end b₀ a₀ kinds places weights b a = end - a
 
 add-end : tie.Need-add-end Inv-loop μ-loop
 add-end c = search needs
 
 loop-holds : tie.Need-loop-holds Inv-loop μ-loop
-loop-holds c = (omega arith, omega arith, copied-none _ _ _, copied-none _ _ _, copied-none _ _ _)
+loop-holds c =
+    let s = c .args in (
+      omega arith,
+      omega arith,
+      subst⁻¹ (λ (ls : List Slot). Copying (s .to) (s .to) (ofGroup (s .g) ls) (ofGroup (s .g) (slots (s .kind .now) (s .place .now) (s .weight .now) (s .from) (s .n)))
+          (s .kinds .now) (s .places .now) (s .weights .now) (s .kinds .now) (s .places .now) (s .weights .now))
+          (slots-whole (s .kind .now) (s .place .now) (s .weight .now) (s .from) (s .n))
+          (copying-none (s .to) (ofGroup (s .g) (slots (s .kind .now) (s .place .now) (s .weight .now) (s .from) (s .n))) (s .kinds .now) (s .places .now) (s .weights .now)),
+    )
 
 mul-k : tie.Need-mul-k Inv-loop μ-loop
 mul-k c = search needs
@@ -39,23 +51,15 @@ mul-w c = search needs
 element-copy-out-w : tie.Need-element-copy-out-w Inv-loop μ-loop
 element-copy-out-w c = search needs
 
-mul-kinds : tie.Need-mul-kinds Inv-loop μ-loop
-mul-kinds c = search needs
-
-element-write-kinds : tie.Need-element-write-kinds Inv-loop μ-loop
-element-write-kinds c = search needs
-
-mul-places : tie.Need-mul-places Inv-loop μ-loop
-mul-places c = search needs
-
-element-write-places : tie.Need-element-write-places Inv-loop μ-loop
-element-write-places c = search needs
-
-mul-weights : tie.Need-mul-weights Inv-loop μ-loop
-mul-weights c = search needs
-
-element-write-weights : tie.Need-element-write-weights Inv-loop μ-loop
-element-write-weights c = search needs
+copy-slot-requires : tie.Need-copy-slot-requires Inv-loop μ-loop
+copy-slot-requires c κs =
+    let l = c .before .before .before .before .before .before .before in
+    let r = l .before in
+    let s = r .args in
+    let a = l .loop .a in
+    let now = copying-turn (s .g) (s .kind .now) (s .place .now) (s .weight .now) a (s .from + s .n) (c .before .before .before .before .before .before .loop-test .taken) (l .loop .inv .2) in
+    let room = copying-fits (s .g) (slotAt (s .kind .now) (s .place .now) (s .weight .now) a) (slots (s .kind .now) (s .place .now) (s .weight .now) (a + 1) (s .from + s .n - (a + 1))) (r .pre .1) now in
+    (room, l .loop .inv .2 .long-kind ∙ r .pre .2, l .loop .inv .2 .long-place ∙ r .pre .3, l .loop .inv .2 .long-weight ∙ r .pre .4)
 
 add-a : tie.Need-add-a Inv-loop μ-loop
 add-a c = search needs
@@ -65,23 +69,26 @@ loop-less c = search needs
 
 loop-again : tie.Need-loop-again Inv-loop μ-loop
 loop-again c =
-    let l = c .before .before .before .before in
-    let i = l .loop .inv in
-    let p = l .before .pre in (
+    let l = c .before .before .before .before .before .before .before .before in
+    let r = l .before in
+    let s = r .args in
+    let a = l .loop .a in
+    let now = copying-turn (s .g) (s .kind .now) (s .place .now) (s .weight .now) a (s .from + s .n) (c .before .before .before .before .before .before .before .loop-test .taken) (l .loop .inv .2) in
+    let room = copying-fits (s .g) (slotAt (s .kind .now) (s .place .now) (s .weight .now) a) (slots (s .kind .now) (s .place .now) (s .weight .now) (a + 1) (s .from + s .n - (a + 1))) (r .pre .1) now in
+    let e = c .copy-slot .ensures in (
       omega arith,
       omega arith,
-      copied-more _ _ _ _ _ (i .2) (i .0) (omega (arith, i .2 .long, p .0, p .1)),
-      copied-more _ _ _ _ _ (i .3) (i .0) (omega (arith, i .3 .long, p .0, p .2)),
-      copied-more _ _ _ _ _ (i .4) (i .0) (omega (arith, i .4 .long, p .0, p .3)),
+      copying-one (s .g) (slotAt (s .kind .now) (s .place .now) (s .weight .now) a) (slots (s .kind .now) (s .place .now) (s .weight .now) (a + 1) (s .from + s .n - (a + 1))) now room
+          (l .loop .inv .2 .long-kind ∙ r .pre .2) (l .loop .inv .2 .long-place ∙ r .pre .3) (l .loop .inv .2 .long-weight ∙ r .pre .4) (e .0) (e .1) (e .2) (e .3),
     )
 
 returns : tie.Need-returns Inv-loop μ-loop
 returns c =
     let l = c .before in
-    let i = l .loop .inv in
     let s = l .before .args in
-    let e : l .loop .a ≡ s .from + s .n = omega (arith, i .1, c .loop-test .left) in
-    (copied-to e (i .2), copied-to e (i .3), copied-to e (i .4))
+    copied-all (subst (λ (ls : List Slot). Copying (s .to) (l .loop .b) (ofGroup (s .g) ls) (ofGroup (s .g) (slots (s .kind .now) (s .place .now) (s .weight .now) (s .from) (s .n)))
+    (s .kinds .now) (s .places .now) (s .weights .now) (l .loop .kinds) (l .loop .places) (l .loop .weights))
+    (slots-end (s .kind .now) (s .place .now) (s .weight .now) (l .loop .a) (s .from + s .n) (c .loop-test .left)) (l .loop .inv .2))
 
 pub copy-slots-spec : {M : Type 1} → statement M
 copy-slots-spec =
@@ -97,12 +104,7 @@ copy-slots-spec =
     element-copy-out-p
     mul-w
     element-copy-out-w
-    mul-kinds
-    element-write-kinds
-    mul-places
-    element-write-places
-    mul-weights
-    element-write-weights
+    copy-slot-requires
     add-a
     loop-less
     loop-again

@@ -1,9 +1,9 @@
 -- The first j transitions are done (Tidying, Done); the bounds of a used slot come from the net having no fault. Assumes nothing.
 use Rattle.net.proofs.Sound.{sound}
-use Rattle.ssa.proofs.Tidying.{Done, done-none, done-more, made-reads, made-tidy}
+use Rattle.ssa.proofs.Tidying.{Done, done-none, group-lengths, second-room, done-more, made-reads, made-tidy}
 use borrow.Author.Needs.{needs}
 use native.Mathlib.Omega.{arith}
-use mathlib.Core.Path.{refl}
+use mathlib.Core.Path.{refl, _∙_}
 use Prim.Native.Nat.{_-_, _<_}
 use Rattle.ssa.proofs.slots.tidied.Statement.{statement}
 use Rattle.ssa.proofs.slots.tidied.Tie as tie
@@ -33,27 +33,47 @@ mul-arcs c = omega (arith, in-record (c .before))
 array-write-arcs : tie.Need-array-write-arcs Inv-loop μ-loop
 array-write-arcs c = omega (arith, in-record (c .before))
 
-mul-copy-slots : tie.Need-mul-copy-slots Inv-loop μ-loop
-mul-copy-slots c = omega (arith, in-record (c .before .before .before .before .before))
+mul-from : tie.Need-mul-from Inv-loop μ-loop
+mul-from c = omega (arith, in-record (c .before))
 
 copy-slots-requires : tie.Need-copy-slots-requires Inv-loop μ-loop
 copy-slots-requires c κs =
-    let l = c .before .before .before .before .before .before .before .before .before in
+    let i = c .before .before .before .before .before .before .before .before in
+    let l = i .before in
+    let s = sound _ (l .before .pre) in
+    let d = l .loop .inv in (
+      omega (arith, s .arcs (l .loop .j) (i .loop-test .taken), in-record i),
+      omega (arith, group-lengths _ s (l .loop .j) (i .loop-test .taken), s .arcs (l .loop .j) (i .loop-test .taken), in-record i),
+      d .long-kind,
+      d .long-place,
+      d .long-weight,
+    )
+
+copy-slots-requires-2 : tie.Need-copy-slots-requires-2 Inv-loop μ-loop
+copy-slots-requires-2 c κs =
+    let i = c .before .before .before .before .before .before .before .before .before .before .before .before .before .before .before .before in
+    let l = i .before in
     let s = sound _ (l .before .pre) in
     let d = l .loop .inv in
-    (omega (arith, s .arcs (l .loop .j) (c .before .before .before .before .before .before .before .before .loop-test .taken), in-record (c .before .before .before .before .before .before .before .before)), d .long-kind, d .long-place, d .long-weight)
+    let e = c .before .before .before .before .before .before .before .copy-slots .ensures in (
+      omega (arith, s .arcs (l .loop .j) (i .loop-test .taken), in-record i),
+      omega (arith, second-room _ s (l .loop .j) (i .loop-test .taken) e, s .arcs (l .loop .j) (i .loop-test .taken), in-record i),
+      e .long-kind ∙ d .long-kind,
+      e .long-place ∙ d .long-place,
+      e .long-weight ∙ d .long-weight,
+    )
 
 add-j : tie.Need-add-j Inv-loop μ-loop
-add-j c = omega (arith, in-record (c .before .before .before .before .before .before .before .before .before))
+add-j c = omega (arith, in-record (c .before .before .before .before .before .before .before .before .before .before .before .before .before .before .before .before .before))
 
 loop-less : tie.Need-loop-less Inv-loop μ-loop
 loop-less c = search needs
 
 loop-again : tie.Need-loop-again Inv-loop μ-loop
 loop-again c =
-    let l = c .before .before .before .before .before .before .before .before .before .before in
-    let e = c .copy-slots .ensures in
-    done-more _ (sound _ (l .before .pre)) (l .loop .j) (c .before .before .before .before .before .before .before .before .before .loop-test .taken) (l .loop .inv) (e .0) (e .1) (e .2)
+    let i = c .before .before .before .before .before .before .before .before .before .before .before .before .before .before .before .before .before in
+    let l = i .before in
+    done-more _ (sound _ (l .before .pre)) (l .loop .j) (i .loop-test .taken) (c .before .before .before .before .before .before .before .before .copy-slots .ensures) (c .copy-slots2 .ensures) (l .loop .inv)
 
 returns : tie.Need-returns Inv-loop μ-loop
 returns c =
@@ -72,8 +92,9 @@ tidied-spec =
     element-copy-out-n
     mul-arcs
     array-write-arcs
-    mul-copy-slots
+    mul-from
     copy-slots-requires
+    copy-slots-requires-2
     add-j
     loop-less
     loop-again
