@@ -2,10 +2,10 @@
 -- first cells of the table that is filled for it are that grid. Each answer of the call is the definition's by the tests that led to it.
 -- Assumes nothing.
 use Prim.Native.Nat.{ℕ, zero, suc, _*_, _≤_}
-use mathlib.Core.Path.{_≡_, refl, sym, ap, _∙_, subst}
+use mathlib.Core.Path.{_≡_, refl, ap, _∙_}
 use mathlib.Core.Bool.{Bool, true, false, _&&_, not}
 use mathlib.Core.List.{List, [], _∷_}
-use mathlib.Core.Option.{Option, none, some}
+use mathlib.Core.Option.{Option, none}
 use native.Mathlib.Omega.{arith}
 use lib.Dec.{leb}
 use lib.ListN.{length, take}
@@ -22,7 +22,7 @@ use Rattle.averages.specs.Front.{byNumber}
 use Rattle.averages.specs.Request.{Request, samplesFit, realizationsFit, horizonFits, requestFault, tablesFault, interval, instant, instantsFrom, grid}
 use Rattle.averages.proofs.Fronts.{byNumber-length}
 use Rattle.averages.proofs.Grid.{take-instants, grid-length, grid-fits}
-use Rattle.ssa.specs.Ensemble.{Tables, Call, Members, unlessRefused, membersFrom, tabulated, unlessFault, called}
+use Rattle.ssa.specs.Ensemble.{Tables, Call, unlessRefused, membersFrom, tabulated, unlessFault, called}
 use Rattle.ssa.specs.Summing.{drawn, pathsFrom}
 
 -- ---- a request that passes
@@ -81,17 +81,17 @@ module _ (q : Request) (w : Float) (t g : List Float) (width : w ≡ interval (q
   pub grid-passes : Passing q → instantsFit (take (q .samples) g) ≡ true
   grid-passes f = ap instantsFit grid-is ∙ grid-fits q (f .sampled) (f .timely)
 
-paths-are : (n : Net) (q : Request) (xs : List Float) → xs ≡ grid q → (k r : ℕ) → pathsFrom (drawn n (q .seed) xs) k r ≡ membersFrom n q k r
+paths-are : (n : Net) (q : Request) (xs : List Float) → xs ≡ grid q → (k r : ℕ) → pathsFrom (drawn n (q .seed) xs 1_000_000) k r ≡ membersFrom n q k r
 unfolding drawn
 paths-are n q xs e k zero = refl
-paths-are n q xs e k (suc r) = λ i. unlessRefused k (drawn n (q .seed) (e i) k) (paths-are n q xs e (suc k) r i)
+paths-are n q xs e k (suc r) = λ i. unlessRefused k (drawn n (q .seed) (e i) 1_000_000 k) (paths-are n q xs e (suc k) r i)
 
 -- what the paths at the grid make is what the request asks for
 pub asked : {x : Call} (n : Net) (q : Request) (xs : List Float) (places : ℕ) (t : Tables) → xs ≡ grid q
-    → x ≡ tabulated places (length xs) t (pathsFrom (drawn n (q .seed) xs) 0 (q .realizations)) → x ≡ tabulated places (q .samples) t (membersFrom n q 0 (q .realizations))
+    → x ≡ tabulated places (length xs) t (pathsFrom (drawn n (q .seed) xs 1_000_000) 0 (q .realizations)) → x ≡ tabulated places (q .samples) t (membersFrom n q 0 (q .realizations))
 asked n q xs places t e h =
     h
-    ∙ ap (λ (k : ℕ). tabulated places k t (pathsFrom (drawn n (q .seed) xs) 0 (q .realizations))) (ap length e ∙ grid-length q)
+    ∙ ap (λ (k : ℕ). tabulated places k t (pathsFrom (drawn n (q .seed) xs 1_000_000) 0 (q .realizations))) (ap length e ∙ grid-length q)
     ∙ ap (tabulated places (q .samples) t) (paths-are n q xs e 0 (q .realizations))
 
 -- the tidied net r of n: the same places and reading

@@ -13,15 +13,15 @@ use native.Mathlib.Nat.{mul-zero, le-of-suc-le-suc, not-suc-le-zero}
 use native.Mathlib.Numerals.{add-one}
 use borrow.Author.Tests.{eqb-true, eqb-false}
 use lib.Dec.{eqb}
-use lib.ListN.{length, getD, drop, replicate, length-append, length-drop, length-map, length-replicate}
+use lib.ListN.{length, drop, replicate, length-append, length-drop, length-map, length-replicate}
 use lib.Seq.{drop-at}
-use lib.Ieee.{Float, nan}
+use lib.Ieee.{Float}
 use Rattle.net.specs.Net.{Net, Marking, pick, zero64}
 use Rattle.rng.specs.State.{State as Generator}
 use Rattle.rng.specs.Splitmix.{seeded}
 use Rattle.rules.specs.Propensity.{float}
 use Rattle.rules.specs.Step.{Answer, refused, given}
-use Rattle.rules.specs.Run.{End, Run, Outcome, quiet, spent, reached, outcome}
+use Rattle.rules.specs.Run.{End, Outcome, quiet, spent, reached, outcome}
 use Rattle.rules.specs.Shown.{Path, worked, reported, runOf}
 use Rattle.averages.specs.Front.{onFront, withFront}
 use Rattle.averages.specs.Moments.{plus, plusSquare, summedUp, meanOf, meanAt, deviationOf, deviationAt, cellsFrom, tableBy}
@@ -43,7 +43,7 @@ use Rattle.ssa.specs.Ensemble as Ensemble
 use Rattle.ssa.specs.Ensemble.{Members, refusedAt, members, with, unlessRefused, oneIfSpent, spentOf, cellsOf, lastShown, tabulated}
 use Rattle.ssa.specs.Summing as Summing
 use Rattle.ssa.specs.Summing.{drawn, pathsFrom, oneBySpent, TurnBy, sumAt, SummedBy}
-use Rattle.ssa.proofs.Cells.{rows-long, cleared-long}
+use Rattle.ssa.proofs.Cells.{rows-long}
 use Rattle.ssa.proofs.PathEnd.{the-type}
 use Rattle.ssa.proofs.Playing.{NotRefused}
 
@@ -65,12 +65,9 @@ by-alike f k t t′ e = ap (λ (l : List Float). cellsFrom f 0 k ++ l) e
 pub cleared-once : (k : ℕ) (t t′ : List Float) → t′ ≡ cleared k t → t′ ≡ cleared k t′
 cleared-once k t t′ e = e ∙ sym (cleared-alike k t t′ (ap (drop k) e ∙ cleared-further k t))
 
-pub cleared-room : (k : ℕ) (t t′ : List Float) → t′ ≡ cleared k t → k ≤ length t → k ≤ length t′
-cleared-room k t t′ e h = omega (arith, ap length e, cleared-long k t h)
-
 -- they are the sums over no path
-cleared-sums : (f : Float → Float → Float) (k : ℕ) (t : List Float) → k ≤ length t → cleared k t ≡ tableBy (λ (c : ℕ). summedUp f c zero64 []) k t
-cleared-sums f k t h = sym (Sums.onFront-const zero64 k t h) ∙ Sums.sums-none f k t h
+cleared-sums : (f : Float → Float → Float) (k : ℕ) (t : List Float) → cleared k t ≡ tableBy (λ (c : ℕ). summedUp f c zero64 []) k t
+cleared-sums f k t = ap (λ (l : List Float). l ++ drop k t) (Sums.sums-start f zero64 0 k)
 
 -- only the first cells of the other table count
 with-first : (f : Float → Float → Float) (k : ℕ) (v u xs : List Float) → k ≤ length v → withFront f k (v ++ u) xs ≡ withFront f k v xs
@@ -131,9 +128,16 @@ shown-count n g xs k a e = go (outcome (runOf n g xs k)) e
         many (refused c) = 0
         many (given b) = length (b .shown)
 
-pub drawn-count : (n : Net) (seed : ℕ) (xs : List Float) (k : ℕ) (a : Path) → drawn n seed xs k ≡ given a → length (a .shown) ≡ length xs
+pub drawn-count : (n : Net) (seed : ℕ) (xs : List Float) (steps k : ℕ) (a : Path) → drawn n seed xs steps k ≡ given a → length (a .shown) ≡ length xs
 unfolding drawn
-drawn-count n seed xs k a e = shown-count n (seeded (seedOf seed k)) xs 1_000_000 a e
+drawn-count n seed xs steps k a e = shown-count n (seeded (seedOf seed k)) xs steps a e
+
+-- a path from path k's seed is path k
+pub own-path : {x : Path.Call} (n : Net) (seed k places : ℕ) (xs path : List Float) (g : Generator) (steps : ℕ)
+    → x ≡ played places (length xs) g path (worked n g xs steps) → g ≡ seeded (seedOf seed k)
+    → x ≡ played places (length xs) (seeded (seedOf seed k)) path (drawn n seed xs steps k)
+unfolding drawn
+own-path n seed k places xs path g steps h e = h ∙ ap (λ (o : Generator). played places (length xs) o path (worked n o xs steps)) e
 
 pub not-refused : (end : PathEnd) → OneOf (0 ∷ 1 ∷ 2 ∷ []) (tagOf the-type end) → NotRefused end
 not-refused Quiet h = tt
@@ -238,9 +242,9 @@ one-at-most spent = omega arith
 one-at-most reached = omega arith
 
 module _ (w : ℕ → Answer Path) (places n r : ℕ) (mean deviation path : List Float) where
-  pub none-added : places * n ≤ length mean → places * n ≤ length deviation → mean ≡ cleared (places * n) mean → deviation ≡ cleared (places * n) deviation
+  pub none-added : mean ≡ cleared (places * n) mean → deviation ≡ cleared (places * n) deviation
       → SumsAt w places n r 0 0 mean mean deviation deviation path path
-  none-added h l m d =
+  none-added m d =
       let z : r - 0 ≡ r = omega arith in
       record {
         paths = [];
@@ -250,8 +254,8 @@ module _ (w : ℕ → Answer Path) (places n r : ℕ) (mean deviation path : Lis
         few = omega arith;
         within = omega arith;
         sums = record {
-          sum = m ∙ cleared-sums plus (places * n) mean h;
-          squares = d ∙ cleared-sums plusSquare (places * n) deviation l;
+          sum = m ∙ cleared-sums plus (places * n) mean;
+          squares = d ∙ cleared-sums plusSquare (places * n) deviation;
           last = sym (nothing-shown places path);
           further = refl;
         };

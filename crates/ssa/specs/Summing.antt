@@ -2,7 +2,7 @@
 use Prim.Native.Nat.{ℕ, zero, suc, _+_, _*_, _^_, _≤_, _<_}
 use mathlib.Core.Path.{_≡_}
 use mathlib.Core.Bool.{Bool, true}
-use mathlib.Core.List.{List, [], _∷_, map}
+use mathlib.Core.List.{List, [], map}
 use lib.ListN.{length, getD, drop}
 use lib.Ieee.{Float}
 use Rattle.net.specs.declared.Net.{Net as NetRecord}
@@ -32,9 +32,9 @@ pub record Lent (n : NetRecord) (limit : List ℕ) (timed : Bool) (xs : List Flo
   pub timers : timed ≡ anyTimed (n .transitions) (n .delay)
   pub fit : instantsFit xs ≡ true
 
--- path k, from the seed and the instants that the program has at hand
-unfoldable pub drawn : Net → ℕ → List Float → ℕ → Answer Path
-drawn n seed xs k = worked n (seeded (seedOf seed k)) xs 1_000_000
+-- path k, from the seed, the instants and the step limit that the program has at hand
+unfoldable pub drawn : Net → ℕ → List Float → ℕ → ℕ → Answer Path
+drawn n seed xs steps k = worked n (seeded (seedOf seed k)) xs steps
 
 -- so many paths from number k on, each of them by w
 abbrev pub pathsFrom : (ℕ → Answer Path) → ℕ → ℕ → Members

@@ -14,6 +14,7 @@ ghost use mathlib.Core.Path.{_≡_};
 ghost use Rattle.rng.specs.State as Random;
 ghost use Rattle.ssa.specs.Ensemble as Ensemble;
 ghost use Rattle.ssa.specs.Path as Path;
+use averages::request;
 use net::Net;
 use net::Verdict;
 use rng::Xoshiro256;
@@ -92,17 +93,12 @@ pub fn ensemble(
     if let Verdict::Refused(c) = net::test_net(net) {
         return EnsembleAnswer::TurnedDown(c);
     }
-    if let Verdict::Refused(c) = averages::request::request_fault(
-        samples,
-        realizations,
-        seed,
-        horizon,
-    ) {
+    if let Verdict::Refused(c) = request::request_fault(samples, realizations, seed, horizon) {
         return EnsembleAnswer::TurnedDown(c);
     }
     let places = net.places;
     let cells = places * (samples as usize);
-    if let Verdict::Refused(c) = averages::request::tables_fault(
+    if let Verdict::Refused(c) = request::tables_fault(
         cells,
         mean.len(),
         deviation.len(),

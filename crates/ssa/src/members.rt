@@ -1,23 +1,20 @@
 // The paths of an ensemble, one after the other on the lent path table, and the sums over them in the lent mean and deviation tables.
 ghost use mathlib.Core.Path.{_≡_};
-ghost use mathlib.Core.Bool.{true, not};
+ghost use mathlib.Core.Bool.{not};
 ghost use mathlib.Core.Option.{none};
 ghost use Prim.Native.Nat.{ℕ, _*_, _^_, _<_, _≤_};
 ghost use lib.Dec.{eqb};
 ghost use lib.ListN.{length, getD};
 ghost use Rattle.net.specs.Net.{pick};
 ghost use Rattle.net.specs.Readable as Record;
-ghost use Rattle.rng.specs.State as Random;
 ghost use Rattle.rng.specs.Splitmix as Seeding;
 ghost use Rattle.rules.specs.Propensity.{float};
-ghost use Rattle.rules.specs.Shown as Shown;
 ghost use Rattle.averages.specs.Front as Front;
 ghost use Rattle.averages.specs.Moments as Moments;
 ghost use Rattle.averages.specs.Request as Request;
 ghost use Rattle.ssa.specs.Cells as Cells;
 ghost use Rattle.ssa.specs.Engine as Engine;
 ghost use Rattle.ssa.specs.Ensemble as Ensemble;
-ghost use Rattle.ssa.specs.Limits as Limits;
 ghost use Rattle.ssa.specs.Path as Path;
 ghost use Rattle.ssa.specs.Summing as Summing;
 use crate::EnsembleAnswer;
@@ -46,7 +43,7 @@ pub enum Summed {
     Done(u64),
 }
 
-// Path k: from its own seed, on the path table.
+// Path k: from its own seed, with at most so many steps, on the path table.
 fn one_path<'a>(
     places: usize,
     transitions: usize,
@@ -61,6 +58,7 @@ fn one_path<'a>(
     limit: &'a [u64; 1024],
     timed: bool,
     instants: &[f64],
+    steps: u64,
     seed: u64,
     k: u64,
     path: &mut [f64],
@@ -69,7 +67,7 @@ fn one_path<'a>(
         × (places * length (now instants) ≤ length (now path)) ⌝ }
     ensures { λ r. ⌜ Path.callOf r (now (path .exit)) ≡ Path.played places (length (now (instants .entry))) (Seeding.seeded (Request.seedOf seed k)) (now (path .entry))
         (Summing.drawn (Record.readable (Engine.netOf places transitions (now (initial .entry)) (now (capacity .entry)) (now (rate .entry)) (now (delay .entry))
-        (now (arcs .entry)) (now (kind .entry)) (now (place .entry)) (now (weight .entry)))) seed (now (instants .entry)) k) ⌝ }
+        (now (arcs .entry)) (now (kind .entry)) (now (place .entry)) (now (weight .entry)))) seed (now (instants .entry)) steps k) ⌝ }
 {
     let mut counts = slots::first_counts(places, initial);
     let rng = Xoshiro256::new(request::seed_of(seed, k));
@@ -88,7 +86,7 @@ fn one_path<'a>(
         timed,
         &mut counts,
         instants,
-        MOST_STEPS,
+        steps,
         rng,
         path,
     )
@@ -121,6 +119,7 @@ fn member_turn<'a>(
     limit: &'a [u64; 1024],
     timed: bool,
     instants: &[f64],
+    steps: u64,
     seed: u64,
     k: u64,
     spent: u64,
@@ -131,7 +130,7 @@ fn member_turn<'a>(
     requires { ⌜ Summing.Lent (Engine.netOf places transitions (now initial) (now capacity) (now rate) (now delay) (now arcs) (now kind) (now place) (now weight)) (now limit) timed (now instants)
         × (places * length (now instants) ≤ length (now path)) × (spent < 65_535) ⌝ }
     ensures { λ r. ⌜ Summing.TurnBy (Summing.drawn (Record.readable (Engine.netOf places transitions (now (initial .entry)) (now (capacity .entry)) (now (rate .entry)) (now (delay .entry))
-        (now (arcs .entry)) (now (kind .entry)) (now (place .entry)) (now (weight .entry)))) seed (now (instants .entry)) k) places (length (now (instants .entry))) spent
+        (now (arcs .entry)) (now (kind .entry)) (now (place .entry)) (now (weight .entry)))) seed (now (instants .entry)) steps k) places (length (now (instants .entry))) spent
         (now (mean .entry)) (now (mean .exit)) (now (deviation .entry)) (now (deviation .exit)) (now (path .entry)) (now (path .exit)) r ⌝ }
 {
     let r = one_path(
@@ -148,6 +147,7 @@ fn member_turn<'a>(
         limit,
         timed,
         instants,
+        steps,
         seed,
         k,
         path,
@@ -159,7 +159,8 @@ fn member_turn<'a>(
     let cells = places * instants.len();
     moments::add(cells, path, mean);
     moments::add_squares(cells, path, deviation);
-    Turn::Went(spent + one_if_spent(end))
+    let many = spent + one_if_spent(end);
+    Turn::Went(many)
 }
 
 // All paths, from number 0 on, until one is refused.
@@ -177,6 +178,7 @@ fn sum_paths<'a>(
     limit: &'a [u64; 1024],
     timed: bool,
     instants: &[f64],
+    steps: u64,
     seed: u64,
     realizations: u64,
     mean: &mut [f64],
@@ -184,10 +186,10 @@ fn sum_paths<'a>(
     path: &mut [f64],
 ) -> Summed
     requires { ⌜ Summing.Lent (Engine.netOf places transitions (now initial) (now capacity) (now rate) (now delay) (now arcs) (now kind) (now place) (now weight)) (now limit) timed (now instants)
-        × (realizations ≤ 65_535) × (places * length (now instants) ≤ length (now mean)) × (places * length (now instants) ≤ length (now deviation)) × (places * length (now instants) ≤ length (now path))
+        × (realizations ≤ 65_535) × (places * length (now instants) ≤ length (now path))
         × (now mean ≡ Cells.cleared (places * length (now instants)) (now mean)) × (now deviation ≡ Cells.cleared (places * length (now instants)) (now deviation)) ⌝ }
     ensures { λ r. ⌜ Summing.SummedBy (Summing.pathsFrom (Summing.drawn (Record.readable (Engine.netOf places transitions (now (initial .entry)) (now (capacity .entry)) (now (rate .entry)) (now (delay .entry))
-        (now (arcs .entry)) (now (kind .entry)) (now (place .entry)) (now (weight .entry)))) seed (now (instants .entry))) 0 realizations) places (length (now (instants .entry))) realizations
+        (now (arcs .entry)) (now (kind .entry)) (now (place .entry)) (now (weight .entry)))) seed (now (instants .entry)) steps) 0 realizations) places (length (now (instants .entry))) realizations
         (now (mean .entry)) (now (mean .exit)) (now (deviation .entry)) (now (deviation .exit)) (now (path .entry)) (now (path .exit)) r ⌝ }
 {
     let mut spent: u64 = 0;
@@ -208,6 +210,7 @@ fn sum_paths<'a>(
             limit,
             timed,
             instants,
+            steps,
             seed,
             k,
             spent,
@@ -257,6 +260,7 @@ fn averaged<'a>(
     limit: &'a [u64; 1024],
     timed: bool,
     instants: &[f64],
+    steps: u64,
     seed: u64,
     realizations: u64,
     mean: &mut [f64],
@@ -268,7 +272,7 @@ fn averaged<'a>(
     ensures { λ r. ⌜ Ensemble.callOf r (now (mean .exit)) (now (deviation .exit)) (now (path .exit)) ≡ Ensemble.tabulated places (length (now (instants .entry)))
         (record { mean = now (mean .entry); deviation = now (deviation .entry); path = now (path .entry) })
         (Summing.pathsFrom (Summing.drawn (Record.readable (Engine.netOf places transitions (now (initial .entry)) (now (capacity .entry)) (now (rate .entry)) (now (delay .entry))
-        (now (arcs .entry)) (now (kind .entry)) (now (place .entry)) (now (weight .entry)))) seed (now (instants .entry))) 0 realizations) ⌝ }
+        (now (arcs .entry)) (now (kind .entry)) (now (place .entry)) (now (weight .entry)))) seed (now (instants .entry)) steps) 0 realizations) ⌝ }
 {
     let cells = places * instants.len();
     record::clear(mean, cells);
@@ -287,6 +291,7 @@ fn averaged<'a>(
         limit,
         timed,
         instants,
+        steps,
         seed,
         realizations,
         mean,
@@ -368,6 +373,7 @@ fn lent<'a>(
         &limit,
         timed,
         &grid[..n],
+        MOST_STEPS,
         seed,
         realizations,
         mean,

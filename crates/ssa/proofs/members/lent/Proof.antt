@@ -2,11 +2,11 @@
 -- Assumes nothing.
 use borrow.Author.Needs.{needs}
 use native.Mathlib.Omega.{arith}
-use mathlib.Core.Path.{sym, ap}
 use Prim.Native.Nat.{_≤_}
+use mathlib.Core.Path.{sym}
+use mathlib.Core.List.{List}
 use lib.ListN.{length, take, replicate, length-replicate}
 use lib.Ieee.{Float}
-use mathlib.Core.List.{List}
 use Rattle.net.specs.Net.{zero64}
 use Rattle.net.specs.Readable.{readable}
 use Rattle.averages.specs.Request.{Request}

@@ -28,8 +28,8 @@ returns c =
     let a = c .before .before .before .before .before .before .before .before .before .before .before .args in
     let net = readable (netOf (a .places) (a .transitions) (a .initial .now) (a .capacity .now) (a .rate .now) (a .delay .now) (a .arcs .now) (a .kind .now) (a .place .now) (a .weight .now)) in
     let xs = a .instants .now in
-    turn-stops (a .places) (length xs) (a .spent) (seeded (seedOf (a .seed) (a .k))) (a .mean .now) (a .mean .now) (a .deviation .now) (a .deviation .now) (a .path .now) (p .last .1 .1 .1 .1 .1 .1 .1 .1 .1 .1 .1 .1 .1 .1 .1 .0) (p .result)
-    (c .before .end .given .0 .0) (drawn net (a .seed) xs (a .k)) (p .ensures) (c .before .end .given .1) refl refl
+    turn-stops (a .places) (length xs) (a .spent) (seeded (seedOf (a .seed) (a .k))) (a .mean .now) (a .mean .now) (a .deviation .now) (a .deviation .now) (a .path .now) (p .last .1 .1 .1 .1 .1 .1 .1 .1 .1 .1 .1 .1 .1 .1 .1 .1 .0) (p .result)
+    (c .before .end .given .0 .0) (drawn net (a .seed) xs (a .steps) (a .k)) (p .ensures) (c .before .end .given .1) refl refl
 
 mul-cells : tie.Need-mul-cells
 mul-cells c =
@@ -45,8 +45,8 @@ add-squares-requires c κs = search needs
 one-if-spent-requires : tie.Need-one-if-spent-requires
 one-if-spent-requires c κs = search needs
 
-add-t37 : tie.Need-add-t37
-add-t37 c = omega (arith, c .before .before .before .before .before .before .before .before .before .before .before .before .before .before .before .before .before .before .before .before .pre .2, c .one-if-spent .ensures, one-by-spent (c .before .before .before .before .before .before .before .before .before .before .before .before .before .before .one-path .result .end))
+add-many : tie.Need-add-many
+add-many c = omega (arith, c .before .before .before .before .before .before .before .before .before .before .before .before .before .before .before .before .before .before .before .before .pre .2, c .one-if-spent .ensures, one-by-spent (c .before .before .before .before .before .before .before .before .before .before .before .before .before .before .one-path .result .end))
 
 same-length-2 : tie.Need-same-length-2
 same-length-2 c = search needs
@@ -65,8 +65,8 @@ returns-2 c =
     let a = c .before .before .before .before .before .before .before .before .before .before .before .before .before .before .before .before .before .before .before .before .args in
     let net = readable (netOf (a .places) (a .transitions) (a .initial .now) (a .capacity .now) (a .rate .now) (a .delay .now) (a .arcs .now) (a .kind .now) (a .place .now) (a .weight .now)) in
     let xs = a .instants .now in
-    turn-goes (a .places) (length xs) (a .spent) (seeded (seedOf (a .seed) (a .k))) (a .mean .now) (m .last .1 .1 .0) (a .deviation .now) (d .last .1 .1 .0) (a .path .now) (p .last .1 .1 .1 .1 .1 .1 .1 .1 .1 .1 .1 .1 .1 .1 .1 .0) (p .result)
-    (c .one-if-spent .result) _ (drawn net (a .seed) xs (a .k)) (p .ensures) (not-refused (p .result .end) (c .before .before .before .before .before .before .before .before .before .before .before .match .keys2)) (c .one-if-spent .ensures) refl (m .ensures) (d .ensures)
+    turn-goes (a .places) (length xs) (a .spent) (seeded (seedOf (a .seed) (a .k))) (a .mean .now) (m .last .1 .1 .0) (a .deviation .now) (d .last .1 .1 .0) (a .path .now) (p .last .1 .1 .1 .1 .1 .1 .1 .1 .1 .1 .1 .1 .1 .1 .1 .1 .0) (p .result)
+    (c .one-if-spent .result) _ (drawn net (a .seed) xs (a .steps) (a .k)) (p .ensures) (not-refused (p .result .end) (c .before .before .before .before .before .before .before .before .before .before .before .match .keys2)) (c .one-if-spent .ensures) refl (m .ensures) (d .ensures)
 
 pub member-turn-spec : {M : Type 1} → statement M
 member-turn-spec =
@@ -80,7 +80,7 @@ member-turn-spec =
     add-requires
     add-squares-requires
     one-if-spent-requires
-    add-t37
+    add-many
     same-length-2
     same-length-3
     same-length-4

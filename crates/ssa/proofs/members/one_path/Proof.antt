@@ -1,16 +1,13 @@
 -- The tables that the run asks for are lent, the counts are made here, and the generator is that of the path's own seed. Assumes nothing.
 use borrow.Author.Needs.{needs}
 use mathlib.Core.Path.{ap, _∙_}
-use lib.ListN.{length}
 use Rattle.net.specs.Readable.{readable}
-use Rattle.rng.specs.State.{State as Generator}
+use Rattle.rng.specs.State.{words}
 use Rattle.rng.specs.Splitmix.{seeded}
-use Rattle.rules.specs.Shown.{worked}
 use Rattle.ssa.specs.Engine.{netOf}
-use Rattle.ssa.specs.Path.{played}
-use Rattle.ssa.specs.Summing.{drawn}
 use Rattle.ssa.proofs.Lists.{initial-is}
 use Rattle.ssa.proofs.Accepted.{fitting}
+use Rattle.ssa.proofs.Summing.{own-path}
 use Rattle.ssa.proofs.members.one_path.Statement.{statement}
 use Rattle.ssa.proofs.members.one_path.Tie as tie
 
@@ -45,13 +42,11 @@ same-length : tie.Need-same-length
 same-length c = search needs
 
 returns : tie.Need-returns
-unfolding drawn
 returns c =
     let a = c .before .before .before .before .before .before .before .before .before .before .args in
     let net = readable (netOf (a .places) (a .transitions) (a .initial .now) (a .capacity .now) (a .rate .now) (a .delay .now) (a .arcs .now) (a .kind .now) (a .place .now) (a .weight .now)) in
-    let xs = a .instants .now in
-    c .before .before .play .ensures
-    ∙ ap (λ (g : Generator). played (a .places) (length xs) g (a .path .now) (worked net g xs 1_000_000)) (c .before .before .before .before .before .new .ensures ∙ ap seeded (c .before .before .before .before .before .before .seed-of .ensures))
+    own-path net (a .seed) (a .k) (a .places) (a .instants .now) (a .path .now) (words (c .before .before .before .before .before .new .result .s)) (a .steps) (c .before .before .play .ensures)
+    (c .before .before .before .before .before .new .ensures ∙ ap seeded (c .before .before .before .before .before .before .seed-of .ensures))
 
 pub one-path-spec : {M : Type 1} → statement M
 one-path-spec =

@@ -11,12 +11,12 @@ use Rattle.ssa.proofs.members.sum_paths.Statement.{statement}
 use Rattle.ssa.proofs.members.sum_paths.Tie as tie
 
 abbrev Inv-loop : tie.InvT-loop
-Inv-loop places transitions initial capacity rate delay arcs kind place weight limit timed instants seed realizations mean₀ deviation₀ path₀ spent₀ k₀ mean deviation path spent k =
-    SumsAt (drawn (readable (netOf places transitions initial capacity rate delay arcs kind place weight)) seed instants) places (length instants) realizations k spent
+Inv-loop places transitions initial capacity rate delay arcs kind place weight limit timed instants steps seed realizations mean₀ deviation₀ path₀ spent₀ k₀ mean deviation path spent k =
+    SumsAt (drawn (readable (netOf places transitions initial capacity rate delay arcs kind place weight)) seed instants steps) places (length instants) realizations k spent
     mean₀ mean deviation₀ deviation path₀ path
 
 abbrev μ-loop : tie.MeasureT-loop
-μ-loop places transitions initial capacity rate delay arcs kind place weight limit timed instants seed realizations mean₀ deviation₀ path₀ spent₀ k₀ mean deviation path spent k =
+μ-loop places transitions initial capacity rate delay arcs kind place weight limit timed instants steps seed realizations mean₀ deviation₀ path₀ spent₀ k₀ mean deviation path spent k =
     realizations - k
 
 loop-holds : tie.Need-loop-holds Inv-loop μ-loop
@@ -24,7 +24,7 @@ loop-holds c =
     let s = c .before .before .before .before in
     let a = s .args in
     let net = readable (netOf (a .places) (a .transitions) (a .initial .now) (a .capacity .now) (a .rate .now) (a .delay .now) (a .arcs .now) (a .kind .now) (a .place .now) (a .weight .now)) in
-    none-added (drawn net (a .seed) (a .instants .now)) (a .places) (length (a .instants .now)) (a .realizations) (a .mean .now) (a .deviation .now) (a .path .now) (s .pre .2) (s .pre .3) (s .pre .5) (s .pre .6)
+    none-added (drawn net (a .seed) (a .instants .now) (a .steps)) (a .places) (length (a .instants .now)) (a .realizations) (a .mean .now) (a .deviation .now) (a .path .now) (s .pre .3) (s .pre .4)
 
 add-next : tie.Need-add-next Inv-loop μ-loop
 add-next c = search needs
@@ -33,7 +33,7 @@ member-turn-requires : tie.Need-member-turn-requires Inv-loop μ-loop
 member-turn-requires c κs =
     let l = c .before .before .before .before .loop .inv in
     let s = c .before .before .before .before .before .before .before .before .before in
-    (s .pre .0, omega (arith, s .pre .4, l .long-path), omega (arith, s .pre .1, l .few, c .before .before .before .loop-test .taken))
+    (s .pre .0, omega (arith, s .pre .2, l .long-path), omega (arith, s .pre .1, l .few, c .before .before .before .loop-test .taken))
 
 enum-known-t : tie.Need-enum-known-t Inv-loop μ-loop
 enum-known-t c = search needs
@@ -56,9 +56,9 @@ returns c =
     let l = c .before .before .before .before .before .before .before .before .before .before .before .before .before .before .loop in
     let a = c .before .before .before .before .before .before .before .before .before .before .before .before .before .before .before .before .before .before .before .args in
     let net = readable (netOf (a .places) (a .transitions) (a .initial .now) (a .capacity .now) (a .rate .now) (a .delay .now) (a .arcs .now) (a .kind .now) (a .place .now) (a .weight .now)) in
-    one-refused (drawn net (a .seed) (a .instants .now)) (a .places) (length (a .instants .now)) (a .realizations) (a .mean .now) (a .deviation .now) (a .path .now)
+    one-refused (drawn net (a .seed) (a .instants .now) (a .steps)) (a .places) (length (a .instants .now)) (a .realizations) (a .mean .now) (a .deviation .now) (a .path .now)
     (l .k) (l .spent) (l .mean) (l .deviation) (l .path) (l .inv) (c .before .before .before .before .before .before .before .before .before .before .before .before .before .loop-test .taken)
-    (c .before .t2 .given .0 .0) (t .last .1 .1 .1 .1 .1 .1 .1 .1 .1 .1 .1 .1 .1 .1 .1 .1 .0) (t .last .1 .1 .1 .1 .1 .1 .1 .1 .1 .1 .1 .1 .1 .1 .1 .1 .1 .0) (t .last .1 .1 .1 .1 .1 .1 .1 .1 .1 .1 .1 .1 .1 .1 .1 .1 .1 .1 .0) (t .result) (c .before .t2 .given .1) (t .ensures)
+    (c .before .t2 .given .0 .0) (t .last .1 .1 .1 .1 .1 .1 .1 .1 .1 .1 .1 .1 .1 .1 .1 .1 .1 .0) (t .last .1 .1 .1 .1 .1 .1 .1 .1 .1 .1 .1 .1 .1 .1 .1 .1 .1 .1 .0) (t .last .1 .1 .1 .1 .1 .1 .1 .1 .1 .1 .1 .1 .1 .1 .1 .1 .1 .1 .1 .0) (t .result) (c .before .t2 .given .1) (t .ensures)
 
 loop-less : tie.Need-loop-less Inv-loop μ-loop
 loop-less c = omega (arith, c .before .before .before .before .before .before .before .before .before .before .before .before .before .loop-test .taken)
@@ -70,9 +70,9 @@ loop-again c =
     let s = c .before .before .before .before .before .before .before .before .before .before .before .before .before .before .before .before .before .before .before in
     let a = s .args in
     let net = readable (netOf (a .places) (a .transitions) (a .initial .now) (a .capacity .now) (a .rate .now) (a .delay .now) (a .arcs .now) (a .kind .now) (a .place .now) (a .weight .now)) in
-    one-added (drawn net (a .seed) (a .instants .now)) (a .places) (length (a .instants .now)) (a .realizations) (a .mean .now) (a .deviation .now) (a .path .now)
+    one-added (drawn net (a .seed) (a .instants .now) (a .steps)) (a .places) (length (a .instants .now)) (a .realizations) (a .mean .now) (a .deviation .now) (a .path .now)
     (l .k) (l .spent) (l .mean) (l .deviation) (l .path) (l .inv) (c .before .before .before .before .before .before .before .before .before .before .before .before .before .loop-test .taken)
-    (c .before .t .given .0 .0) (t .last .1 .1 .1 .1 .1 .1 .1 .1 .1 .1 .1 .1 .1 .1 .1 .1 .0) (t .last .1 .1 .1 .1 .1 .1 .1 .1 .1 .1 .1 .1 .1 .1 .1 .1 .1 .0) (t .last .1 .1 .1 .1 .1 .1 .1 .1 .1 .1 .1 .1 .1 .1 .1 .1 .1 .1 .0) (s .pre .4) (drawn-count net (a .seed) (a .instants .now) (l .k)) (t .result) (c .before .t .given .1) (t .ensures)
+    (c .before .t .given .0 .0) (t .last .1 .1 .1 .1 .1 .1 .1 .1 .1 .1 .1 .1 .1 .1 .1 .1 .1 .0) (t .last .1 .1 .1 .1 .1 .1 .1 .1 .1 .1 .1 .1 .1 .1 .1 .1 .1 .1 .0) (t .last .1 .1 .1 .1 .1 .1 .1 .1 .1 .1 .1 .1 .1 .1 .1 .1 .1 .1 .1 .0) (s .pre .2) (drawn-count net (a .seed) (a .instants .now) (a .steps) (l .k)) (t .result) (c .before .t .given .1) (t .ensures)
 
 same-length-4 : tie.Need-same-length-4 Inv-loop μ-loop
 same-length-4 c = search needs
@@ -88,7 +88,7 @@ returns-2 c =
     let l = c .before .loop in
     let a = c .before .before .before .before .before .before .args in
     let net = readable (netOf (a .places) (a .transitions) (a .initial .now) (a .capacity .now) (a .rate .now) (a .delay .now) (a .arcs .now) (a .kind .now) (a .place .now) (a .weight .now)) in
-    all-added (drawn net (a .seed) (a .instants .now)) (a .places) (length (a .instants .now)) (a .realizations) (a .mean .now) (a .deviation .now) (a .path .now)
+    all-added (drawn net (a .seed) (a .instants .now) (a .steps)) (a .places) (length (a .instants .now)) (a .realizations) (a .mean .now) (a .deviation .now) (a .path .now)
     (l .k) (l .spent) (l .mean) (l .deviation) (l .path) (l .inv) (c .loop-test .left)
 
 pub sum-paths-spec : {M : Type 1} → statement M
