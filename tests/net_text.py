@@ -3,11 +3,15 @@
 
     net_text.py record FOLDER          writes FOLDER/stdin and FOLDER/stdout: the fixed cases and their answers
     net_text.py random SEED COUNT OUT  writes OUT.in and OUT.out: damaged texts drawn from the seed, and their answers
+    net_text.py refused PROGRAM SEED COUNT
+                                       runs the program on each text that is refused, of the fixed cases and of so many drawn ones:
+                                       it has to print the refusal and nothing else
 
 A batch is a row of cases, each its length in five digits, a newline, and so many bytes. The answer to a case is one line:
 `refused NUMBER LINE`, or `given` with the numbers of the net and the run line (floats by their bits, in hexadecimal)."""
 import random
 import re
+import subprocess
 import sys
 
 if hasattr(sys, "set_int_max_str_digits"):
@@ -284,6 +288,17 @@ def batch(texts, in_path, out_path):
 if __name__ == "__main__":
     if sys.argv[1:2] == ["record"] and len(sys.argv) == 3:
         batch(cases(), f"{sys.argv[2]}/stdin", f"{sys.argv[2]}/stdout")
+    elif sys.argv[1:2] == ["refused"] and len(sys.argv) == 5:
+        rng = random.Random(int(sys.argv[3]))
+        refused = differ = 0
+        for text in list(cases()) + [drawn(rng) for _ in range(int(sys.argv[4]))]:
+            said = read(text)
+            if said.startswith("refused"):
+                refused += 1
+                printed = subprocess.run([sys.argv[2]], input=text, capture_output=True).stdout
+                differ += printed != f"({said})\n".encode()
+        print(f"{refused} refused texts, {differ} answered otherwise")
+        sys.exit(differ > 0 or refused == 0)
     elif sys.argv[1:2] == ["random"] and len(sys.argv) == 5:
         rng = random.Random(int(sys.argv[2]))
         batch((drawn(rng) for _ in range(int(sys.argv[3]))), f"{sys.argv[4]}.in", f"{sys.argv[4]}.out")

@@ -2,12 +2,13 @@
 //! turn and turn about. What is shown is the least time of many rounds, so that other work on the
 //! machine counts as little as it can.
 use crate::draw::Draw;
+use crate::ensembles;
 use crate::leaves::{ways, ways_real};
 use crate::paths;
 use crate::rattle;
 use crate::ssa::inside::filled;
 use crate::ssa::portable_log::frexp;
-use crate::ssa::{plog, realization, splitmix64, Xoshiro256};
+use crate::ssa::{plog, realization, simulate_compiled, simulate_sde_compiled, splitmix64, SdeOptions, SsaOptions, Xoshiro256};
 use std::hint::black_box;
 use std::time::Instant;
 
@@ -98,6 +99,68 @@ pub fn bench() {
         });
     }
     measure_paths();
+    measure_ensembles();
+    measure_diffusions();
+}
+
+/// The least time of some rounds on each side, and their ratio.
+fn turn_about(name: &str, rounds: usize, per: f64, mut ours: impl FnMut(), mut theirs: impl FnMut()) {
+    let mut best = [f64::INFINITY; 2];
+    for _ in 0..rounds {
+        for (side, run) in [&mut ours as &mut dyn FnMut(), &mut theirs].into_iter().enumerate() {
+            let began = Instant::now();
+            run();
+            best[side] = best[side].min(began.elapsed().as_secs_f64());
+        }
+    }
+    println!("{name:34} {:8.2} {:8.2} {:7.2}", best[0] / per * 1e6, best[1] / per * 1e6, best[0] / best[1]);
+}
+
+/// Whole ensembles over the nets of the paths, and one of short paths: both sides have to give the same means and deviations first.
+fn measure_ensembles() {
+    println!("{:34} {:>8} {:>8} {:>7}", "microseconds a path of an ensemble", "ours", "Rust", "ratio");
+    let mut cases: Vec<_> = paths::measured().into_iter().map(|(name, c)| (name, c.net, *c.instants.last().unwrap(), 16)).collect();
+    cases.push(("document 01's sample, 3 steps", crate::nets::example(), 2.0, 10_000));
+    for (name, net, horizon, realizations) in cases {
+        let case = ensembles::Case { net, samples: 64, realizations, seed: 1, horizon };
+        let options = SsaOptions { horizon, samples: 64, realizations: realizations as usize, seed: 1 };
+        let (fields, model) = (rattle::Fields::of(&case.net), filled(&case.net));
+        let mut tables = [vec![0.0; 2048], vec![0.0; 2048], vec![0.0; 2048]];
+        let theirs = simulate_compiled(&model, &options).unwrap();
+        assert_eq!(rattle::ensemble(&fields, 64, realizations, 1, horizon, &mut tables)[0], 0, "{name}: refused");
+        let cells = case.net.places.len() * 64;
+        assert!(tables[0][..cells] == theirs.values.concat() && tables[1][..cells] == theirs.stddev.unwrap().concat(), "{name}: the answers differ");
+        turn_about(name, 20, realizations as f64, || {
+            black_box(rattle::ensemble(&fields, 64, realizations, 1, horizon, &mut tables));
+        }, || {
+            black_box(simulate_compiled(&model, &options).unwrap());
+        });
+    }
+}
+
+/// Diffusions over the same nets without what gates them.
+fn measure_diffusions() {
+    println!("{:34} {:>8} {:>8} {:>7}", "microseconds a path of a diffusion", "ours", "Rust", "ratio");
+    for (name, case) in paths::measured() {
+        let mut net = case.net;
+        for m in &mut net.moves {
+            m.arcs.retain(|a| a.kind() == 0 || a.kind() == 2);
+            m.delay = 0.0;
+        }
+        let horizon = 1.0;
+        let options = SdeOptions { horizon, samples: 64, realizations: 4, seed: 1 };
+        let (fields, model) = (rattle::Fields::of(&net), filled(&net));
+        let mut tables = [vec![0.0; 2048], vec![0.0; 2048], vec![0.0; 2048]];
+        let theirs = simulate_sde_compiled(&model, &options).unwrap();
+        assert_eq!(rattle::diffusion(&fields, 64, 4, 1, horizon, &mut tables)[0], 0, "{name}: refused");
+        let cells = net.places.len() * 64;
+        assert!(tables[0][..cells] == theirs.values.concat() && tables[1][..cells] == theirs.stddev.unwrap().concat(), "{name}: the answers differ");
+        turn_about(name, 20, 4.0, || {
+            black_box(rattle::diffusion(&fields, 64, 4, 1, horizon, &mut tables));
+        }, || {
+            black_box(simulate_sde_compiled(&model, &options).unwrap());
+        });
+    }
 }
 
 /// Steps of a path in a second, from the least time of some rounds. Both sides have to give the answer

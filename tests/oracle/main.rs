@@ -1,7 +1,9 @@
 //! Compares the proved functions with the supplied Rust. The source's module stands beside this
 //! file as `ssa` only in the temporary folder in which this is built (tests/oracle/build).
 mod bench;
+mod diffusions;
 mod draw;
+mod ensembles;
 mod leaves;
 #[allow(dead_code)]
 mod nets;
@@ -20,18 +22,22 @@ fn main() {
         ["compare", seed, inputs] => {
             let mut report = report::Report::default();
             leaves::compare(&mut report, number(seed), number(inputs));
-            runs::compare(&mut report);
+            runs::compare(&mut report, number(seed), number(inputs) / 1000);
+            diffusions::compare(&mut report, number(seed), number(inputs) / 1000);
             println!("{} passed, {} failed", report.passed, report.failed);
             std::process::exit((report.failed > 0) as i32);
         }
         ["paths", seed, count, file] => paths::batch(number(seed), number(count), file),
-        ["record", leaves, paths] => {
+        ["ensembles", seed, count, folder] => ensembles::texts(number(seed), number(count), folder),
+        ["record", leaves, paths, diffusions, ensembles] => {
             sample::record(leaves);
             paths::record(paths);
+            diffusions::record(diffusions);
+            ensembles::record(ensembles);
         }
         ["bench"] => bench::bench(),
         _ => {
-            eprintln!("compare SEED INPUTS | paths SEED COUNT FILE | record FOLDER FOLDER | bench");
+            eprintln!("compare SEED INPUTS | paths SEED COUNT FILE | ensembles SEED COUNT FOLDER | record FOLDER FOLDER FOLDER FILE | bench");
             std::process::exit(2);
         }
     }

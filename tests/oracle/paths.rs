@@ -8,11 +8,11 @@ use crate::ssa::inside::filled;
 use crate::ssa::{plog, realization, Xoshiro256};
 use std::fmt::Write;
 
-const MOST_STEPS: u64 = 1_000_000;
+pub const MOST_STEPS: u64 = 1_000_000;
 const MOST_TOKENS: i64 = 1 << 53;
 /// The cells of the program's table, and what stands in each before the call.
-const CELLS: usize = 2048;
-const BEFORE: f64 = 7.0;
+pub const CELLS: usize = 2048;
+pub const BEFORE: f64 = 7.0;
 
 #[derive(Clone)]
 pub struct Case {
@@ -52,7 +52,7 @@ fn amount(weight: i64) -> i64 {
 }
 
 /// The first of 2 to 7 that applies, place by place and then transition by transition.
-fn fault(net: &Net) -> Option<u64> {
+pub fn fault(net: &Net) -> Option<u64> {
     for (i, p) in net.places.iter().enumerate() {
         if i >= 32 {
             return Some(2);
@@ -271,9 +271,9 @@ pub fn source_agrees(case: &Case, answer: &Answer) -> Option<bool> {
 
 // ---- the program's form
 
-fn put_case(out: &mut String, case: &Case) {
+/// A net as a row of numbers.
+pub fn put_net(out: &mut String, net: &Net) {
     let mut n = |x: u64| writeln!(out, "{x:016x}").unwrap();
-    let net = &case.net;
     n(net.places.len() as u64);
     n(net.moves.len() as u64);
     for p in net.places.iter().take(32) {
@@ -290,6 +290,11 @@ fn put_case(out: &mut String, case: &Case) {
             n(a.weight() as u64);
         }
     }
+}
+
+fn put_case(out: &mut String, case: &Case) {
+    put_net(out, &case.net);
+    let mut n = |x: u64| writeln!(out, "{x:016x}").unwrap();
     case.state.iter().for_each(|&w| n(w));
     n(case.limit);
     n(case.instants.len() as u64);
@@ -388,7 +393,7 @@ fn from(state: [u64; 4], mut case: Case) -> Case {
     case
 }
 
-/// The cases that document 01 and the rulings on it name.
+/// The cases that document 01 and docs/DECISIONS.md name.
 pub fn edges() -> Vec<Case> {
     let most = MOST_STEPS;
     let sample = [0.0, 1.0, 2.0];
@@ -527,7 +532,7 @@ pub fn edges() -> Vec<Case> {
 
 // ---- cases drawn
 
-fn one_of<T: Copy>(draw: &mut Draw, xs: &[T]) -> T {
+pub fn one_of<T: Copy>(draw: &mut Draw, xs: &[T]) -> T {
     xs[draw.below(xs.len() as u64) as usize]
 }
 
@@ -566,7 +571,7 @@ fn drawn_arcs(draw: &mut Draw, places: usize, timed: bool, most: u64) -> Vec<Arc
     arcs
 }
 
-fn drawn_net(draw: &mut Draw) -> Net {
+pub fn drawn_net(draw: &mut Draw) -> Net {
     let (places, moves, arcs) = match draw.below(16) {
         0 => (32, 64, 16),
         1 => (1 + draw.below(32), draw.below(65), 1 + draw.below(16)),
@@ -615,7 +620,7 @@ fn drawn_net(draw: &mut Draw) -> Net {
 }
 
 /// A fault put into a net, so that it is turned down.
-fn spoil(draw: &mut Draw, net: &mut Net) {
+pub fn spoil(draw: &mut Draw, net: &mut Net) {
     let p = draw.below(net.places.len() as u64) as usize;
     match draw.below(6) {
         0 => net.places[p].initial = MOST_TOKENS + 1,

@@ -38,6 +38,53 @@ mod c {
             cells: usize,
             told: *mut [u64; 4],
         );
+        pub fn cild_ensemble(
+            places: usize,
+            transitions: usize,
+            initial: *const [u64; 32],
+            capacity: *const [u64; 32],
+            rate: *const [f64; 64],
+            delay: *const [f64; 64],
+            arcs: *const [usize; 64],
+            kind: *const [u64; 1024],
+            place: *const [usize; 1024],
+            weight: *const [u64; 1024],
+            samples: u64,
+            realizations: u64,
+            seed: u64,
+            horizon: f64,
+            mean: *mut f64,
+            means: usize,
+            deviation: *mut f64,
+            deviations: usize,
+            path: *mut f64,
+            paths: usize,
+            told: *mut [u64; 3],
+        );
+        pub fn cild_diffusion(
+            places: usize,
+            transitions: usize,
+            initial: *const [u64; 32],
+            capacity: *const [u64; 32],
+            rate: *const [f64; 64],
+            delay: *const [f64; 64],
+            arcs: *const [usize; 64],
+            kind: *const [u64; 1024],
+            place: *const [usize; 1024],
+            weight: *const [u64; 1024],
+            samples: u64,
+            realizations: u64,
+            seed: u64,
+            horizon: f64,
+            mean: *mut f64,
+            means: usize,
+            deviation: *mut f64,
+            deviations: usize,
+            path: *mut f64,
+            paths: usize,
+            told: *mut [u64; 7],
+        );
+        pub fn cild_normals(state: *mut [u64; 4], spare: *mut f64, waiting: *mut bool, out: *mut f64, len: usize) -> usize;
     }
 }
 
@@ -182,4 +229,72 @@ pub fn path(f: &Fields, state: &mut [u64; 4], instants: &[f64], limit: u64, tabl
         )
     }
     told
+}
+
+/// The number by which it was turned down or stopped, or 0; the stopped path's number, or how many were spent; 1 where there are deviations.
+pub fn ensemble(f: &Fields, samples: u64, realizations: u64, seed: u64, horizon: f64, [mean, deviation, path]: &mut [Vec<f64>; 3]) -> [u64; 3] {
+    let mut told = [0; 3];
+    unsafe {
+        c::cild_ensemble(
+            f.places,
+            f.transitions,
+            &f.initial,
+            &f.capacity,
+            &f.rate,
+            &f.delay,
+            &f.arcs,
+            &f.kind,
+            &f.place,
+            &f.weight,
+            samples,
+            realizations,
+            seed,
+            horizon,
+            mean.as_mut_ptr(),
+            mean.len(),
+            deviation.as_mut_ptr(),
+            deviation.len(),
+            path.as_mut_ptr(),
+            path.len(),
+            &mut told,
+        )
+    }
+    told
+}
+
+/// The number by which it was turned down or stopped, 0, or 100 where the net is gated; the stopped path's number, or 1 where there are deviations;
+/// of a gated net reads, inhibitors, inputs that are not kinetic, the bounded places as bits, and 1 where there is a delay.
+pub fn diffusion(f: &Fields, samples: u64, realizations: u64, seed: u64, horizon: f64, [mean, deviation, path]: &mut [Vec<f64>; 3]) -> [u64; 7] {
+    let mut told = [0; 7];
+    unsafe {
+        c::cild_diffusion(
+            f.places,
+            f.transitions,
+            &f.initial,
+            &f.capacity,
+            &f.rate,
+            &f.delay,
+            &f.arcs,
+            &f.kind,
+            &f.place,
+            &f.weight,
+            samples,
+            realizations,
+            seed,
+            horizon,
+            mean.as_mut_ptr(),
+            mean.len(),
+            deviation.as_mut_ptr(),
+            deviation.len(),
+            path.as_mut_ptr(),
+            path.len(),
+            &mut told,
+        )
+    }
+    told
+}
+
+/// Normal draws into out; how many before one was refused.
+pub fn normals(state: &mut [u64; 4], spare: &mut f64, waiting: &mut bool, out: &mut [f64]) -> usize {
+    unsafe { c::cild_normals(state, spare, waiting, out.as_mut_ptr(), out.len()) }
 }

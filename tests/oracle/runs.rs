@@ -2,6 +2,7 @@
 //! Each is held to document 01 at one case. The path is held to `paths`, by the library and at some
 //! drawn nets; the program crates/path_replay is held to it at more.
 use crate::draw::Draw;
+use crate::ensembles;
 use crate::nets;
 use crate::paths;
 use crate::report::{same, Report};
@@ -9,7 +10,7 @@ use crate::ssa::inside::filled;
 use crate::ssa::sde::inside::normals;
 use crate::ssa::{plog, realization, sample_grid, Xoshiro256};
 
-pub fn compare(report: &mut Report) {
+pub fn compare(report: &mut Report, seed: u64, count: u64) {
     report.compare("realization of the example", |case| {
         let times = sample_grid(2.0, 3);
         let mut rng = Xoshiro256::new(1);
@@ -25,7 +26,18 @@ pub fn compare(report: &mut Report) {
             case(ours == answer.line(&c), &|| format!("{ours}harness {}", answer.line(&c)));
         }
     });
-    report.compare("normal draws, the spare kept", |case| {
+    report.compare("ensembles by the library", |case| {
+        let mut draw = Draw::new(seed);
+        for k in 0..count {
+            let c = ensembles::drawn(&mut draw);
+            let answer = ensembles::play(&c);
+            if let Some(agrees) = ensembles::source_agrees(&c, &answer) {
+                case(agrees, &|| format!("case {k}: the source differs from the rules as worked here"));
+            }
+            case(ensembles::library_agrees(&c, &answer), &|| format!("case {k}: {:?}", answer.outcome));
+        }
+    });
+    report.compare("normal draws of the source", |case| {
         for seed in 0..1000 {
             let mut rng = Xoshiro256::new(seed);
             let (a, b, square) = loop {

@@ -1,1 +1,3 @@
 pub mod Sweep
+pub mod Mask
+pub mod Filling

@@ -2,3 +2,5 @@ pub mod Drawn
 pub mod Told
 pub mod Played
 pub mod Averaged
+pub mod Diffused
+pub mod Normals

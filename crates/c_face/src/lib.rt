@@ -1,4 +1,4 @@
-// The leaf functions and the path under plain names, for a program in C or Rust to call. Those on slices do in one call what as many calls would.
+// The leaf functions, the path, the ensemble and the diffusion under plain names, for a program in C or Rust to call. Those on slices do in one call what as many calls would.
 ghost use mathlib.Core.Path.{_≡_};
 ghost use mathlib.Core.List.{map};
 ghost use lib.ListN.{length};
@@ -14,13 +14,20 @@ ghost use Rattle.combinations.specs.Combinations as Combinations;
 ghost use Rattle.root.specs.Root.{rootOf};
 ghost use Rattle.ssa.specs.Ensemble as Ensemble;
 ghost use Rattle.ssa.specs.Path as Path;
+ghost use Rattle.sde.specs.Call as Call;
+ghost use Rattle.sde.specs.Normal.{samplerOf};
 ghost use Rattle.c_face.specs.Averaged as Averaged;
+ghost use Rattle.c_face.specs.Diffused as Diffused;
 ghost use Rattle.c_face.specs.Drawn.{drawn, after};
+ghost use Rattle.c_face.specs.Normals as Normals;
 ghost use Rattle.c_face.specs.Played as Played;
 ghost use Rattle.c_face.specs.Told.{isValue, orZero};
 use combinations::Ways;
 use net::Net;
 use rng::Xoshiro256;
+use sde::DiffusionAnswer;
+use sde::normal::Draw;
+use sde::normal::GaussianSampler;
 use ssa::EnsembleAnswer;
 use ssa::PathEnd;
 
@@ -207,6 +214,66 @@ pub extern "C" fn cild_uniforms(state: &mut [u64; 4], out: &mut [f64])
     *state = rng.state();
 }
 
+// How many cells were filled, and the sampler after them.
+struct Filled {
+    count: usize,
+    sampler: GaussianSampler,
+}
+
+// A normal draw for each cell, until one is refused.
+fn fill(sampler: GaussianSampler, out: &mut [f64]) -> Filled
+    ensures { λ r. ⌜ Normals.filledOf r (now (out .exit)) ≡ Normals.filled (samplerOf sampler) (now (out .entry)) ⌝ }
+{
+    let mut s = sampler;
+    let mut i = 0;
+    while i < out.len() {
+        let drawn = s.normal();
+        let draw = drawn.draw;
+        let next = drawn.sampler;
+        let Draw::Value(z) = draw else {
+            return Filled {
+                count: i,
+                sampler: next,
+            };
+        };
+        out[i] = z;
+        s = next;
+        i += 1;
+    }
+    Filled {
+        count: i,
+        sampler: s,
+    }
+}
+
+// Normal draws, as many as out has room for or until one is refused; how many there are. The state, the spare and its flag are left as the sampler
+// after them.
+#[no_mangle]
+pub extern "C" fn cild_normals(
+    state: &mut [u64; 4],
+    spare: &mut f64,
+    waiting: &mut bool,
+    out: &mut [f64],
+) -> usize
+    ensures { λ r. ⌜ Normals.Left (Normals.filled (Normals.samplerFrom (now (state .entry)) (now (spare .entry)) (now (waiting .entry))) (now (out .entry)))
+        r (now (out .exit)) (Normals.samplerFrom (now (state .exit)) (now (spare .exit)) (now (waiting .exit))) ⌝ }
+{
+    let r = fill(
+        GaussianSampler {
+            rng: Xoshiro256::from_state(*state),
+            spare: *spare,
+            waiting: *waiting,
+        },
+        out,
+    );
+    let s = r.sampler;
+    let rng = s.rng;
+    *state = rng.state();
+    *spare = s.spare;
+    *waiting = s.waiting;
+    r.count
+}
+
 // The number of an end: the refusal's own, or 100 for quiet, 101 for spent, 102 for reached.
 fn end_number(end: PathEnd) -> u64
     ensures { λ r. ⌜ r ≡ Played.endNumber (Path.endOf end) ⌝ }
@@ -330,4 +397,78 @@ pub extern "C" fn cild_ensemble(
         path,
     );
     *told = ensemble_numbers(answer);
+}
+
+// The refusal's number, 0 for averaged, 100 for gated; the number of the path that was refused, or 1 where there are deviations; what gates a gated
+// net: the three counts, the mask of the bounded places, 1 where a transition is delayed.
+fn diffusion_numbers(answer: DiffusionAnswer) -> [u64; 7]
+    ensures { λ r. ⌜ r ≡ Diffused.toldOf (Call.outcomeOf answer) ⌝ }
+{
+    match answer {
+        DiffusionAnswer::Averaged(deviations) => [0, one_if(deviations), 0, 0, 0, 0, 0],
+        DiffusionAnswer::Gated(g) => [
+            100,
+            0,
+            g.reads,
+            g.inhibitors,
+            g.nonkinetic,
+            g.bounded % 0x1_0000_0000,
+            one_if(g.delayed),
+        ],
+        DiffusionAnswer::TurnedDown(c) => [c, 0, 0, 0, 0, 0, 0],
+        DiffusionAnswer::Stopped(c, k) => [c, k, 0, 0, 0, 0, 0],
+    }
+}
+
+// A diffusion over the net whose fields are lent.
+#[no_mangle]
+pub extern "C" fn cild_diffusion(
+    places: usize,
+    transitions: usize,
+    initial: &[u64; 32],
+    capacity: &[u64; 32],
+    rate: &[f64; 64],
+    delay: &[f64; 64],
+    arcs: &[usize; 64],
+    kind: &[u64; 1024],
+    place: &[usize; 1024],
+    weight: &[u64; 1024],
+    samples: u64,
+    realizations: u64,
+    seed: u64,
+    horizon: f64,
+    mean: &mut [f64],
+    deviation: &mut [f64],
+    path: &mut [f64],
+    told: &mut [u64; 7],
+)
+    ensures { λ _. ⌜ Diffused.Left (Call.called (lent places transitions (now (initial .entry)) (now (capacity .entry)) (now (rate .entry)) (now (delay .entry))
+        (now (arcs .entry)) (now (kind .entry)) (now (place .entry)) (now (weight .entry)))
+        (record { samples = samples; realizations = realizations; seed = seed; horizon = horizon })
+        (record { mean = now (mean .entry); deviation = now (deviation .entry); path = now (path .entry) }))
+        (now (told .exit)) (now (mean .exit)) (now (deviation .exit)) (now (path .exit)) ⌝ }
+{
+    let net = Net {
+        places: places,
+        transitions: transitions,
+        initial: *initial,
+        capacity: *capacity,
+        rate: *rate,
+        delay: *delay,
+        arcs: *arcs,
+        kind: *kind,
+        place: *place,
+        weight: *weight,
+    };
+    let answer = sde::diffuse(
+        net,
+        samples,
+        realizations,
+        seed,
+        horizon,
+        mean,
+        deviation,
+        path,
+    );
+    *told = diffusion_numbers(answer);
 }

@@ -1,0 +1,62 @@
+-- `replay_io::read_places` is safe and ends: it fills 32 places at most. Assumes nothing.
+use borrow.Author.Needs.{needs}
+use Prim.Native.Nat.{_-_, _≤_}
+use Rattle.replay_io.proofs.read_places.Statement.{statement}
+use Rattle.replay_io.proofs.read_places.Tie as tie
+
+abbrev Inv-loop : tie.InvT-loop
+Inv-loop n initial₀ capacity₀ p₀ initial capacity p = p ≤ 32
+
+abbrev μ-loop : tie.MeasureT-loop
+μ-loop n initial₀ capacity₀ p₀ initial capacity p = 32 - p
+
+loop-holds : tie.Need-loop-holds Inv-loop μ-loop
+loop-holds c = search needs
+
+number-requires : tie.Need-number-requires Inv-loop μ-loop
+number-requires c κs = search needs
+
+mul-initial : tie.Need-mul-initial Inv-loop μ-loop
+mul-initial c = search needs
+
+element-write-initial : tie.Need-element-write-initial Inv-loop μ-loop
+element-write-initial c = search needs
+
+number-requires-2 : tie.Need-number-requires-2 Inv-loop μ-loop
+number-requires-2 c κs = search needs
+
+mul-capacity : tie.Need-mul-capacity Inv-loop μ-loop
+mul-capacity c = search needs
+
+element-write-capacity : tie.Need-element-write-capacity Inv-loop μ-loop
+element-write-capacity c = search needs
+
+add-p : tie.Need-add-p Inv-loop μ-loop
+add-p c = search needs
+
+loop-less : tie.Need-loop-less Inv-loop μ-loop
+loop-less c = search needs
+
+loop-again : tie.Need-loop-again Inv-loop μ-loop
+loop-again c = search needs
+
+returns : tie.Need-returns Inv-loop μ-loop
+returns c = search needs
+
+pub read-places-spec : {M : Type 1} → statement M
+read-places-spec =
+    tie.close
+    (tie.spec
+    Inv-loop
+    μ-loop
+    loop-holds
+    number-requires
+    mul-initial
+    element-write-initial
+    number-requires-2
+    mul-capacity
+    element-write-capacity
+    add-p
+    loop-less
+    loop-again
+    returns)

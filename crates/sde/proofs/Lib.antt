@@ -1,0 +1,12 @@
+pub mod Pairs
+pub mod Arcs
+pub mod Counted
+pub mod Mask
+pub mod Changes
+pub mod Factors
+pub mod Each
+pub mod Substeps
+pub mod Cells
+pub mod Walks
+pub mod Members
+pub mod Tested

@@ -1,0 +1,74 @@
+-- What gates the net, or the paths with the table of changes and the width of a substep. Assumes nothing.
+use native.Mathlib.Omega.{arith}
+use mathlib.Core.Path.{refl}
+use Rattle.sde.proofs.Tested.{by-gated, by-free}
+use borrow.Author.Needs.{needs}
+use Rattle.sde.proofs.paths.lent_run.Statement.{statement}
+use Rattle.sde.proofs.paths.lent_run.Tie as tie
+
+gates-of-requires : tie.Need-gates-of-requires
+gates-of-requires c κs = c .before .before .before .pre .0
+
+is-gated-requires : tie.Need-is-gated-requires
+is-gated-requires c κs = c .gates-of .ensures .1
+
+returns : tie.Need-returns
+returns c = by-gated (c .before .before .gates-of .result) _ (c .before .before .gates-of .ensures .0) (c .before .is-gated .result) (c .before .is-gated .ensures) _ _ (c .if1 .taken)
+
+fill-changes-requires : tie.Need-fill-changes-requires
+fill-changes-requires c κs = (c .before .before .before .before .before .before .before .pre .0, refl)
+
+cast-width : tie.Need-cast-width
+cast-width c = omega (arith, c .before .before .before .before .before .before .before .before .pre .2)
+
+width-requires : tie.Need-width-requires
+width-requires c κs = omega (arith, c .before .before .before .before .before .before .before .before .pre .1)
+
+sqrt-requires : tie.Need-sqrt-requires
+sqrt-requires c κs = search needs
+
+averaged-requires : tie.Need-averaged-requires
+averaged-requires c κs =
+    let s = c .before .before .before .before .before .before .before .before .before .before .before .before .before .before in (
+      s .pre .0,
+      c .before .before .before .before .before .before .fill-changes .ensures,
+      c .before .before .before .before .before .width .ensures,
+      c .before .before .before .before .sqrt .ensures .1,
+      omega (arith, s .pre .1),
+      s .pre .2,
+      s .pre .3,
+      s .pre .4,
+      s .pre .5,
+      s .pre .6,
+      s .pre .7,
+    )
+
+same-length : tie.Need-same-length
+same-length c = search needs
+
+same-length-2 : tie.Need-same-length-2
+same-length-2 c = search needs
+
+same-length-3 : tie.Need-same-length-3
+same-length-3 c = search needs
+
+returns-2 : tie.Need-returns-2
+returns-2 c =
+    by-free (c .before .before .before .before .before .before .before .before .before .before .before .before .before .before .before .before .before .gates-of .result) _ (c .before .before .before .before .before .before .before .before .before .before .before .before .before .before .before .before .before .gates-of .ensures .0) (c .before .before .before .before .before .before .before .before .before .before .before .before .before .before .before .before .is-gated .result) (c .before .before .before .before .before .before .before .before .before .before .before .before .before .before .before .before .is-gated .ensures) _ _ (c .before .before .before .before .before .before .before .before .before .before .before .before .before .before .before .if1 .left) (c .before .before .before .before .before .before .averaged .ensures)
+
+pub lent-run-spec : {M : Type 1} → statement M
+lent-run-spec =
+    tie.close
+    (tie.spec
+    gates-of-requires
+    is-gated-requires
+    returns
+    fill-changes-requires
+    cast-width
+    width-requires
+    sqrt-requires
+    averaged-requires
+    same-length
+    same-length-2
+    same-length-3
+    returns-2)

@@ -1,0 +1,7 @@
+pub mod Normal
+pub mod Gated
+pub mod Diffusion
+pub mod Call
+pub mod Slots
+pub mod Engine
+pub mod Summed

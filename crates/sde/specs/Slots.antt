@@ -1,0 +1,87 @@
+-- What the private functions work out of the slots of a net record. The rules are in the other files; nothing here adds to them.
+use Prim.Native.Nat.{ℕ, zero, suc, _+_, _*_, _/_, _%_, _≤_, _<_}
+use mathlib.Core.Path.{_≡_}
+use mathlib.Core.Bool.{Bool}
+use mathlib.Core.List.{List, [], _∷_}
+use lib.Dec.{eqb, leb}
+use lib.ListN.{getD}
+use lib.Ieee.{Float, nan, binary64, add, sub, mul}
+use Rattle.net.specs.declared.Net.{Net as NetRecord}
+use Rattle.net.specs.Net.{Place, pick, amount}
+use Rattle.net.specs.Readable.{Slot, slotsOf, transition, transitionsFrom, isPut, isRead, isBlock}
+use Rattle.rules.specs.Propensity.{float}
+use Rattle.sde.specs.Gated.{bounded}
+use Rattle.sde.specs.Diffusion.{change, waysAt}
+use Rattle.sde.specs.declared.gated.Gate.{Gate}
+use Rattle.sde.specs.declared.gated.Gate.the-variants.{Read, Inhibitor, NonKinetic}
+
+-- ---- arcs counted by their kind
+
+abbrev pub oneIf : Bool → ℕ
+oneIf b = pick b 1 0
+
+abbrev pub sortOf : Gate → ℕ → Bool
+sortOf Read kind = isRead kind
+sortOf Inhibitor kind = isBlock kind
+sortOf NonKinetic kind = eqb kind 1
+
+abbrev pub countIf : (ℕ → Bool) → List Slot → ℕ
+countIf f [] = 0
+countIf f (l ∷ ls) = oneIf (f (l .kind)) + countIf f ls
+
+-- in k transitions from number j on
+abbrev pub countFrom : (ℕ → Bool) → NetRecord → ℕ → ℕ → ℕ
+countFrom f n j zero = 0
+countFrom f n j (suc k) = countIf f (slotsOf n j) + countFrom f n (suc j) k
+
+-- ---- what a transition puts into a place and takes from it
+
+-- no slot from `from` to before `end` weighs more than 1,000,000
+abbrev pub Light : ℕ → ℕ → List ℕ → Type 0
+Light from end weight = (a : ℕ) → from ≤ a → a < end → getD weight a 0 ≤ 1_000_000
+
+-- what a slot puts into place p, and takes from it
+abbrev pub putSlot : ℕ → ℕ → ℕ → ℕ → ℕ
+putSlot kind place weight p = pick (isPut kind) (pick (eqb place p) (amount weight) 0) 0
+
+abbrev pub takenSlot : ℕ → ℕ → ℕ → ℕ → ℕ
+takenSlot kind place weight p = pick (leb kind 1) (pick (eqb place p) (amount weight) 0) 0
+
+-- ---- the bounded places
+
+abbrev pub placeAt : NetRecord → ℕ → Place
+placeAt n p = record { initial = getD (n .initial) p 0; capacity = getD (n .capacity) p 0 }
+
+abbrev pub boundedAt : NetRecord → ℕ → Bool
+boundedAt n p = bounded (transitionsFrom n 0 (n .transitions)) p (placeAt n p)
+
+-- the mask of k places from number p on, whose lowest bit is place p's
+abbrev pub maskFrom : NetRecord → ℕ → ℕ → ℕ
+maskFrom n p zero = 0
+maskFrom n p (suc k) = oneIf (boundedAt n p) + 2 * maskFrom n (suc p) k
+
+-- ---- the table of net changes
+
+-- d less what a slot takes from place p; d and what it puts there
+abbrev pub lessSlot : Float → ℕ → ℕ → ℕ → ℕ → Float
+lessSlot d kind place weight p = pick (leb kind 1) (pick (eqb place p) (sub binary64 d (float (amount weight))) d) d
+
+abbrev pub moreSlot : Float → ℕ → ℕ → ℕ → ℕ → Float
+moreSlot d kind place weight p = pick (isPut kind) (pick (eqb place p) (add binary64 d (float (amount weight))) d) d
+
+-- cell c is that of transition c / 32 at place c % 32
+abbrev pub changeOf : NetRecord → ℕ → Float
+changeOf n c = change (transition n (c / 32)) (c % 32)
+
+abbrev pub Changes : NetRecord → List Float → Type 0
+Changes n changes = (c : ℕ) → c < 32 * n .transitions → getD changes c nan ≡ changeOf n c
+
+-- ---- a propensity
+
+-- the slots from `from` to before `end` name places of the net
+abbrev pub Inside : ℕ → ℕ → ℕ → List ℕ → Type 0
+Inside places from end place = (a : ℕ) → from ≤ a → a < end → getD place a 0 < places
+
+-- a times the ways of a slot, at the value v of its place
+abbrev pub timesSlot : Float → ℕ → ℕ → Float → Float
+timesSlot a kind weight v = pick (eqb kind 0) (mul binary64 a (waysAt v (amount weight))) a

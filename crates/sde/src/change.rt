@@ -1,0 +1,149 @@
+// The net changes of the transitions as floats, once a call: that of transition j at place p is cell 32 * j + p.
+ghost use mathlib.Core.Path.{_≡_};
+ghost use Prim.Native.Nat.{ℕ, _+_, _-_, _*_, _/_, _%_, _<_, _≤_};
+ghost use lib.Ieee.{binary64, add, sub};
+ghost use lib.Dec.{eqb, leb};
+ghost use lib.ListN.{length};
+ghost use Rattle.net.specs.Net as Reader;
+ghost use Rattle.net.specs.Readable as Record;
+ghost use Rattle.net.specs.Record.{lent};
+ghost use Rattle.net.specs.Sound as Sound;
+ghost use Rattle.rules.specs.Propensity.{float};
+ghost use Rattle.sde.specs.Diffusion as Diffusion;
+ghost use Rattle.sde.specs.Slots as Slots;
+use crate::slots;
+
+// d less what one slot takes from place p.
+fn less(d: f64, kind: u64, place: usize, weight: u64, p: usize) -> f64
+    requires { ⌜ weight ≤ 1_000_000 ⌝ }
+    ensures { λ r. ⌜ r ≡ Slots.lessSlot d kind place weight p ⌝ }
+{
+    if kind <= net::TAKE {
+        if place == p {
+            return d - (slots::amount(weight) as f64);
+        }
+    }
+    d
+}
+
+// d and what one slot puts into place p.
+fn more(d: f64, kind: u64, place: usize, weight: u64, p: usize) -> f64
+    requires { ⌜ weight ≤ 1_000_000 ⌝ }
+    ensures { λ r. ⌜ r ≡ Slots.moreSlot d kind place weight p ⌝ }
+{
+    if kind == net::PUT {
+        if place == p {
+            return d + (slots::amount(weight) as f64);
+        }
+    }
+    d
+}
+
+// 0 less what the slots from `from` to before `end` take from place p.
+fn less_takes<'a>(
+    kind: &'a [u64; 1024],
+    place: &'a [usize; 1024],
+    weight: &'a [u64; 1024],
+    from: usize,
+    end: usize,
+    p: usize,
+) -> f64
+    requires { ⌜ (end ≤ 1024) × Slots.Light from end (now weight) ⌝ }
+    ensures { λ r. ⌜ r ≡ Diffusion.lessTakes p Reader.zero64 (Record.takesOf (Record.slots (now (kind .entry)) (now (place .entry)) (now (weight .entry)) from (end - from))) ⌝ }
+{
+    let mut d = 0.0;
+    let mut a = from;
+    while a < end {
+        d = less(d, kind[a], place[a], weight[a], p);
+        a += 1;
+    }
+    d
+}
+
+// What they put there, on top of first.
+fn plus_puts<'a>(
+    kind: &'a [u64; 1024],
+    place: &'a [usize; 1024],
+    weight: &'a [u64; 1024],
+    from: usize,
+    end: usize,
+    p: usize,
+    first: f64,
+) -> f64
+    requires { ⌜ (end ≤ 1024) × Slots.Light from end (now weight) ⌝ }
+    ensures { λ r. ⌜ r ≡ Diffusion.plusPuts p first (Record.arcsOf Record.isPut (Record.slots (now (kind .entry)) (now (place .entry)) (now (weight .entry)) from (end - from))) ⌝ }
+{
+    let mut d = first;
+    let mut a = from;
+    while a < end {
+        d = more(d, kind[a], place[a], weight[a], p);
+        a += 1;
+    }
+    d
+}
+
+// The net change of cell c.
+fn change_of<'a>(
+    places: usize,
+    transitions: usize,
+    initial: &'a [u64; 32],
+    capacity: &'a [u64; 32],
+    rate: &'a [f64; 64],
+    delay: &'a [f64; 64],
+    arcs: &'a [usize; 64],
+    kind: &'a [u64; 1024],
+    place: &'a [usize; 1024],
+    weight: &'a [u64; 1024],
+    c: usize,
+) -> f64
+    requires { ⌜ (c < 32 * transitions) × Sound.Sound (lent places transitions (now initial) (now capacity) (now rate) (now delay) (now arcs) (now kind) (now place) (now weight)) ⌝ }
+    ensures { λ r. ⌜ r ≡ Slots.changeOf (lent places transitions (now (initial .entry)) (now (capacity .entry)) (now (rate .entry)) (now (delay .entry))
+        (now (arcs .entry)) (now (kind .entry)) (now (place .entry)) (now (weight .entry))) c ⌝ }
+{
+    let j = c / 32;
+    let p = c % 32;
+    let from = 16 * j;
+    let end = from + arcs[j];
+    let d = less_takes(kind, place, weight, from, end, p);
+    plus_puts(kind, place, weight, from, end, p, d)
+}
+
+// Fills the table of net changes.
+pub fn fill_changes<'a>(
+    places: usize,
+    transitions: usize,
+    initial: &'a [u64; 32],
+    capacity: &'a [u64; 32],
+    rate: &'a [f64; 64],
+    delay: &'a [f64; 64],
+    arcs: &'a [usize; 64],
+    kind: &'a [u64; 1024],
+    place: &'a [usize; 1024],
+    weight: &'a [u64; 1024],
+    changes: &mut [f64; 2048],
+)
+    requires { ⌜ Sound.Sound (lent places transitions (now initial) (now capacity) (now rate) (now delay) (now arcs) (now kind) (now place) (now weight)) × (length (now changes) ≡ 2048) ⌝ }
+    ensures { λ _. ⌜ Slots.Changes (lent places transitions (now (initial .entry)) (now (capacity .entry)) (now (rate .entry)) (now (delay .entry))
+        (now (arcs .entry)) (now (kind .entry)) (now (place .entry)) (now (weight .entry))) (now (changes .exit)) ⌝ }
+{
+    let end = 32 * transitions;
+    let mut c: usize = 0;
+    while c < end {
+        let next = c + 1;
+        let d = change_of(
+            places,
+            transitions,
+            initial,
+            capacity,
+            rate,
+            delay,
+            arcs,
+            kind,
+            place,
+            weight,
+            c,
+        );
+        changes[c] = d;
+        c = next;
+    }
+}

@@ -1,0 +1,116 @@
+// The propensity of a transition at a state of real numbers.
+ghost use mathlib.Core.Path.{_≡_};
+ghost use mathlib.Core.Bool.{_&&_};
+ghost use Prim.Native.Nat.{ℕ, _-_, _*_, _+_, _<_, _≤_};
+ghost use lib.Ieee.{binary64, mul, lt, le, eq};
+ghost use lib.Dec.{eqb};
+ghost use lib.ListN as ListN;
+ghost use Rattle.net.specs.Net as Reader;
+ghost use Rattle.net.specs.Readable as Record;
+ghost use Rattle.net.specs.Record.{lent};
+ghost use Rattle.net.specs.Sound as Sound;
+ghost use Rattle.sde.specs.Diffusion as Diffusion;
+ghost use Rattle.sde.specs.Slots as Slots;
+use crate::slots;
+use combinations::Ways;
+
+// How many ways there are to choose w of x, as a float.
+fn ways(x: f64, w: u64) -> f64
+    requires { ⌜ w ≤ 1_000_000 ⌝ }
+    ensures { λ r. ⌜ r ≡ Diffusion.waysAt x w ⌝ }
+{
+    let answer = combinations::combinations_real(x, w as i64);
+    match answer {
+        Ways::Value(v) => v,
+        Ways::Refused => 0.0 / 0.0,
+    }
+}
+
+// a times the ways of one slot, at the value v of its place: only a kinetic take has them.
+fn times(a: f64, kind: u64, weight: u64, v: f64) -> f64
+    requires { ⌜ weight ≤ 1_000_000 ⌝ }
+    ensures { λ r. ⌜ r ≡ Slots.timesSlot a kind weight v ⌝ }
+{
+    if kind == 0 {
+        return a * ways(v, slots::amount(weight));
+    }
+    a
+}
+
+// Has a kinetic take made the product 0 or less?
+fn spent(kind: u64, a: f64) -> bool
+    ensures { λ r. ⌜ r ≡ (eqb kind 0 && le a Reader.zero64) ⌝ }
+{
+    if kind == 0 {
+        return a <= 0.0;
+    }
+    false
+}
+
+// A rate times the ways of the slots from `from` to before `end`; 0 as soon as that is 0 or less.
+fn product<'a>(
+    kind: &'a [u64; 1024],
+    place: &'a [usize; 1024],
+    weight: &'a [u64; 1024],
+    places: usize,
+    x: &[f64; 32],
+    from: usize,
+    end: usize,
+    rate: f64,
+) -> f64
+    requires { ⌜ (end ≤ 1024) × (places ≤ 32) × Slots.Light from end (now weight) × Slots.Inside places from end (now place) ⌝ }
+    ensures { λ r. ⌜ r ≡ Diffusion.factored (ListN.take places (now (x .entry))) rate
+        (Diffusion.kineticOf (Record.takesOf (Record.slots (now (kind .entry)) (now (place .entry)) (now (weight .entry)) from (end - from)))) ⌝ }
+{
+    let mut a = rate;
+    let mut s = from;
+    while s < end {
+        let k = kind[s];
+        let p = place[s];
+        let b = times(a, k, weight[s], x[p]);
+        if spent(k, b) {
+            return 0.0;
+        }
+        a = b;
+        s += 1;
+    }
+    a
+}
+
+// The rate of a transition: 0 where it runs by a timer, and 1 where none is given.
+fn rate_of(rate: f64, delay: f64) -> f64
+    ensures { λ r. ⌜ r ≡ Reader.pick (lt Reader.zero64 delay) Reader.zero64 (Reader.pick (eq rate Reader.zero64) Reader.one64 rate) ⌝ }
+{
+    if 0.0 < delay {
+        return 0.0;
+    }
+    if rate == 0.0 {
+        return 1.0;
+    }
+    rate
+}
+
+// The propensity of transition j, at this state.
+pub fn propensity<'a>(
+    places: usize,
+    transitions: usize,
+    initial: &'a [u64; 32],
+    capacity: &'a [u64; 32],
+    rate: &'a [f64; 64],
+    delay: &'a [f64; 64],
+    arcs: &'a [usize; 64],
+    kind: &'a [u64; 1024],
+    place: &'a [usize; 1024],
+    weight: &'a [u64; 1024],
+    x: &[f64; 32],
+    j: usize,
+) -> f64
+    requires { ⌜ (j < transitions) × Sound.Sound (lent places transitions (now initial) (now capacity) (now rate) (now delay) (now arcs) (now kind) (now place) (now weight)) ⌝ }
+    ensures { λ r. ⌜ r ≡ Diffusion.propensity (ListN.take places (now (x .entry))) (Record.transition (lent places transitions (now (initial .entry)) (now (capacity .entry)) (now (rate .entry)) (now (delay .entry))
+        (now (arcs .entry)) (now (kind .entry)) (now (place .entry)) (now (weight .entry))) j) ⌝ }
+{
+    let from = 16 * j;
+    let end = from + arcs[j];
+    let r = rate_of(rate[j], delay[j]);
+    product(kind, place, weight, places, x, from, end, r)
+}

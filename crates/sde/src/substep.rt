@@ -1,0 +1,358 @@
+// One substep: each transition's noise goes into the state at once, and the drift after all of them.
+ghost use mathlib.Core.Path.{_≡_};
+ghost use mathlib.Core.Bool.{true, false};
+ghost use Prim.Native.Nat.{ℕ, _-_, _*_, _+_, _<_, _≤_};
+ghost use lib.Ieee.{Float, binary64, add, nan};
+ghost use lib.ListN.{length, getD};
+ghost use Rattle.net.specs.Net as Reader;
+ghost use Rattle.net.specs.Readable as Record;
+ghost use Rattle.net.specs.Record.{lent};
+ghost use Rattle.net.specs.Sound as Sound;
+ghost use Rattle.root.specs.Root.{rootOf};
+ghost use Rattle.sde.specs.Diffusion as Diffusion;
+ghost use Rattle.sde.specs.Engine as Engine;
+ghost use Rattle.sde.specs.Slots as Slots;
+use crate::normal::Draw;
+use crate::normal::GaussianSampler;
+use crate::propensity;
+
+// The sampler after some draws, and whether one of them was refused.
+pub struct Pushed {
+    pub sampler: GaussianSampler,
+    pub stopped: bool,
+}
+
+// v more by the noise of a transition that changes its place by d.
+fn with_noise(v: f64, d: f64, noise: f64) -> f64
+    ensures { λ r. ⌜ r ≡ Diffusion.noiseBy d noise v ⌝ }
+{
+    if d == 0.0 {
+        return v;
+    }
+    v + d * noise
+}
+
+// v more by the drift of a transition of propensity a that changes its place by d.
+fn with_drift(v: f64, d: f64, a: f64, dt: f64) -> f64
+    ensures { λ r. ⌜ r ≡ Diffusion.driftBy d a dt v ⌝ }
+{
+    if d == 0.0 {
+        return v;
+    }
+    v + d * a * dt
+}
+
+// The noise and the drift of transition j, place by place.
+fn spread(
+    changes: &[f64; 2048],
+    places: usize,
+    j: usize,
+    a: f64,
+    dt: f64,
+    noise: f64,
+    x: &mut [f64; 32],
+    drift: &mut [f64; 32],
+)
+    requires { ⌜ (j < 64) × (places ≤ 32) × Engine.Lengths (now x) (now drift) ⌝ }
+    ensures { λ _. ⌜ Engine.Mapped places (λ p. Diffusion.noiseBy (getD (now (changes .entry)) (32 * j + p) nan) noise) (now (x .entry)) (now (x .exit))
+        × Engine.Mapped places (λ p. Diffusion.driftBy (getD (now (changes .entry)) (32 * j + p) nan) a dt) (now (drift .entry)) (now (drift .exit)) ⌝ }
+{
+    let from = 32 * j;
+    let mut p: usize = 0;
+    while p < places {
+        let q = p + 1;
+        let d = changes[from + p];
+        let v = with_noise(x[p], d, noise);
+        x[p] = v;
+        let w = with_drift(drift[p], d, a, dt);
+        drift[p] = w;
+        p = q;
+    }
+}
+
+// Sets the drift to +0.
+fn clear(places: usize, drift: &mut [f64; 32])
+    requires { ⌜ (places ≤ 32) × (length (now drift) ≡ 32) ⌝ }
+    ensures { λ _. ⌜ Engine.Mapped places (λ p v. Reader.zero64) (now (drift .entry)) (now (drift .exit)) ⌝ }
+{
+    let mut p: usize = 0;
+    while p < places {
+        drift[p] = 0.0;
+        p += 1;
+    }
+}
+
+// v with its drift. "Negative states set to 0."
+fn settled(v: f64, d: f64) -> f64
+    ensures { λ r. ⌜ r ≡ Diffusion.aboveZero (add binary64 v d) ⌝ }
+{
+    let s = v + d;
+    if s < 0.0 {
+        return 0.0;
+    }
+    s
+}
+
+// Adds the drift to the state.
+fn settle(places: usize, drift: &[f64; 32], x: &mut [f64; 32])
+    requires { ⌜ (places ≤ 32) × (length (now x) ≡ 32) ⌝ }
+    ensures { λ _. ⌜ Engine.Mapped places (λ p v. Diffusion.aboveZero (add binary64 v (getD (now (drift .entry)) p nan))) (now (x .entry)) (now (x .exit)) ⌝ }
+{
+    let mut p: usize = 0;
+    while p < places {
+        let v = settled(x[p], drift[p]);
+        x[p] = v;
+        p += 1;
+    }
+}
+
+// Transition j: its noise and its drift, with one draw; nothing, and no draw, where its propensity is 0.
+fn push<'a>(
+    places: usize,
+    transitions: usize,
+    initial: &'a [u64; 32],
+    capacity: &'a [u64; 32],
+    rate: &'a [f64; 64],
+    delay: &'a [f64; 64],
+    arcs: &'a [usize; 64],
+    kind: &'a [u64; 1024],
+    place: &'a [usize; 1024],
+    weight: &'a [u64; 1024],
+    changes: &'a [f64; 2048],
+    dt: f64,
+    root: f64,
+    x: &mut [f64; 32],
+    drift: &mut [f64; 32],
+    sampler: GaussianSampler,
+    j: usize,
+) -> Pushed
+    requires { ⌜ (j < transitions) × Sound.Sound (lent places transitions (now initial) (now capacity) (now rate) (now delay) (now arcs) (now kind) (now place) (now weight))
+        × Slots.Changes (lent places transitions (now initial) (now capacity) (now rate) (now delay) (now arcs) (now kind) (now place) (now weight)) (now changes)
+        × (root ≡ rootOf dt) × Engine.Lengths (now x) (now drift) ⌝ }
+    ensures { λ r. ⌜ (Engine.unless (r .stopped) (Engine.goingOf places (now (x .exit)) (now (drift .exit)) (r .sampler))
+        ≡ Diffusion.pushed dt (Record.transition (lent places transitions (now (initial .entry)) (now (capacity .entry)) (now (rate .entry)) (now (delay .entry))
+        (now (arcs .entry)) (now (kind .entry)) (now (place .entry)) (now (weight .entry))) j) (Engine.goingOf places (now (x .entry)) (now (drift .entry)) sampler))
+        × Engine.Lengths (now (x .exit)) (now (drift .exit)) ⌝ }
+{
+    let a = propensity::propensity(
+        places,
+        transitions,
+        initial,
+        capacity,
+        rate,
+        delay,
+        arcs,
+        kind,
+        place,
+        weight,
+        x,
+        j,
+    );
+    if a == 0.0 {
+        return Pushed {
+            sampler: sampler,
+            stopped: false,
+        };
+    }
+    let drawn = sampler.normal();
+    let draw = drawn.draw;
+    let after = drawn.sampler;
+    match draw {
+        Draw::Value(z) => {
+            let noise = root::sqrt(a) * root * z;
+            spread(changes, places, j, a, dt, noise, x, drift);
+            Pushed {
+                sampler: after,
+                stopped: false,
+            }
+        }
+        Draw::Refused => Pushed {
+            sampler: after,
+            stopped: true,
+        },
+    }
+}
+
+// All transitions, in their order.
+fn push_all<'a>(
+    places: usize,
+    transitions: usize,
+    initial: &'a [u64; 32],
+    capacity: &'a [u64; 32],
+    rate: &'a [f64; 64],
+    delay: &'a [f64; 64],
+    arcs: &'a [usize; 64],
+    kind: &'a [u64; 1024],
+    place: &'a [usize; 1024],
+    weight: &'a [u64; 1024],
+    changes: &'a [f64; 2048],
+    dt: f64,
+    root: f64,
+    x: &mut [f64; 32],
+    drift: &mut [f64; 32],
+    sampler: GaussianSampler,
+) -> Pushed
+    requires { ⌜ Sound.Sound (lent places transitions (now initial) (now capacity) (now rate) (now delay) (now arcs) (now kind) (now place) (now weight))
+        × Slots.Changes (lent places transitions (now initial) (now capacity) (now rate) (now delay) (now arcs) (now kind) (now place) (now weight)) (now changes)
+        × (root ≡ rootOf dt) × Engine.Lengths (now x) (now drift) ⌝ }
+    ensures { λ r. ⌜ (Engine.unless (r .stopped) (Engine.goingOf places (now (x .exit)) (now (drift .exit)) (r .sampler))
+        ≡ Diffusion.pushedAll dt (Record.transitionsFrom (lent places transitions (now (initial .entry)) (now (capacity .entry)) (now (rate .entry)) (now (delay .entry))
+        (now (arcs .entry)) (now (kind .entry)) (now (place .entry)) (now (weight .entry))) 0 transitions) (Engine.goingOf places (now (x .entry)) (now (drift .entry)) sampler))
+        × Engine.Lengths (now (x .exit)) (now (drift .exit)) ⌝ }
+{
+    let mut s = sampler;
+    let mut j: usize = 0;
+    while j < transitions {
+        let next = j + 1;
+        let p = push(
+            places,
+            transitions,
+            initial,
+            capacity,
+            rate,
+            delay,
+            arcs,
+            kind,
+            place,
+            weight,
+            changes,
+            dt,
+            root,
+            x,
+            drift,
+            s,
+            j,
+        );
+        if p.stopped {
+            return p;
+        }
+        s = p.sampler;
+        j = next;
+    }
+    Pushed {
+        sampler: s,
+        stopped: false,
+    }
+}
+
+// One substep.
+pub fn substep<'a>(
+    places: usize,
+    transitions: usize,
+    initial: &'a [u64; 32],
+    capacity: &'a [u64; 32],
+    rate: &'a [f64; 64],
+    delay: &'a [f64; 64],
+    arcs: &'a [usize; 64],
+    kind: &'a [u64; 1024],
+    place: &'a [usize; 1024],
+    weight: &'a [u64; 1024],
+    changes: &'a [f64; 2048],
+    dt: f64,
+    root: f64,
+    x: &mut [f64; 32],
+    drift: &mut [f64; 32],
+    sampler: GaussianSampler,
+) -> Pushed
+    requires { ⌜ Sound.Sound (lent places transitions (now initial) (now capacity) (now rate) (now delay) (now arcs) (now kind) (now place) (now weight))
+        × Slots.Changes (lent places transitions (now initial) (now capacity) (now rate) (now delay) (now arcs) (now kind) (now place) (now weight)) (now changes)
+        × (root ≡ rootOf dt) × Engine.Lengths (now x) (now drift) ⌝ }
+    ensures { λ r. ⌜ (Engine.unless (r .stopped) (Engine.stateOf places (now (x .exit)) (r .sampler))
+        ≡ Diffusion.substep (Record.readable (lent places transitions (now (initial .entry)) (now (capacity .entry)) (now (rate .entry)) (now (delay .entry))
+        (now (arcs .entry)) (now (kind .entry)) (now (place .entry)) (now (weight .entry)))) dt (Engine.stateOf places (now (x .entry)) sampler))
+        × Engine.Lengths (now (x .exit)) (now (drift .exit)) ⌝ }
+{
+    clear(places, drift);
+    let p = push_all(
+        places,
+        transitions,
+        initial,
+        capacity,
+        rate,
+        delay,
+        arcs,
+        kind,
+        place,
+        weight,
+        changes,
+        dt,
+        root,
+        x,
+        drift,
+        sampler,
+    );
+    if p.stopped {
+        return p;
+    }
+    settle(places, drift, x);
+    p
+}
+
+const SUBSTEPS: u64 = 20;
+
+// An interval: 20 substeps, where dt is above 0.
+pub fn over_interval<'a>(
+    places: usize,
+    transitions: usize,
+    initial: &'a [u64; 32],
+    capacity: &'a [u64; 32],
+    rate: &'a [f64; 64],
+    delay: &'a [f64; 64],
+    arcs: &'a [usize; 64],
+    kind: &'a [u64; 1024],
+    place: &'a [usize; 1024],
+    weight: &'a [u64; 1024],
+    changes: &'a [f64; 2048],
+    dt: f64,
+    root: f64,
+    x: &mut [f64; 32],
+    drift: &mut [f64; 32],
+    sampler: GaussianSampler,
+) -> Pushed
+    requires { ⌜ Sound.Sound (lent places transitions (now initial) (now capacity) (now rate) (now delay) (now arcs) (now kind) (now place) (now weight))
+        × Slots.Changes (lent places transitions (now initial) (now capacity) (now rate) (now delay) (now arcs) (now kind) (now place) (now weight)) (now changes)
+        × (root ≡ rootOf dt) × Engine.Lengths (now x) (now drift) ⌝ }
+    ensures { λ r. ⌜ (Engine.unless (r .stopped) (Engine.stateOf places (now (x .exit)) (r .sampler))
+        ≡ Diffusion.overInterval (Record.readable (lent places transitions (now (initial .entry)) (now (capacity .entry)) (now (rate .entry)) (now (delay .entry))
+        (now (arcs .entry)) (now (kind .entry)) (now (place .entry)) (now (weight .entry)))) dt (Engine.stateOf places (now (x .entry)) sampler))
+        × Engine.Lengths (now (x .exit)) (now (drift .exit)) ⌝ }
+{
+    let mut s = sampler;
+    if 0.0 < dt {
+        let mut i: u64 = 0;
+        while i < SUBSTEPS {
+            let next = i + 1;
+            let p = substep(
+                places,
+                transitions,
+                initial,
+                capacity,
+                rate,
+                delay,
+                arcs,
+                kind,
+                place,
+                weight,
+                changes,
+                dt,
+                root,
+                x,
+                drift,
+                s,
+            );
+            if p.stopped {
+                return p;
+            }
+            s = p.sampler;
+            i = next;
+        }
+        return Pushed {
+            sampler: s,
+            stopped: false,
+        };
+    }
+    Pushed {
+        sampler: s,
+        stopped: false,
+    }
+}
