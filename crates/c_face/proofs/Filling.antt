@@ -10,7 +10,7 @@ use lib.Ieee.{Float, nan}
 use lib.ListN.{length, take, drop, getD, set, length-set, length-append, take-append-drop}
 use lib.Seq.{take-suc-set, drop-set-lt, drop-cons, append-snoc, length-take-le, drop-length}
 use Rattle.rules.specs.Step.{Answer, refused, given}
-use Rattle.sde.specs.Normal.{Sampler, normal}
+use Rattle.normals.specs.Normal.{Sampler, normal}
 use Rattle.c_face.specs.Normals.{Filled, unlessRefused, filled}
 
 abbrev made : ℕ → List Float → Sampler → Filled

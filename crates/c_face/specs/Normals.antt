@@ -6,7 +6,7 @@ use mathlib.Core.List.{List, [], _∷_}
 use lib.Ieee.{Float}
 use Rattle.rng.specs.State.{words}
 use Rattle.rules.specs.Step.{Answer, refused, given}
-use Rattle.sde.specs.Normal.{Sampler, normal, samplerOf}
+use Rattle.normals.specs.Normal.{Sampler, normal, samplerOf}
 use Rattle.c_face.specs.declared.Filled.{Filled as FilledStruct}
 
 -- how many draws were answered, the cells that they went to with those behind them, and the sampler after them

@@ -1,4 +1,3 @@
-pub mod Pairs
 pub mod Arcs
 pub mod Counted
 pub mod Mask

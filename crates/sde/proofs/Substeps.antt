@@ -15,11 +15,11 @@ use Rattle.net.specs.Net.{Net, pick, zero64}
 use Rattle.net.specs.Readable.{transition, transitionsFrom}
 use Rattle.root.specs.Root.{rootOf}
 use Rattle.rules.specs.Step.{Answer, refused, given}
-use Rattle.sde.specs.declared.normal.GaussianSampler.{GaussianSampler}
-use Rattle.sde.specs.declared.normal.Draw.{Draw}
-use Rattle.sde.specs.declared.normal.Draw.the-variants.{Value, Refused}
-use Rattle.sde.specs.declared.normal.Normal.{Normal}
-use Rattle.sde.specs.Normal.{Drawn, samplerOf, answerOf, drawnOf, normal}
+use Rattle.normals.specs.declared.GaussianSampler.{GaussianSampler}
+use Rattle.normals.specs.declared.Draw.{Draw}
+use Rattle.normals.specs.declared.Draw.the-variants.{Value, Refused}
+use Rattle.normals.specs.declared.Normal.{Normal}
+use Rattle.normals.specs.Normal.{Drawn, samplerOf, answerOf, drawnOf, normal}
 use Rattle.sde.specs.Diffusion.{State, Going, andThen, change, propensity, driftBy, noiseBy, drifted, noised, spread, pushed, pushedAll, begun, aboveZero, settled, substep, repeated, overInterval, at}
 use Rattle.sde.specs.Slots.{Changes}
 use Rattle.sde.specs.Engine.{stateOf, goingOf, unless, Mapped}

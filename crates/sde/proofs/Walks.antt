@@ -11,8 +11,8 @@ use Rattle.net.specs.Net.{Place}
 use Rattle.net.specs.Readable.{placesFrom, readable}
 use Rattle.rules.specs.Propensity.{float}
 use Rattle.rules.specs.Step.{Answer, refused, given}
-use Rattle.sde.specs.declared.normal.GaussianSampler.{GaussianSampler}
-use Rattle.sde.specs.Normal.{samplerOf, started}
+use Rattle.normals.specs.declared.GaussianSampler.{GaussianSampler}
+use Rattle.normals.specs.Normal.{samplerOf, started}
 use Rattle.sde.specs.Diffusion.{State, andThen, eachFrom, further, overInterval, firstState, walked, cellsOf}
 use Rattle.sde.specs.Engine.{stateOf, preceded, Mapped, Beyond}
 

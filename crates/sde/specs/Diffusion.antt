@@ -14,7 +14,7 @@ use Rattle.rules.specs.Propensity.{float, asFloat}
 use Rattle.rules.specs.Step.{Answer, refused, given}
 use Rattle.averages.specs.Request.{Request, seedOf, instant}
 use Rattle.averages.specs.Request as Request
-use Rattle.sde.specs.Normal.{Sampler, started, normal}
+use Rattle.normals.specs.Normal.{Sampler, started, normal}
 
 -- ---- answers
 

@@ -8,8 +8,8 @@ use lib.ListN.{length, getD, take, drop}
 use lib.Ieee.{Float, nan}
 use Rattle.refusals.specs as Refusal
 use Rattle.rules.specs.Step.{Answer, refused, given}
-use Rattle.sde.specs.declared.normal.GaussianSampler.{GaussianSampler}
-use Rattle.sde.specs.Normal.{samplerOf}
+use Rattle.normals.specs.declared.GaussianSampler.{GaussianSampler}
+use Rattle.normals.specs.Normal.{samplerOf}
 use Rattle.sde.specs.Diffusion.{State, Going, eachFrom}
 
 -- the state, and the state within a substep; the arrays' first cells are the places

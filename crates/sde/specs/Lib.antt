@@ -1,4 +1,3 @@
-pub mod Normal
 pub mod Gated
 pub mod Diffusion
 pub mod Call

@@ -1,7 +1,6 @@
 // Diffusion over a net: paths of the chemical Langevin equation, their means and deviations; and the normal draws that they use.
 mod change;
 mod gated;
-pub mod normal;
 mod paths;
 mod propensity;
 mod slots;

@@ -12,9 +12,9 @@ ghost use Rattle.root.specs.Root.{rootOf};
 ghost use Rattle.sde.specs.Diffusion as Diffusion;
 ghost use Rattle.sde.specs.Engine as Engine;
 ghost use Rattle.sde.specs.Slots as Slots;
-use crate::normal::Draw;
-use crate::normal::GaussianSampler;
 use crate::propensity;
+use normals::Draw;
+use normals::GaussianSampler;
 
 // The sampler after some draws, and whether one of them was refused.
 pub struct Pushed {

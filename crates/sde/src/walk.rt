@@ -10,12 +10,12 @@ ghost use Rattle.net.specs.Record.{lent};
 ghost use Rattle.net.specs.Sound as Sound;
 ghost use Rattle.root.specs.Root.{rootOf};
 ghost use Rattle.rules.specs.Propensity.{float};
-ghost use Rattle.sde.specs.Normal as Normal;
+ghost use Rattle.normals.specs.Normal as Normal;
 ghost use Rattle.sde.specs.Diffusion as Diffusion;
 ghost use Rattle.sde.specs.Engine as Engine;
 ghost use Rattle.sde.specs.Slots as Slots;
-use crate::normal::GaussianSampler;
 use crate::substep;
+use normals::GaussianSampler;
 
 // Writes the state into the cells of instant i of n.
 fn show(places: usize, n: usize, i: usize, x: &[f64; 32], table: &mut [f64])

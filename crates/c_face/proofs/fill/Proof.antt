@@ -4,7 +4,7 @@ use native.Mathlib.Omega.{arith}
 use mathlib.Core.Path.{sym, ap, _∙_}
 use Prim.Native.Nat.{_-_}
 use lib.ListN.{length}
-use Rattle.sde.specs.Normal.{Drawn, samplerOf, answerOf}
+use Rattle.normals.specs.Normal.{Drawn, samplerOf, answerOf}
 use Rattle.c_face.proofs.Filling.{Filling, filling-none, filling-more, filling-stop, filling-end}
 use Rattle.c_face.proofs.fill.Statement.{statement}
 use Rattle.c_face.proofs.fill.Tie as tie
