@@ -3,7 +3,9 @@ pub mod Counted
 pub mod Mask
 pub mod Changes
 pub mod Factors
+pub mod OneWay
 pub mod Each
+pub mod Skips
 pub mod Substeps
 pub mod Cells
 pub mod Walks

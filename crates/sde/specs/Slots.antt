@@ -1,13 +1,13 @@
 -- What the private functions work out of the slots of a net record. The rules are in the other files; nothing here adds to them.
 use Prim.Native.Nat.{ℕ, zero, suc, _+_, _*_, _/_, _%_, _≤_, _<_}
 use mathlib.Core.Path.{_≡_}
-use mathlib.Core.Bool.{Bool}
+use mathlib.Core.Bool.{Bool, true}
 use mathlib.Core.List.{List, [], _∷_}
 use lib.Dec.{eqb, leb}
 use lib.ListN.{getD}
-use lib.Ieee.{Float, nan, binary64, add, sub, mul}
+use lib.Ieee.{Float, nan, binary64, add, sub, mul, eq}
 use Rattle.net.specs.declared.Net.{Net as NetRecord}
-use Rattle.net.specs.Net.{Place, pick, amount}
+use Rattle.net.specs.Net.{Place, pick, amount, zero64}
 use Rattle.net.specs.Readable.{Slot, slotsOf, transition, transitionsFrom, isPut, isRead, isBlock}
 use Rattle.rules.specs.Propensity.{float}
 use Rattle.sde.specs.Gated.{bounded}
@@ -75,6 +75,25 @@ changeOf n c = change (transition n (c / 32)) (c % 32)
 
 abbrev pub Changes : NetRecord → List Float → Type 0
 Changes n changes = (c : ℕ) → c < 32 * n .transitions → getD changes c nan ≡ changeOf n c
+
+-- no place from p to before q is changed; the changes are the cells from `from` on
+pub record Skip (places from : ℕ) (changes : List Float) (p q : ℕ) : Type 0 where
+  pub low : p ≤ q
+  pub high : p ≤ places → q ≤ places
+  pub idle : (r : ℕ) → p ≤ r → r < q → eq (getD changes (from + r) nan) zero64 ≡ true
+
+-- cell c is that of transition c / 33 from place c % 33 on
+abbrev pub Skips : ℕ → ℕ → List Float → List ℕ → Type 0
+Skips places transitions changes skips = (c : ℕ) → c < 33 * transitions → Skip places (32 * (c / 33)) changes (c % 33) (getD skips c 0)
+
+-- the cells of transition j
+abbrev pub SkipsOf : ℕ → ℕ → List Float → List ℕ → Type 0
+SkipsOf places j changes skips = (p : ℕ) → p ≤ places → Skip places (32 * j) changes p (getD skips (33 * j + p) 0)
+
+-- both tables
+pub record Tables (n : NetRecord) (changes : List Float) (skips : List ℕ) : Type 0 where
+  pub of-changes : Changes n changes
+  pub of-skips : Skips (n .places) (n .transitions) changes skips
 
 -- ---- a propensity
 

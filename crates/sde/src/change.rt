@@ -147,3 +147,40 @@ pub fn fill_changes<'a>(
         c = next;
     }
 }
+
+// The first place from p on that is changed, or one past the last place; the changes are the cells from `from` on.
+fn next_changed(changes: &[f64; 2048], places: usize, from: usize, p: usize) -> usize
+    requires { ⌜ (places ≤ 32) × (from ≤ 2016) ⌝ }
+    ensures { λ q. ⌜ Slots.Skip places from (now (changes .entry)) p q ⌝ }
+{
+    let mut q = p;
+    while q < places {
+        let d = changes[from + q];
+        if d == 0.0 {
+            q += 1;
+        } else {
+            return q;
+        }
+    }
+    q
+}
+
+// Fills the table of skips: cell 33 * j + p is the next place from p on that transition j changes.
+pub fn fill_skips(
+    changes: &[f64; 2048],
+    places: usize,
+    transitions: usize,
+    skips: &mut [usize; 2112],
+)
+    requires { ⌜ (places ≤ 32) × (transitions ≤ 64) × (length (now skips) ≡ 2112) ⌝ }
+    ensures { λ _. ⌜ Slots.Skips places transitions (now (changes .entry)) (now (skips .exit)) ⌝ }
+{
+    let end = 33 * transitions;
+    let mut c: usize = 0;
+    while c < end {
+        let next = c + 1;
+        let q = next_changed(changes, places, 32 * (c / 33), c % 33);
+        skips[c] = q;
+        c = next;
+    }
+}

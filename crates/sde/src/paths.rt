@@ -50,6 +50,7 @@ fn sum_paths<'a>(
     place: &'a [usize; 1024],
     weight: &'a [u64; 1024],
     changes: &'a [f64; 2048],
+    skips: &'a [usize; 2112],
     n: usize,
     realizations: u64,
     seed: u64,
@@ -61,7 +62,7 @@ fn sum_paths<'a>(
     path: &mut [f64],
 ) -> u64
     requires { ⌜ Sound.Sound (lent places transitions (now initial) (now capacity) (now rate) (now delay) (now arcs) (now kind) (now place) (now weight))
-        × Slots.Changes (lent places transitions (now initial) (now capacity) (now rate) (now delay) (now arcs) (now kind) (now place) (now weight)) (now changes)
+        × Slots.Tables (lent places transitions (now initial) (now capacity) (now rate) (now delay) (now arcs) (now kind) (now place) (now weight)) (now changes) (now skips)
         × (dt ≡ Diffusion.stepOf n horizon) × (root ≡ rootOf dt)
         × (1 ≤ n) × (n ≤ 1024) × (1 ≤ realizations)
         × (places * n ≤ length (now mean)) × (places * n ≤ length (now deviation)) × (places * n ≤ length (now path)) ⌝ }
@@ -92,6 +93,7 @@ fn sum_paths<'a>(
             place,
             weight,
             changes,
+            skips,
             n,
             dt,
             root,
@@ -146,6 +148,7 @@ fn averaged<'a>(
     place: &'a [usize; 1024],
     weight: &'a [u64; 1024],
     changes: &'a [f64; 2048],
+    skips: &'a [usize; 2112],
     n: usize,
     realizations: u64,
     seed: u64,
@@ -157,7 +160,7 @@ fn averaged<'a>(
     path: &mut [f64],
 ) -> DiffusionAnswer
     requires { ⌜ Sound.Sound (lent places transitions (now initial) (now capacity) (now rate) (now delay) (now arcs) (now kind) (now place) (now weight))
-        × Slots.Changes (lent places transitions (now initial) (now capacity) (now rate) (now delay) (now arcs) (now kind) (now place) (now weight)) (now changes)
+        × Slots.Tables (lent places transitions (now initial) (now capacity) (now rate) (now delay) (now arcs) (now kind) (now place) (now weight)) (now changes) (now skips)
         × (dt ≡ Diffusion.stepOf n horizon) × (root ≡ rootOf dt)
         × (1 ≤ n) × (n ≤ 1024) × (1 ≤ realizations) × (realizations ≤ 65_535)
         × (places * n ≤ length (now mean)) × (places * n ≤ length (now deviation)) × (places * n ≤ length (now path)) ⌝ }
@@ -179,6 +182,7 @@ fn averaged<'a>(
         place,
         weight,
         changes,
+        skips,
         n,
         realizations,
         seed,
@@ -259,6 +263,8 @@ pub fn lent_run<'a>(
         weight,
         &mut changes,
     );
+    let mut skips: [usize; 2112] = [0; 2112];
+    change::fill_skips(&changes, places, transitions, &mut skips);
     let dt = width(samples as u32, horizon);
     let root = root::sqrt(dt);
     let n = samples as usize;
@@ -274,6 +280,7 @@ pub fn lent_run<'a>(
         place,
         weight,
         &changes,
+        &skips,
         n,
         realizations,
         seed,

@@ -11,7 +11,6 @@ ghost use Rattle.net.specs.Record.{lent};
 ghost use Rattle.net.specs.Sound as Sound;
 ghost use Rattle.sde.specs.Diffusion as Diffusion;
 ghost use Rattle.sde.specs.Slots as Slots;
-use crate::slots;
 use combinations::Ways;
 
 // How many ways there are to choose w of x, as a float.
@@ -26,13 +25,16 @@ fn ways(x: f64, w: u64) -> f64
     }
 }
 
-// a times the ways of one slot, at the value v of its place: only a kinetic take has them.
+// a times the ways of one slot, at the value v of its place: only a kinetic take has them. A weight of 1 has v ways.
 fn times(a: f64, kind: u64, weight: u64, v: f64) -> f64
     requires { ⌜ weight ≤ 1_000_000 ⌝ }
     ensures { λ r. ⌜ r ≡ Slots.timesSlot a kind weight v ⌝ }
 {
     if kind == 0 {
-        return a * ways(v, slots::amount(weight));
+        if weight <= 1 {
+            return a * v;
+        }
+        return a * ways(v, weight);
     }
     a
 }

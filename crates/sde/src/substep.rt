@@ -42,9 +42,10 @@ fn with_drift(v: f64, d: f64, a: f64, dt: f64) -> f64
     v + d * a * dt
 }
 
-// The noise and the drift of transition j, place by place.
+// The noise and the drift of transition j, at the places that it changes.
 fn spread(
     changes: &[f64; 2048],
+    skips: &[usize; 2112],
     places: usize,
     j: usize,
     a: f64,
@@ -53,12 +54,13 @@ fn spread(
     x: &mut [f64; 32],
     drift: &mut [f64; 32],
 )
-    requires { ⌜ (j < 64) × (places ≤ 32) × Engine.Lengths (now x) (now drift) ⌝ }
+    requires { ⌜ (j < 64) × (places ≤ 32) × Engine.Lengths (now x) (now drift) × Slots.SkipsOf places j (now changes) (now skips) ⌝ }
     ensures { λ _. ⌜ Engine.Mapped places (λ p. Diffusion.noiseBy (getD (now (changes .entry)) (32 * j + p) nan) noise) (now (x .entry)) (now (x .exit))
         × Engine.Mapped places (λ p. Diffusion.driftBy (getD (now (changes .entry)) (32 * j + p) nan) a dt) (now (drift .entry)) (now (drift .exit)) ⌝ }
 {
     let from = 32 * j;
-    let mut p: usize = 0;
+    let first = 33 * j;
+    let mut p = skips[first];
     while p < places {
         let q = p + 1;
         let d = changes[from + p];
@@ -66,7 +68,7 @@ fn spread(
         x[p] = v;
         let w = with_drift(drift[p], d, a, dt);
         drift[p] = w;
-        p = q;
+        p = skips[first + q];
     }
 }
 
@@ -119,6 +121,7 @@ fn push<'a>(
     place: &'a [usize; 1024],
     weight: &'a [u64; 1024],
     changes: &'a [f64; 2048],
+    skips: &'a [usize; 2112],
     dt: f64,
     root: f64,
     x: &mut [f64; 32],
@@ -127,7 +130,7 @@ fn push<'a>(
     j: usize,
 ) -> Pushed
     requires { ⌜ (j < transitions) × Sound.Sound (lent places transitions (now initial) (now capacity) (now rate) (now delay) (now arcs) (now kind) (now place) (now weight))
-        × Slots.Changes (lent places transitions (now initial) (now capacity) (now rate) (now delay) (now arcs) (now kind) (now place) (now weight)) (now changes)
+        × Slots.Tables (lent places transitions (now initial) (now capacity) (now rate) (now delay) (now arcs) (now kind) (now place) (now weight)) (now changes) (now skips)
         × (root ≡ rootOf dt) × Engine.Lengths (now x) (now drift) ⌝ }
     ensures { λ r. ⌜ (Engine.unless (r .stopped) (Engine.goingOf places (now (x .exit)) (now (drift .exit)) (r .sampler))
         ≡ Diffusion.pushed dt (Record.transition (lent places transitions (now (initial .entry)) (now (capacity .entry)) (now (rate .entry)) (now (delay .entry))
@@ -160,7 +163,7 @@ fn push<'a>(
     match draw {
         Draw::Value(z) => {
             let noise = root::sqrt(a) * root * z;
-            spread(changes, places, j, a, dt, noise, x, drift);
+            spread(changes, skips, places, j, a, dt, noise, x, drift);
             Pushed {
                 sampler: after,
                 stopped: false,
@@ -186,6 +189,7 @@ fn push_all<'a>(
     place: &'a [usize; 1024],
     weight: &'a [u64; 1024],
     changes: &'a [f64; 2048],
+    skips: &'a [usize; 2112],
     dt: f64,
     root: f64,
     x: &mut [f64; 32],
@@ -193,7 +197,7 @@ fn push_all<'a>(
     sampler: GaussianSampler,
 ) -> Pushed
     requires { ⌜ Sound.Sound (lent places transitions (now initial) (now capacity) (now rate) (now delay) (now arcs) (now kind) (now place) (now weight))
-        × Slots.Changes (lent places transitions (now initial) (now capacity) (now rate) (now delay) (now arcs) (now kind) (now place) (now weight)) (now changes)
+        × Slots.Tables (lent places transitions (now initial) (now capacity) (now rate) (now delay) (now arcs) (now kind) (now place) (now weight)) (now changes) (now skips)
         × (root ≡ rootOf dt) × Engine.Lengths (now x) (now drift) ⌝ }
     ensures { λ r. ⌜ (Engine.unless (r .stopped) (Engine.goingOf places (now (x .exit)) (now (drift .exit)) (r .sampler))
         ≡ Diffusion.pushedAll dt (Record.transitionsFrom (lent places transitions (now (initial .entry)) (now (capacity .entry)) (now (rate .entry)) (now (delay .entry))
@@ -216,6 +220,7 @@ fn push_all<'a>(
             place,
             weight,
             changes,
+            skips,
             dt,
             root,
             x,
@@ -248,6 +253,7 @@ pub fn substep<'a>(
     place: &'a [usize; 1024],
     weight: &'a [u64; 1024],
     changes: &'a [f64; 2048],
+    skips: &'a [usize; 2112],
     dt: f64,
     root: f64,
     x: &mut [f64; 32],
@@ -255,7 +261,7 @@ pub fn substep<'a>(
     sampler: GaussianSampler,
 ) -> Pushed
     requires { ⌜ Sound.Sound (lent places transitions (now initial) (now capacity) (now rate) (now delay) (now arcs) (now kind) (now place) (now weight))
-        × Slots.Changes (lent places transitions (now initial) (now capacity) (now rate) (now delay) (now arcs) (now kind) (now place) (now weight)) (now changes)
+        × Slots.Tables (lent places transitions (now initial) (now capacity) (now rate) (now delay) (now arcs) (now kind) (now place) (now weight)) (now changes) (now skips)
         × (root ≡ rootOf dt) × Engine.Lengths (now x) (now drift) ⌝ }
     ensures { λ r. ⌜ (Engine.unless (r .stopped) (Engine.stateOf places (now (x .exit)) (r .sampler))
         ≡ Diffusion.substep (Record.readable (lent places transitions (now (initial .entry)) (now (capacity .entry)) (now (rate .entry)) (now (delay .entry))
@@ -275,6 +281,7 @@ pub fn substep<'a>(
         place,
         weight,
         changes,
+        skips,
         dt,
         root,
         x,
@@ -303,6 +310,7 @@ pub fn over_interval<'a>(
     place: &'a [usize; 1024],
     weight: &'a [u64; 1024],
     changes: &'a [f64; 2048],
+    skips: &'a [usize; 2112],
     dt: f64,
     root: f64,
     x: &mut [f64; 32],
@@ -310,7 +318,7 @@ pub fn over_interval<'a>(
     sampler: GaussianSampler,
 ) -> Pushed
     requires { ⌜ Sound.Sound (lent places transitions (now initial) (now capacity) (now rate) (now delay) (now arcs) (now kind) (now place) (now weight))
-        × Slots.Changes (lent places transitions (now initial) (now capacity) (now rate) (now delay) (now arcs) (now kind) (now place) (now weight)) (now changes)
+        × Slots.Tables (lent places transitions (now initial) (now capacity) (now rate) (now delay) (now arcs) (now kind) (now place) (now weight)) (now changes) (now skips)
         × (root ≡ rootOf dt) × Engine.Lengths (now x) (now drift) ⌝ }
     ensures { λ r. ⌜ (Engine.unless (r .stopped) (Engine.stateOf places (now (x .exit)) (r .sampler))
         ≡ Diffusion.overInterval (Record.readable (lent places transitions (now (initial .entry)) (now (capacity .entry)) (now (rate .entry)) (now (delay .entry))
@@ -334,6 +342,7 @@ pub fn over_interval<'a>(
                 place,
                 weight,
                 changes,
+                skips,
                 dt,
                 root,
                 x,

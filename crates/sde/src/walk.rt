@@ -55,6 +55,7 @@ fn walk_on<'a>(
     place: &'a [usize; 1024],
     weight: &'a [u64; 1024],
     changes: &'a [f64; 2048],
+    skips: &'a [usize; 2112],
     n: usize,
     dt: f64,
     root: f64,
@@ -64,7 +65,7 @@ fn walk_on<'a>(
     table: &mut [f64],
 ) -> bool
     requires { ⌜ Sound.Sound (lent places transitions (now initial) (now capacity) (now rate) (now delay) (now arcs) (now kind) (now place) (now weight))
-        × Slots.Changes (lent places transitions (now initial) (now capacity) (now rate) (now delay) (now arcs) (now kind) (now place) (now weight)) (now changes)
+        × Slots.Tables (lent places transitions (now initial) (now capacity) (now rate) (now delay) (now arcs) (now kind) (now place) (now weight)) (now changes) (now skips)
         × (root ≡ rootOf dt) × Engine.Lengths (now x) (now drift)
         × (1 ≤ n) × (n ≤ 1024) × (places * n ≤ length (now table))
         × ((p : ℕ) → p < places → getD (now table) (p * n + 0) nan ≡ getD (now x) p nan) ⌝ }
@@ -90,6 +91,7 @@ fn walk_on<'a>(
             place,
             weight,
             changes,
+            skips,
             dt,
             root,
             x,
@@ -119,6 +121,7 @@ pub fn walk<'a>(
     place: &'a [usize; 1024],
     weight: &'a [u64; 1024],
     changes: &'a [f64; 2048],
+    skips: &'a [usize; 2112],
     n: usize,
     dt: f64,
     root: f64,
@@ -128,7 +131,7 @@ pub fn walk<'a>(
     table: &mut [f64],
 ) -> bool
     requires { ⌜ Sound.Sound (lent places transitions (now initial) (now capacity) (now rate) (now delay) (now arcs) (now kind) (now place) (now weight))
-        × Slots.Changes (lent places transitions (now initial) (now capacity) (now rate) (now delay) (now arcs) (now kind) (now place) (now weight)) (now changes)
+        × Slots.Tables (lent places transitions (now initial) (now capacity) (now rate) (now delay) (now arcs) (now kind) (now place) (now weight)) (now changes) (now skips)
         × (root ≡ rootOf dt) × Engine.Lengths (now x) (now drift)
         × (1 ≤ n) × (n ≤ 1024) × (places * n ≤ length (now table)) ⌝ }
     ensures { λ r. ⌜ (Engine.unless r (ListN.take (places * n) (now (table .exit)))
@@ -152,6 +155,7 @@ pub fn walk<'a>(
         place,
         weight,
         changes,
+        skips,
         n,
         dt,
         root,

@@ -1,4 +1,4 @@
--- What gates the net, or the paths with the table of changes and the width of a substep. Assumes nothing.
+-- What gates the net, or the paths with the tables of changes and skips and the width of a substep. Assumes nothing.
 use native.Mathlib.Omega.{arith}
 use mathlib.Core.Path.{refl}
 use Rattle.sde.proofs.Tested.{by-gated, by-free}
@@ -18,22 +18,25 @@ returns c = by-gated (c .before .before .gates-of .result) _ (c .before .before 
 fill-changes-requires : tie.Need-fill-changes-requires
 fill-changes-requires c κs = (c .before .before .before .before .before .before .before .pre .0, refl)
 
+fill-skips-requires : tie.Need-fill-skips-requires
+fill-skips-requires c κs = let s = c .before .before .before .before .before .before .before .before .before .before in (s .pre .0 .places, s .pre .0 .transitions, refl)
+
 cast-width : tie.Need-cast-width
-cast-width c = omega (arith, c .before .before .before .before .before .before .before .before .pre .2)
+cast-width c = omega (arith, c .before .before .before .before .before .before .before .before .before .before .before .pre .2)
 
 width-requires : tie.Need-width-requires
-width-requires c κs = omega (arith, c .before .before .before .before .before .before .before .before .pre .1)
+width-requires c κs = omega (arith, c .before .before .before .before .before .before .before .before .before .before .before .pre .1)
 
 sqrt-requires : tie.Need-sqrt-requires
 sqrt-requires c κs = search needs
 
 averaged-requires : tie.Need-averaged-requires
 averaged-requires c κs =
-    let s = c .before .before .before .before .before .before .before .before .before .before .before .before .before .before in (
+    let s = c .before .before .before .before .before .before .before .before .before .before .before .before .before .before .before .before .before .before in (
       s .pre .0,
-      c .before .before .before .before .before .before .fill-changes .ensures,
-      c .before .before .before .before .before .width .ensures,
-      c .before .before .before .before .sqrt .ensures .1,
+      record { of-changes = c .before .before .before .before .before .before .before .before .before .before .fill-changes .ensures; of-skips = c .before .before .before .before .before .before .before .fill-skips .ensures },
+      c .before .before .before .before .before .before .width .ensures,
+      c .before .before .before .before .before .sqrt .ensures .1,
       omega (arith, s .pre .1),
       s .pre .2,
       s .pre .3,
@@ -54,7 +57,7 @@ same-length-3 c = search needs
 
 returns-2 : tie.Need-returns-2
 returns-2 c =
-    by-free (c .before .before .before .before .before .before .before .before .before .before .before .before .before .before .before .before .before .gates-of .result) _ (c .before .before .before .before .before .before .before .before .before .before .before .before .before .before .before .before .before .gates-of .ensures .0) (c .before .before .before .before .before .before .before .before .before .before .before .before .before .before .before .before .is-gated .result) (c .before .before .before .before .before .before .before .before .before .before .before .before .before .before .before .before .is-gated .ensures) _ _ (c .before .before .before .before .before .before .before .before .before .before .before .before .before .before .before .if1 .left) (c .before .before .before .before .before .before .averaged .ensures)
+    by-free (c .before .before .before .before .before .before .before .before .before .before .before .before .before .before .before .before .before .before .before .before .before .gates-of .result) _ (c .before .before .before .before .before .before .before .before .before .before .before .before .before .before .before .before .before .before .before .before .before .gates-of .ensures .0) (c .before .before .before .before .before .before .before .before .before .before .before .before .before .before .before .before .before .before .before .before .is-gated .result) (c .before .before .before .before .before .before .before .before .before .before .before .before .before .before .before .before .before .before .before .before .is-gated .ensures) _ _ (c .before .before .before .before .before .before .before .before .before .before .before .before .before .before .before .before .before .before .before .if1 .left) (c .before .before .before .before .before .before .averaged .ensures)
 
 pub lent-run-spec : {M : Type 1} → statement M
 lent-run-spec =
@@ -64,6 +67,7 @@ lent-run-spec =
     is-gated-requires
     returns
     fill-changes-requires
+    fill-skips-requires
     cast-width
     width-requires
     sqrt-requires

@@ -2,6 +2,7 @@
 use native.Mathlib.Omega.{arith}
 use Rattle.net.specs.declared.Net.{Net as NetRecord}
 use Rattle.net.specs.Record.{lent}
+use Rattle.sde.proofs.Skips.{skips-of}
 use Rattle.sde.proofs.Substeps.{push-nothing, push-refused, push-value}
 use borrow.Author.Needs.{needs}
 use Rattle.sde.proofs.substep.push.Statement.{statement}
@@ -19,7 +20,7 @@ returns : tie.Need-returns
 returns c =
     let s = c .before .before .before in
     let g = s .args in (
-      push-nothing (netAt s) (g .changes .now) (g .j) (g .places) (s .pre .0) (s .pre .1 .places) (s .pre .2) (g .x .now) (g .drift .now) (s .pre .4 .of-x) (s .pre .4 .of-drift)
+      push-nothing (netAt s) (g .changes .now) (g .j) (g .places) (s .pre .0) (s .pre .1 .places) (s .pre .2 .of-changes) (g .x .now) (g .drift .now) (s .pre .4 .of-x) (s .pre .4 .of-drift)
           (g .dt) (g .root) (c .before .propensity .result) (g .sampler) (s .pre .3) (c .before .propensity .ensures) (c .if1 .taken),
       s .pre .4,
     )
@@ -34,7 +35,7 @@ sqrt-requires : tie.Need-sqrt-requires
 sqrt-requires c κs = search needs
 
 spread-requires : tie.Need-spread-requires
-spread-requires c κs = let s = c .before .before .before .before .before .before .before .before .before .before .before in (omega (arith, s .pre .0, s .pre .1 .transitions), s .pre .1 .places, s .pre .4)
+spread-requires c κs = let s = c .before .before .before .before .before .before .before .before .before .before .before in (omega (arith, s .pre .0, s .pre .1 .transitions), s .pre .1 .places, s .pre .4, skips-of (s .args .places) (s .args .j) (s .args .changes .now) (s .args .skips .now) (s .args .transitions) (s .pre .0) (s .pre .1 .places) (s .pre .2 .of-skips))
 
 enum-told : tie.Need-enum-told
 enum-told c = search needs
@@ -44,7 +45,7 @@ returns-2 c =
     let s = c .before .before .before .before .before .before .before .before .before .before .before .before in
     let g = s .args in
     let m = c .spread .ensures in (
-      push-value (netAt s) (g .changes .now) (g .j) (g .places) (s .pre .0) (s .pre .1 .places) (s .pre .2) (g .x .now) (g .drift .now) (s .pre .4 .of-x) (s .pre .4 .of-drift)
+      push-value (netAt s) (g .changes .now) (g .j) (g .places) (s .pre .0) (s .pre .1 .places) (s .pre .2 .of-changes) (g .x .now) (g .drift .now) (s .pre .4 .of-x) (s .pre .4 .of-drift)
           (g .dt) (g .root) (c .before .before .before .before .before .before .before .before .before .before .propensity .result) (g .sampler) (s .pre .3) (c .before .before .before .before .before .before .before .before .before .before .propensity .ensures) (c .before .before .before .before .before .before .before .before .before .if1 .left) (c .before .before .before .before .before .before .before .before .normal .result) (c .before .before .before .before .before .before .before .before .normal .ensures)
           _ (c .before .before .before .sqrt .result) _ _ (c .before .before .before .before .before .draw .given .1) (c .before .before .before .sqrt .ensures .1) (m .0) (m .1),
       record { of-x = m .0 .long; of-drift = m .1 .long },
@@ -54,7 +55,7 @@ returns-3 : tie.Need-returns-3
 returns-3 c =
     let s = c .before .before .before .before .before .before .before in
     let g = s .args in (
-      push-refused (netAt s) (g .changes .now) (g .j) (g .places) (s .pre .0) (s .pre .1 .places) (s .pre .2) (g .x .now) (g .drift .now) (s .pre .4 .of-x) (s .pre .4 .of-drift)
+      push-refused (netAt s) (g .changes .now) (g .j) (g .places) (s .pre .0) (s .pre .1 .places) (s .pre .2 .of-changes) (g .x .now) (g .drift .now) (s .pre .4 .of-x) (s .pre .4 .of-drift)
           (g .dt) (g .root) (c .before .before .before .before .before .propensity .result) (g .sampler) (s .pre .3) (c .before .before .before .before .before .propensity .ensures) (c .before .before .before .before .if1 .left) (c .before .before .before .normal .result) (c .before .before .before .normal .ensures)
           (c .enum-told .given .1),
       s .pre .4,

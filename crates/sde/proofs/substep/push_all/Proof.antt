@@ -13,14 +13,14 @@ use Rattle.sde.proofs.substep.push_all.Statement.{statement}
 use Rattle.sde.proofs.substep.push_all.Tie as tie
 
 abbrev Inv-loop : tie.InvT-loop
-Inv-loop places transitions initial capacity rate delay arcs kind place weight changes dt root x₀ drift₀ s₀ j₀ x drift s j =
+Inv-loop places transitions initial capacity rate delay arcs kind place weight changes skips dt root x₀ drift₀ s₀ j₀ x drift s j =
     let net = lent places transitions initial capacity rate delay arcs kind place weight in
     (j ≤ transitions)
     × (pushedAll dt (transitionsFrom net j (transitions - j)) (goingOf places x drift s) ≡ pushedAll dt (transitionsFrom net 0 transitions) (goingOf places x₀ drift₀ s₀))
     × Lengths x drift
 
 abbrev μ-loop : tie.MeasureT-loop
-μ-loop places transitions initial capacity rate delay arcs kind place weight changes dt root x₀ drift₀ s₀ j₀ x drift s j = transitions - j
+μ-loop places transitions initial capacity rate delay arcs kind place weight changes skips dt root x₀ drift₀ s₀ j₀ x drift s j = transitions - j
 
 abbrev netAt : tie.Start Inv-loop μ-loop → NetRecord
 netAt s =

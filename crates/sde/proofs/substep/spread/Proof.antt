@@ -1,9 +1,10 @@
--- State and drift below p have the transition's noise and drift. Assumes nothing.
-use lib.ListN.{getD}
+-- State and drift below p have the transition's noise and drift: a skip steps over places that both leave as they are. Assumes nothing.
+use lib.ListN.{getD, set}
 use lib.Ieee.{Float, nan}
 use mathlib.Core.List.{List}
 use Rattle.sde.specs.Diffusion.{noiseBy, driftBy}
 use Rattle.sde.proofs.Each.{MapTo, map-none, map-more, map-all}
+use Rattle.sde.proofs.Skips.{skips-first, map-skip, noise-idle, drift-idle}
 use borrow.Author.Needs.{needs}
 use native.Mathlib.Omega.{arith}
 use Prim.Native.Nat.{ℕ, _+_, _-_, _*_, _≤_}
@@ -17,17 +18,35 @@ abbrev drifting : List Float → ℕ → Float → Float → ℕ → Float → F
 drifting changes j a dt p = driftBy (getD changes (32 * j + p) nan) a dt
 
 abbrev Inv-loop : tie.InvT-loop
-Inv-loop changes places j a dt noise x₀ drift₀ from p₀ x drift p =
+Inv-loop changes skips places j a dt noise x₀ drift₀ from first p₀ x drift p =
     (p ≤ places) × MapTo (noisy changes j noise) p x₀ x × MapTo (drifting changes j a dt) p drift₀ drift
 
 abbrev μ-loop : tie.MeasureT-loop
-μ-loop changes places j a dt noise x₀ drift₀ from p₀ x drift p = places - p
+μ-loop changes skips places j a dt noise x₀ drift₀ from first p₀ x drift p = places - p
 
 mul-from : tie.Need-mul-from Inv-loop μ-loop
 mul-from c = search needs
 
+mul-first : tie.Need-mul-first Inv-loop μ-loop
+mul-first c = search needs
+
+mul-p : tie.Need-mul-p Inv-loop μ-loop
+mul-p c = search needs
+
+element-copy-out-p : tie.Need-element-copy-out-p Inv-loop μ-loop
+element-copy-out-p c = search needs
+
 loop-holds : tie.Need-loop-holds Inv-loop μ-loop
-loop-holds c = (omega arith, map-none _ _, map-none _ _)
+loop-holds c =
+    let s = c .before in
+    let g = s .args in
+    let k = skips-first (g .places) (g .j) (g .changes .now) (g .skips .now) (s .pre .3) in (
+      k .high (omega arith),
+      map-skip (noisy (g .changes .now) (g .j) (g .noise)) 0 (getD (g .skips .now) (33 * g .j) 0) (g .x .now) (g .x .now) (k .low)
+          (λ r l h v. noise-idle (getD (g .changes .now) (32 * g .j + r) nan) (g .noise) v (k .idle r l h)) (map-none _ _),
+      map-skip (drifting (g .changes .now) (g .j) (g .a) (g .dt)) 0 (getD (g .skips .now) (33 * g .j) 0) (g .drift .now) (g .drift .now) (k .low)
+          (λ r l h v. drift-idle (getD (g .changes .now) (32 * g .j + r) nan) (g .a) (g .dt) v (k .idle r l h)) (map-none _ _),
+    )
 
 add-q : tie.Need-add-q Inv-loop μ-loop
 add-q c = search needs
@@ -51,10 +70,10 @@ with-noise-requires : tie.Need-with-noise-requires Inv-loop μ-loop
 with-noise-requires c κs = search needs
 
 mul-x : tie.Need-mul-x Inv-loop μ-loop
-mul-x c = omega (arith, c .before .before .before .before .loop .inv .1 .long, c .before .before .before .before .before .pre .2 .of-x, c .before .before .before .before .before .pre .1)
+mul-x c = omega (arith, c .before .before .before .before .loop .inv .1 .long, c .before .before .before .before .before .before .pre .2 .of-x, c .before .before .before .before .before .before .pre .1)
 
 element-write-x : tie.Need-element-write-x Inv-loop μ-loop
-element-write-x c = omega (arith, c .before .before .before .before .loop .inv .1 .long, c .before .before .before .before .before .pre .2 .of-x, c .before .before .before .before .before .pre .1)
+element-write-x c = omega (arith, c .before .before .before .before .loop .inv .1 .long, c .before .before .before .before .before .before .pre .2 .of-x, c .before .before .before .before .before .before .pre .1)
 
 mul-with-drift : tie.Need-mul-with-drift Inv-loop μ-loop
 mul-with-drift c = search needs
@@ -66,30 +85,53 @@ with-drift-requires : tie.Need-with-drift-requires Inv-loop μ-loop
 with-drift-requires c κs = search needs
 
 mul-drift : tie.Need-mul-drift Inv-loop μ-loop
-mul-drift c = omega (arith, c .before .before .before .before .before .before .loop .inv .2 .long, c .before .before .before .before .before .before .before .pre .2 .of-drift, c .before .before .before .before .before .before .before .pre .1)
+mul-drift c = omega (arith, c .before .before .before .before .before .before .loop .inv .2 .long, c .before .before .before .before .before .before .before .before .pre .2 .of-drift, c .before .before .before .before .before .before .before .before .pre .1)
 
 element-write-drift : tie.Need-element-write-drift Inv-loop μ-loop
-element-write-drift c = omega (arith, c .before .before .before .before .before .before .loop .inv .2 .long, c .before .before .before .before .before .before .before .pre .2 .of-drift, c .before .before .before .before .before .before .before .pre .1)
+element-write-drift c = omega (arith, c .before .before .before .before .before .before .loop .inv .2 .long, c .before .before .before .before .before .before .before .before .pre .2 .of-drift, c .before .before .before .before .before .before .before .before .pre .1)
+
+add-p : tie.Need-add-p Inv-loop μ-loop
+add-p c = search needs
+
+mul-p-2 : tie.Need-mul-p-2 Inv-loop μ-loop
+mul-p-2 c = search needs
+
+element-copy-out-p-2 : tie.Need-element-copy-out-p-2 Inv-loop μ-loop
+element-copy-out-p-2 c = search needs
 
 loop-less : tie.Need-loop-less Inv-loop μ-loop
-loop-less c = search needs
+loop-less c =
+    let l = c .before .before .before .before .before .before .before in
+    let s = l .before .before in
+    let t = c .before .before .before .before .before .before .loop-test .taken in
+    omega (arith, t, s .pre .3 (l .loop .p + 1) (omega (arith, t)) .low)
 
 loop-again : tie.Need-loop-again Inv-loop μ-loop
 loop-again c =
-    let l = c .before .before .before .before .before .before in
-    let s = l .before in
-    let g = s .args in (
-      omega arith,
-      map-more (noisy (g .changes .now) (g .j) (g .noise)) (l .loop .p) (g .x .now) (l .loop .x) (c .before .before .with-noise .result)
-          (omega (arith, l .loop .inv .1 .long, s .pre .2 .of-x, s .pre .1)) (c .before .before .with-noise .ensures) (l .loop .inv .1),
-      map-more (drifting (g .changes .now) (g .j) (g .a) (g .dt)) (l .loop .p) (g .drift .now) (l .loop .drift) (c .with-drift .result)
-          (omega (arith, l .loop .inv .2 .long, s .pre .2 .of-drift, s .pre .1)) (c .with-drift .ensures) (l .loop .inv .2),
+    let l = c .before .before .before .before .before .before .before in
+    let s = l .before .before in
+    let g = s .args in
+    let p = l .loop .p + 1 in
+    let t = c .before .before .before .before .before .before .loop-test .taken in
+    let k = s .pre .3 p (omega (arith, t)) in
+    let q = getD (g .skips .now) (33 * g .j + p) 0 in
+    let v = c .before .before .before .with-noise .result in
+    let w = c .before .with-drift .result in (
+      k .high (omega (arith, t)),
+      map-skip (noisy (g .changes .now) (g .j) (g .noise)) p q (g .x .now) (set (l .loop .x) (l .loop .p) v) (k .low)
+          (λ r b h u. noise-idle (getD (g .changes .now) (32 * g .j + r) nan) (g .noise) u (k .idle r b h))
+          (map-more (noisy (g .changes .now) (g .j) (g .noise)) (l .loop .p) (g .x .now) (l .loop .x) v
+          (omega (arith, l .loop .inv .1 .long, s .pre .2 .of-x, s .pre .1)) (c .before .before .before .with-noise .ensures) (l .loop .inv .1)),
+      map-skip (drifting (g .changes .now) (g .j) (g .a) (g .dt)) p q (g .drift .now) (set (l .loop .drift) (l .loop .p) w) (k .low)
+          (λ r b h u. drift-idle (getD (g .changes .now) (32 * g .j + r) nan) (g .a) (g .dt) u (k .idle r b h))
+          (map-more (drifting (g .changes .now) (g .j) (g .a) (g .dt)) (l .loop .p) (g .drift .now) (l .loop .drift) w
+          (omega (arith, l .loop .inv .2 .long, s .pre .2 .of-drift, s .pre .1)) (c .before .with-drift .ensures) (l .loop .inv .2)),
     )
 
 returns : tie.Need-returns Inv-loop μ-loop
 returns c =
     let l = c .before in
-    let s = l .before in
+    let s = l .before .before in
     let g = s .args in (
       map-all (noisy (g .changes .now) (g .j) (g .noise)) (g .places) (l .loop .p) (g .x .now) (l .loop .x) (s .pre .2 .of-x) (s .pre .1) (c .loop-test .left)
           (l .loop .inv .0) (l .loop .inv .1),
@@ -104,6 +146,9 @@ spread-spec =
     Inv-loop
     μ-loop
     mul-from
+    mul-first
+    mul-p
+    element-copy-out-p
     loop-holds
     add-q
     add-d
@@ -119,6 +164,9 @@ spread-spec =
     with-drift-requires
     mul-drift
     element-write-drift
+    add-p
+    mul-p-2
+    element-copy-out-p-2
     loop-less
     loop-again
     returns)
