@@ -1,7 +1,7 @@
 //! Diffusions and normal draws: the source's own answers, every bit, for drawn nets and requests, beside the proved library's. What document 01 adds to
 //! the source, the refusals and the parts of a gated net, is worked out here.
 use crate::draw::Draw;
-use crate::ensembles::{holds, Case};
+use crate::ensembles::{fault, holds, Case};
 use crate::nets::{Arc, Move, Net, Place};
 use crate::paths::{self, BEFORE, CELLS};
 use crate::rattle;
@@ -35,22 +35,10 @@ fn gates(net: &Net) -> [u64; 5] {
 
 /// What document 01 says of the case, with tables of 2,048 cells. The numbers are the source's.
 pub fn answer(case: &Case) -> Answer {
-    if let Some(number) = paths::fault(&case.net) {
+    if let Some(number) = fault(case) {
         return turned_down(number);
     }
-    if !(2..=1024).contains(&case.samples) {
-        return turned_down(8);
-    }
-    if !(1..=65_535).contains(&case.realizations) {
-        return turned_down(9);
-    }
-    if !(0.0 < case.horizon && case.horizon <= 2f64.powi(30)) {
-        return turned_down(10);
-    }
     let n = case.samples as usize;
-    if case.net.places.len() * n > CELLS {
-        return turned_down(11);
-    }
     let model = filled(&case.net);
     let options = SdeOptions { horizon: case.horizon, samples: n, realizations: case.realizations as usize, seed: case.seed };
     let theirs = simulate_sde_compiled(&model, &options).expect("the request fits");

@@ -41,25 +41,24 @@ fn turned_down(number: u64) -> Answer {
     Answer { outcome: Outcome::TurnedDown(number), tables: None, zero: false }
 }
 
+/// The first of 2 to 7, 8, 9, 10 and 11 that applies, with tables of 2,048 cells.
+pub fn fault(case: &Case) -> Option<u64> {
+    let tests = [
+        (8, !(2..=1024).contains(&case.samples)),
+        (9, !(1..=65_535).contains(&case.realizations)),
+        (10, !(0.0 < case.horizon && case.horizon <= 2f64.powi(30))),
+        (11, case.net.places.len() as u64 * case.samples.min(2048) > CELLS as u64),
+    ];
+    paths::fault(&case.net).or(tests.into_iter().find(|t| t.1).map(|t| t.0))
+}
+
 /// What document 01 says of the case, with tables of 2,048 cells.
 pub fn play(case: &Case) -> Answer {
-    if let Some(number) = paths::fault(&case.net) {
+    if let Some(number) = fault(case) {
         return turned_down(number);
-    }
-    if !(2..=1024).contains(&case.samples) {
-        return turned_down(8);
-    }
-    if !(1..=65_535).contains(&case.realizations) {
-        return turned_down(9);
-    }
-    if !(0.0 < case.horizon && case.horizon <= 2f64.powi(30)) {
-        return turned_down(10);
     }
     let n = case.samples as usize;
     let cells = case.net.places.len() * n;
-    if cells > CELLS {
-        return turned_down(11);
-    }
     let width = case.horizon / (n - 1) as f64;
     let instants: Vec<f64> = (0..n).map(|i| i as f64 * width).collect();
     let base = if case.seed == 0 { 1 } else { case.seed };

@@ -204,61 +204,26 @@ impl Fields {
     }
 }
 
+/// Calls a function with the fields of a net in front of its other arguments.
+macro_rules! lend {
+    ($function:ident, $f:expr, $($more:expr),*) => {
+        unsafe {
+            c::$function($f.places, $f.transitions, &$f.initial, &$f.capacity, &$f.rate, &$f.delay, &$f.arcs, &$f.kind, &$f.place, &$f.weight, $($more),*)
+        }
+    };
+}
+
 /// The end's number (a refusal's own; 100 quiet, 101 spent, 102 reached), the steps, the settled instants, the peak.
 pub fn path(f: &Fields, state: &mut [u64; 4], instants: &[f64], limit: u64, table: &mut [f64]) -> [u64; 4] {
     let mut told = [0; 4];
-    unsafe {
-        c::cild_path(
-            f.places,
-            f.transitions,
-            &f.initial,
-            &f.capacity,
-            &f.rate,
-            &f.delay,
-            &f.arcs,
-            &f.kind,
-            &f.place,
-            &f.weight,
-            state,
-            instants.as_ptr(),
-            instants.len(),
-            limit,
-            table.as_mut_ptr(),
-            table.len(),
-            &mut told,
-        )
-    }
+    lend!(cild_path, f, state, instants.as_ptr(), instants.len(), limit, table.as_mut_ptr(), table.len(), &mut told);
     told
 }
 
 /// The number by which it was turned down or stopped, or 0; the stopped path's number, or how many were spent; 1 where there are deviations.
 pub fn ensemble(f: &Fields, samples: u64, realizations: u64, seed: u64, horizon: f64, [mean, deviation, path]: &mut [Vec<f64>; 3]) -> [u64; 3] {
     let mut told = [0; 3];
-    unsafe {
-        c::cild_ensemble(
-            f.places,
-            f.transitions,
-            &f.initial,
-            &f.capacity,
-            &f.rate,
-            &f.delay,
-            &f.arcs,
-            &f.kind,
-            &f.place,
-            &f.weight,
-            samples,
-            realizations,
-            seed,
-            horizon,
-            mean.as_mut_ptr(),
-            mean.len(),
-            deviation.as_mut_ptr(),
-            deviation.len(),
-            path.as_mut_ptr(),
-            path.len(),
-            &mut told,
-        )
-    }
+    lend!(cild_ensemble, f, samples, realizations, seed, horizon, mean.as_mut_ptr(), mean.len(), deviation.as_mut_ptr(), deviation.len(), path.as_mut_ptr(), path.len(), &mut told);
     told
 }
 
@@ -266,31 +231,7 @@ pub fn ensemble(f: &Fields, samples: u64, realizations: u64, seed: u64, horizon:
 /// of a gated net reads, inhibitors, inputs that are not kinetic, the bounded places as bits, and 1 where there is a delay.
 pub fn diffusion(f: &Fields, samples: u64, realizations: u64, seed: u64, horizon: f64, [mean, deviation, path]: &mut [Vec<f64>; 3]) -> [u64; 7] {
     let mut told = [0; 7];
-    unsafe {
-        c::cild_diffusion(
-            f.places,
-            f.transitions,
-            &f.initial,
-            &f.capacity,
-            &f.rate,
-            &f.delay,
-            &f.arcs,
-            &f.kind,
-            &f.place,
-            &f.weight,
-            samples,
-            realizations,
-            seed,
-            horizon,
-            mean.as_mut_ptr(),
-            mean.len(),
-            deviation.as_mut_ptr(),
-            deviation.len(),
-            path.as_mut_ptr(),
-            path.len(),
-            &mut told,
-        )
-    }
+    lend!(cild_diffusion, f, samples, realizations, seed, horizon, mean.as_mut_ptr(), mean.len(), deviation.as_mut_ptr(), deviation.len(), path.as_mut_ptr(), path.len(), &mut told);
     told
 }
 
