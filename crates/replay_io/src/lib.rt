@@ -1,7 +1,11 @@
 // What the programs that replay recorded cases share: reading numbers and nets, writing numbers and cells. Standard input is a row of numbers, each 16
 // hexadecimal digits and a newline. A net is its places and transitions; for each place its initial count and capacity; for each transition its rate and
 // delay, by their bits, its number of arcs, and the kind, place and weight of each. No more is read than a net has room for.
-ghost use Prim.Native.Nat.{_≤_};
+ghost use mathlib.Core.Path.{_≡_};
+ghost use Prim.Native.Nat.{_+_, _*_, _≤_};
+ghost use lib.Dec.{ltb};
+ghost use lib.Ieee.{binary64, ofBits};
+ghost use Rattle.net.specs.Net.{pick};
 use libc::STDIN_FILENO;
 use libc::STDOUT_FILENO;
 use net::Net;
@@ -58,15 +62,14 @@ pub fn size() -> usize {
     number() as usize
 }
 
-// The float whose bits are b.
-pub fn float(b: u64) -> f64 {
-    if b % 0x8000_0000_0000_0000 / 0x10_0000_0000_0000 != 0x7FF {
-        return f64::from_bits(b);
+// The float whose bits are b; all patterns of a NaN are one.
+pub fn float(b: u64) -> f64
+    ensures { λ r. ⌜ r ≡ ofBits binary64 b ⌝ }
+{
+    if 0x7FF0_0000_0000_0000 < b % 0x8000_0000_0000_0000 {
+        return 0.0 / 0.0;
     }
-    if b % 0x10_0000_0000_0000 == 0 {
-        return f64::from_bits(b);
-    }
-    0.0 / 0.0
+    f64::from_bits(b)
 }
 
 fn read_places(n: usize, initial: &mut [u64; 32], capacity: &mut [u64; 32]) {
@@ -186,7 +189,9 @@ pub fn write_cells(n: usize, table: &[f64; 2048]) {
 }
 
 // How many are the cells of an answer and the one behind them; 0 where there cannot be so many.
-pub fn shown(places: usize, instants: usize) -> usize {
+pub fn shown(places: usize, instants: usize) -> usize
+    ensures { λ r. ⌜ r ≡ pick (ltb 32 places) 0 (pick (ltb 2048 instants) 0 (places * instants + 1)) ⌝ }
+{
     if places > 32 {
         return 0;
     }

@@ -1,28 +1,17 @@
--- `replay_io::float` is safe and ends: either the exponent is not all ones or the digits are zeros, so the pattern is no NaN's. Assumes nothing.
+-- A NaN's pattern is one above the infinity's, its sign bit taken off.
 use borrow.Author.Needs.{needs}
-use borrow.Author.Tests.{eq-eqb, ne-eqb}
-use lib.Ieee.{nanBits}
+use Rattle.net_text.proofs.Patterns.{nan-pattern, number-pattern}
 use Rattle.replay_io.proofs.float.Statement.{statement}
 use Rattle.replay_io.proofs.float.Tie as tie
 
-float-from-bits-result : tie.Need-float-from-bits-result
-unfolding nanBits
-float-from-bits-result c = simp (ne-eqb _ _ (c .if1 .taken)) tt
-
 returns : tie.Need-returns
-returns c = search needs
+returns c = nan-pattern (c .before .args .b) (c .if1 .taken)
 
-float-from-bits-result-2 : tie.Need-float-from-bits-result-2
-unfolding nanBits
-float-from-bits-result-2 c = simp (eq-eqb _ _ (c .before .if1 .left), eq-eqb _ _ (c .if2 .taken)) tt
+float-from-bits-result : tie.Need-float-from-bits-result
+float-from-bits-result c = number-pattern (c .before .args .b) (c .if1 .left)
 
 returns-2 : tie.Need-returns-2
 returns-2 c = search needs
 
-returns-3 : tie.Need-returns-3
-returns-3 c = search needs
-
 pub float-spec : {M : Type 1} → statement M
-float-spec =
-    tie.close
-    (tie.spec float-from-bits-result returns float-from-bits-result-2 returns-2 returns-3)
+float-spec = tie.close (tie.spec returns float-from-bits-result returns-2)
