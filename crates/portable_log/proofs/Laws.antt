@@ -1,19 +1,22 @@
 -- Facts on bit patterns, NaN and small exponents, and the definition of `plog` case by case. Assumes nothing.
 use mathlib.Core.Path.{_≡_, refl, sym, ap, _∙_, subst}
 use mathlib.Core.Bool.{Bool, true, false, not, cond}
-use Prim.Native.Nat.{ℕ, zero, suc, _+_, _-_, _*_, _/_, _%_, _^_, _<_}
+use Prim.Native.Nat.{ℕ, zero, suc, _+_, _-_, _*_, _/_, _%_, _^_, _≤_, _<_}
 use native.Mathlib.Omega.{arith}
-use native.Mathlib.Nat.{lt-of-le-of-lt, lt-of-lt-of-le}
+use native.Mathlib.Nat.{lt-of-le-of-lt, lt-of-lt-of-le, mod-eq-of-lt, mul-pos, zero-mul, zero-div}
 use mir.Syntax.{w32}
 use mir.Val.{SFits}
-use lib.Dec.{T, eqb, ltb}
-use lib.Bits.{bitAnd, bitOr, or-mod, or-shr, and-mod, and-shr, and-zero-r, and-le-r}
+use lib.Dec.{T, eqb, ltb, lt→ltb}
+use lib.Bits.{bitAnd, bitOr, or-mod, or-shr, and-mod, and-shr, and-zero-r, and-le-r, and-mask}
 use lib.IntN.{ℤ, pos, negsuc, _-ℤ_}
 use lib.Signed.{mag}
 use Rattle.portable_log.specs.declared.Parts.{Parts}
-use Rattle.portable_log.specs.Log.{frexp, field, ofParts, plog, combine, zero64, two64, two52, sqrt2over2}
+use Rattle.portable_log.specs.Log.{frexp, field, partsOf, ofParts, plog, combine, zero64, two64, two52, sqrt2over2}
+use borrow.Author.Tests.{le-ltb, ne-eqb}
 use lib.Ieee.Compare.{differs-from-itself}
-use lib.Ieee.{Float, nan, inf, fin, Format, binary64, nanBits, isNan, mul, round, units, odd, ofBits, toBits, div, ne, eq, lt, low, emax, prec}
+use lib.Ieee.Fits.{up-pos}
+use lib.Ieee.Positive.{positive}
+use lib.Ieee.{Float, nan, inf, fin, Format, binary64, nanBits, isNan, mul, round, units, odd, ofBits, toBits, div, ne, eq, lt, low, emax, prec, size, span, climb, up, down}
 
 -- the exponent's field of the pattern with 1022 put there
 half-field : (b : ℕ) → bitOr (bitAnd b 0x800F_FFFF_FFFF_FFFF) (1022 * 2 ^ 52) % 2 ^ 63 / 2 ^ 52 ≡ 1022
@@ -118,24 +121,24 @@ cond-small : (t : Bool) (a b : Parts) (n : ℕ) → mag (a .exp) < n → mag (b 
 cond-small true a b n ha hb = ha
 cond-small false a b n ha hb = hb
 
-exp-small : (x : Float) → mag (frexp x .exp) < 65536
-exp-small x =
-    cond-small (eqb (field (toBits binary64 x)) 0) _ _ 65536
+pub exp-small : (p : Parts) (x : Float) → p ≡ frexp x → mag (p .exp) < 65536
+exp-small p x e =
+    rw e
+    (cond-small (eqb (field (toBits binary64 x)) 0) _ _ 65536
     (mag-diff _ 1074 65536 (field-lt (toBits binary64 (mul binary64 x two52) / 2 ^ 52)) (omega arith))
-    (mag-diff _ 1022 65536 (field-lt (toBits binary64 x / 2 ^ 52)) (omega arith))
+    (mag-diff _ 1022 65536 (field-lt (toBits binary64 x / 2 ^ 52)) (omega arith)))
 
 -- one less than a small number
 mag-pred : (z : ℤ) (n : ℕ) → mag z < n → mag (z -ℤ pos 1) < n + 1
 mag-pred (pos a) n h = cond-mag (ltb a 1) (negsuc (1 - suc a)) (pos (a - 1)) (n + 1) (omega arith) (omega arith)
 mag-pred (negsuc a) n h = omega arith
 
--- what is read back of the exponent's bits is the exponent, and one less fits too
-pub exp-fits : (p : Parts) (x : Float) → p ≡ frexp x → SFits w32 (p .exp)
-exp-fits p x e = record { sfits = lt-of-lt-of-le (subst (λ (q : Parts). mag (q .exp) < 65536) (sym e) (exp-small x)) (omega arith) }
+-- a small exponent is read back of its bits, and one less fits too
+pub exp-fits : (z : ℤ) → mag z < 65536 → SFits w32 z
+exp-fits z h = record { sfits = lt-of-lt-of-le h (omega arith) }
 
-pub pred-fits : (p : Parts) (x : Float) → p ≡ frexp x → SFits w32 (p .exp -ℤ pos 1)
-pred-fits p x e =
-    record { sfits = lt-of-lt-of-le (mag-pred (p .exp) 65536 (subst (λ (q : Parts). mag (q .exp) < 65536) (sym e) (exp-small x))) (omega arith) }
+pub pred-fits : (z : ℤ) → mag z < 65536 → SFits w32 (z -ℤ pos 1)
+pred-fits z h = record { sfits = lt-of-lt-of-le (mag-pred z 65536 h) (omega arith) }
 
 -- the definition at each outcome of its tests on x, and of the one on the fraction
 pub at-nan : (x : Float) → ne x x ≡ true → x ≡ plog x
@@ -160,3 +163,54 @@ doubled p h = simp h
 
 pub kept : (p : Parts) → lt (p .frac) sqrt2over2 ≡ false → ofParts p ≡ combine (p .frac) (p .exp)
 kept p h = simp h
+
+-- without a sign, the bits above the lowest 52 are the exponent's field
+pub field-of : (b : ℕ) → b < 2 ^ 63 → field b ≡ b / 2 ^ 52
+field-of b h = and-mask (b / 2 ^ 52) 11 ∙ mod-eq-of-lt (omega arith)
+
+-- A number whose pattern has no sign, and an exponent's field that is neither 0 nor all ones, is finite and above 0. So each of the four tests on it is
+-- false, and its parts are read off its pattern.
+zero-bits : (e : ℤ) → toBits binary64 (fin false 0 e) ≡ 0
+unfolding toBits size span climb
+zero-bits e =
+    let z : 0 * up e * 2 ^ 1074 / down e ≡ 0 = ap (λ (n : ℕ). n * 2 ^ 1074 / down e) (zero-mul (up e)) ∙ zero-div (down e) in
+    rw z refl
+
+normal-positive : (x : Float) → 1 ≤ toBits binary64 x / 2 ^ 52 → toBits binary64 x / 2 ^ 52 < 2047 → T (positive x)
+unfolding toBits
+normal-positive nan h l = omega arith
+normal-positive (inf true) h l = omega arith
+normal-positive (inf false) h l = omega arith
+normal-positive (fin true m e) h l = omega arith
+normal-positive (fin false zero e) h l = omega (arith, zero-bits e)
+normal-positive (fin false (suc m) e) h l = lt→ltb 0 (suc m) (omega arith)
+
+no-infinity : (x : Float) → T (positive x) → eq x (inf false) ≡ false
+unfolding eq
+no-infinity nan p = absurd p
+no-infinity (inf s) p = absurd p
+no-infinity (fin s m e) p = refl
+
+not-below : (x : Float) → T (positive x) → lt x zero64 ≡ false
+unfolding lt ofBits
+not-below nan p = absurd p
+not-below (inf s) p = absurd p
+not-below (fin true m e) p = absurd p
+not-below (fin false m e) p = le-ltb (m * up e * 1) (0 * 1 * down e) (omega arith)
+
+no-zero : (x : Float) → T (positive x) → eq x zero64 ≡ false
+unfolding eq ofBits
+no-zero nan p = absurd p
+no-zero (inf s) p = absurd p
+no-zero (fin true m e) p = absurd p
+no-zero (fin false zero e) p = absurd p
+no-zero (fin false (suc m) e) p = rw (ne-eqb (suc m * up e * 1) (0 * 1 * down e) (omega (arith, mul-pos {m = suc m} (omega arith) (up-pos e)))) refl
+
+pub at-normal : (x : Float) → ne x x ≡ false → 1 ≤ toBits binary64 x / 2 ^ 52 → toBits binary64 x / 2 ^ 52 < 2047
+    → ofParts (partsOf 0 (toBits binary64 x)) ≡ plog x
+at-normal x n h l =
+    let p = normal-positive x h l in
+    let b = toBits binary64 x in
+    let f : field b ≡ b / 2 ^ 52 = field-of b (omega arith) in
+    let e : partsOf 0 b ≡ frexp x = simp (ne-eqb (field b) 0 (omega arith)) in
+    at-number x (partsOf 0 b) e n (no-infinity x p) (not-below x p) (no-zero x p)

@@ -3,6 +3,7 @@
 ghost use mathlib.Core.Path.{_≡_};
 ghost use Prim.Native.Nat.{_<_};
 ghost use lib.IntN.{pos, _-ℤ_};
+ghost use lib.Signed.{mag};
 ghost use Rattle.portable_log.specs.Log as Spec;
 
 const EXP_MASK: u64 = 0x7FF << 52;
@@ -107,8 +108,27 @@ fn combine(f1: f64, ki: i32) -> f64
     k * LN2_HI - (hfsq - (s * (hfsq + r) + k * LN2_LO) - f)
 }
 
-// The natural logarithm of x. NaN and +infinity come back unchanged, a negative x gives NaN, either zero -infinity.
-pub fn plog(x: f64) -> f64
+// The logarithm of f1 * 2^ki for f1 from 0.5 to 1: a fraction below sqrt(2)/2 is doubled.
+fn of_parts(f1: f64, ki: i32) -> f64
+    requires { ⌜ mag ki < 65536 ⌝ }
+    ensures { λ r. ⌜ r ≡ Spec.ofParts (record { frac = f1; exp = ki }) ⌝ }
+{
+    if f1 < SQRT2_OVER_2 {
+        return combine(f1 * 2.0, ki - 1);
+    }
+    combine(f1, ki)
+}
+
+// The logarithm of the normal number above 0 whose pattern is b: without a sign, b >> 52 is the exponent's field.
+fn normal_log(b: u64) -> f64
+    requires { ⌜ b < 0x8000_0000_0000_0000 ⌝ }
+    ensures { λ r. ⌜ r ≡ Spec.ofParts (Spec.partsOf 0 b) ⌝ }
+{
+    of_parts(with_half(b), difference(b >> 52, 1022))
+}
+
+// The natural logarithm of any x.
+fn other_log(x: f64) -> f64
     ensures { λ r. ⌜ r ≡ Spec.plog x ⌝ }
 {
     if x != x {
@@ -124,10 +144,23 @@ pub fn plog(x: f64) -> f64
         return f64::from_bits(0xFFF0_0000_0000_0000);
     }
     let p = frexp(x);
-    let f1 = p.frac;
-    let ki = p.exp;
-    if f1 < SQRT2_OVER_2 {
-        return combine(f1 * 2.0, ki - 1);
+    of_parts(p.frac, p.exp)
+}
+
+// The natural logarithm of x. NaN and +infinity come back unchanged, a negative x gives NaN, either zero -infinity. A
+// normal positive x, by far the most frequent, is told by its exponent's field alone.
+pub fn plog(x: f64) -> f64
+    ensures { λ r. ⌜ r ≡ Spec.plog x ⌝ }
+{
+    if x != x {
+        return x;
     }
-    combine(f1, ki)
+    let b = f64::to_bits(x);
+    let e = b >> 52;
+    if 1 <= e {
+        if e < 2047 {
+            return normal_log(b);
+        }
+    }
+    other_log(x)
 }

@@ -49,20 +49,20 @@ module _ (x : Float) (n : ℕ) (u : InUnits x n) (p : 0 < n) (s : Short n) where
       go zero e = absurd (omega (arith, e, zero-mul (2 ^ s .j)))
       go (suc m) e = zero-lt-suc m
 
-  scaled : (z : ℕ) → z ≤ 53 → n * 2 ^ 1074 ≡ s .m * 2 ^ z * 2 ^ (s .j + 1074 - z)
+  scaled : (z : ℕ) → z ≤ 53 → n * 2 ^ 1074 ≡ s .m * 2 ^ z * 2 ^ (52 + (s .j + 1022 - z))
   scaled z l =
-      let e : s .j + 1074 ≡ z + (s .j + 1074 - z) = omega arith in
+      let e : s .j + 1074 ≡ z + (52 + (s .j + 1022 - z)) = omega arith in
       ap (λ (y : ℕ). y * 2 ^ 1074) (s .is)
       ∙ mul-assoc (s .m) (2 ^ s .j) (2 ^ 1074)
-      ∙ ap (λ (y : ℕ). s .m * y) (sym (pow-add 2 (s .j) 1074) ∙ ap (λ (y : ℕ). 2 ^ y) e ∙ pow-add 2 z (s .j + 1074 - z))
-      ∙ sym (mul-assoc (s .m) (2 ^ z) (2 ^ (s .j + 1074 - z)))
+      ∙ ap (λ (y : ℕ). s .m * y) (sym (pow-add 2 (s .j) 1074) ∙ ap (λ (y : ℕ). 2 ^ y) e ∙ pow-add 2 z (52 + (s .j + 1022 - z)))
+      ∙ sym (mul-assoc (s .m) (2 ^ z) (2 ^ (52 + (s .j + 1022 - z))))
 
   nearest-root : NearestRoot x (rootOf x)
   nearest-root =
       let v = aligned (s .m) some (s .few) in
       let e = scaled (v .z) (v .few) in
       subst (λ (r : Float). NearestRoot x r) (sym (root-of-value x n p (u .value) ∙ ap rootIn e))
-      (nearest-in (s .m * 2 ^ v .z) (s .j + 1074 - v .z) (v .long) (v .short) (omega arith) (omega arith) x n u e)
+      (nearest-in (s .m * 2 ^ v .z) (s .j + 1022 - v .z) (v .long) (v .short) (omega arith) x n u e)
 
 pub root-is-nearest : RootIsNearest
 unfolding rootOf

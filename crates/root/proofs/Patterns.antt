@@ -10,7 +10,8 @@ use lib.Pow.{pow-add, pow-pos, pow-mono, shl-lt}
 use lib.Count.{leadingZeros, leading-top}
 use lib.IntN.{ℤ}
 use borrow.Author.Tests.{ne-eqb, le-leb, lt-leb}
-use lib.Ieee.{Float, nan, inf, fin, binary64, up, down, odd, ofFields, ofBits, nanBits, isNan, ne, eq, div}
+use lib.Ieee.{Float, nan, inf, fin, binary64, up, down, odd, ofFields, ofBits, toBits, fits, nanBits, isNan, ne, eq, div}
+use lib.Ieee.Bits.{ofBits-toBits}
 use lib.Ieee.Compare.{differs-from-itself}
 use lib.Ieee.Exact.{HasValue, odd-sign}
 use lib.Ieee.Fits.{down-pos}
@@ -69,7 +70,7 @@ finite-number b l = rw (ne-eqb (b % 2 ^ 63 / 2 ^ 52) 2047 (omega arith)) tt
 
 -- ---- the root at a pattern
 
--- a normal value is (t + 2 ^ 52) * 2 ^ (e - 1) units, and its root is that of (t + 2 ^ 52) * 2 ^ (e + 1073)
+-- a normal value is (t + 2 ^ 52) * 2 ^ (e - 1) units, and its root is that of (t + 2 ^ 52) * 2 ^ (52 + (e + 1021))
 normal-value : (b : ℕ) → 0 < b / 2 ^ 52 → b < 2047 * 2 ^ 52 → HasValue (ofBits binary64 b) false ((2 ^ 52 + b % 2 ^ 52) * 2 ^ (b / 2 ^ 52 - 1)) (2 ^ 1074)
 normal-value b p l =
     let k = b / 2 ^ 52 - 1 in
@@ -78,18 +79,23 @@ normal-value b p l =
     let v : ofBits binary64 b ≡ odd 53 false (2 ^ 52 + t) k 1074 = ap (ofBits binary64) e ∙ normal-bits k t (omega arith) (omega arith) in
     rw v (odd-sign 53 false (2 ^ 52 + t) k 1074)
 
-normal-scaled : (b : ℕ) → 0 < b / 2 ^ 52 → (2 ^ 52 + b % 2 ^ 52) * 2 ^ (b / 2 ^ 52 - 1) * 2 ^ 1074 ≡ (b % 2 ^ 52 + 2 ^ 52) * 2 ^ (b / 2 ^ 52 + 1073)
+normal-scaled : (b : ℕ) → 0 < b / 2 ^ 52 → (2 ^ 52 + b % 2 ^ 52) * 2 ^ (b / 2 ^ 52 - 1) * 2 ^ 1074 ≡ (b % 2 ^ 52 + 2 ^ 52) * 2 ^ (52 + (b / 2 ^ 52 + 1021))
 normal-scaled b p =
     let k = b / 2 ^ 52 - 1 in
     let t = b % 2 ^ 52 in
-    let w : k + 1074 ≡ b / 2 ^ 52 + 1073 = omega arith in
+    let w : k + 1074 ≡ 52 + (b / 2 ^ 52 + 1021) = omega arith in
     let c : 2 ^ 52 + t ≡ t + 2 ^ 52 = omega arith in
     mul-assoc (2 ^ 52 + t) (2 ^ k) (2 ^ 1074) ∙ (λ i. c i * (sym (pow-add 2 k 1074) ∙ ap (λ (x : ℕ). 2 ^ x) w) i)
 
-pub root-of-normal : (b : ℕ) → 0 < b / 2 ^ 52 → b < 2047 * 2 ^ 52 → rootOf (ofBits binary64 b) ≡ rootIn ((b % 2 ^ 52 + 2 ^ 52) * 2 ^ (b / 2 ^ 52 + 1073))
+pub root-of-normal : (b : ℕ) → 0 < b / 2 ^ 52 → b < 2047 * 2 ^ 52 → rootOf (ofBits binary64 b) ≡ rootIn ((b % 2 ^ 52 + 2 ^ 52) * 2 ^ (52 + (b / 2 ^ 52 + 1021)))
 root-of-normal b p l =
     root-of-value (ofBits binary64 b) ((2 ^ 52 + b % 2 ^ 52) * 2 ^ (b / 2 ^ 52 - 1)) (mul-pos (omega arith) (pow-pos (b / 2 ^ 52 - 1))) (normal-value b p l)
     ∙ ap rootIn (normal-scaled b p)
+
+-- the same of a value by its own pattern
+pub root-of-own : (x : Float) (b : ℕ) → T (fits binary64 x) → b ≡ toBits binary64 x → 2 ^ 52 ≤ b → b < 2047 * 2 ^ 52
+    → rootIn ((b % 2 ^ 52 + 2 ^ 52) * 2 ^ (52 + (b / 2 ^ 52 + 1021))) ≡ rootOf x
+root-of-own x b h e g l = sym (root-of-normal b (omega arith) l) ∙ ap rootOf (ap (ofBits binary64) e ∙ ofBits-toBits binary64 x h)
 
 -- a subnormal value is b units
 small-value : (b : ℕ) → b < 2 ^ 52 → HasValue (ofBits binary64 b) false b (2 ^ 1074)
@@ -178,7 +184,7 @@ module _ (b : ℕ) (p : 0 < b) (l : b < 2 ^ 52) where
     pub few : leadingZeros 64 b ≤ 63
     pub long : 2 ^ 52 ≤ (b * 2 ^ s) % 2 ^ 64
     pub short : (b * 2 ^ s) % 2 ^ 64 < 2 ^ 53
-    pub same : (b * 2 ^ s) % 2 ^ 64 * 2 ^ (1074 - s) ≡ b * 2 ^ 1074
+    pub same : (b * 2 ^ s) % 2 ^ 64 * 2 ^ (52 + (1022 - s)) ≡ b * 2 ^ 1074
 
   pub moved : Moved
   moved =
@@ -188,7 +194,7 @@ module _ (b : ℕ) (p : 0 < b) (l : b < 2 ^ 52) where
       let j< : j < 52 = lt-of-not-le (λ (g : 52 ≤ j). not-le-of-lt l (le-trans (pow-mono g) (t .2))) in
       let e₁ : j + s ≡ 52 = omega arith in
       let e₂ : suc j + s ≡ 53 = omega arith in
-      let e₃ : s + (1074 - s) ≡ 1074 = omega arith in
+      let e₃ : s + (52 + (1022 - s)) ≡ 1074 = omega arith in
       let lo : 2 ^ 52 ≤ b * 2 ^ s = subst (λ (x : ℕ). x ≤ b * 2 ^ s) (sym (pow-add 2 j s) ∙ ap (λ (x : ℕ). 2 ^ x) e₁) (mul-le-mul-right (2 ^ s) (t .2)) in
       let hi : b * 2 ^ s < 2 ^ 53 = subst (λ (x : ℕ). b * 2 ^ s < 2 ^ x) e₂ (shl-lt (suc j) s (t .3)) in
       let whole : (b * 2 ^ s) % 2 ^ 64 ≡ b * 2 ^ s = omega arith in
@@ -197,5 +203,5 @@ module _ (b : ℕ) (p : 0 < b) (l : b < 2 ^ 52) where
         few = omega arith;
         long = omega arith;
         short = omega arith;
-        same = ap (λ (x : ℕ). x * 2 ^ (1074 - s)) whole ∙ mul-assoc b (2 ^ s) (2 ^ (1074 - s)) ∙ ap (λ (x : ℕ). b * x) (sym (pow-add 2 s (1074 - s)) ∙ ap (λ (x : ℕ). 2 ^ x) e₃);
+        same = ap (λ (x : ℕ). x * 2 ^ (52 + (1022 - s))) whole ∙ mul-assoc b (2 ^ s) (2 ^ (52 + (1022 - s))) ∙ ap (λ (x : ℕ). b * x) (sym (pow-add 2 s (52 + (1022 - s))) ∙ ap (λ (x : ℕ). 2 ^ x) e₃);
       }

@@ -1,10 +1,10 @@
 -- Squares of whole numbers. `wholeRoot` is the root cut to a whole number, by induction on the digits. Half of the root of 4 * n, rounded, is nearest to
--- the root of n: a tie would make the square of an odd number even. From the square of a guess it is seen whether it or a neighbour is nearest.
+-- the root of n: a tie would make the square of an odd number even. From the square of a guess it is seen whether it is nearest.
 -- Assumes nothing.
-use mathlib.Core.Path.{_≡_, sym, ap, _∙_, subst}
+use mathlib.Core.Path.{_≡_, sym, _∙_, subst}
 use mathlib.Core.Bool.{Bool, true, false, not, cond}
 use Prim.Native.Nat.{ℕ, zero, suc, _+_, _-_, _*_, _/_, _%_, _^_, _≤_, _<_}
-use native.Mathlib.Nat.{mul-assoc, mul-comm, mul-left-comm, mul-add, add-mul, pow-suc, mul-le-mul, lt-of-not-le, le-of-suc-le-suc, le-antisymm, le-trans, lt-of-lt-of-le, lt-irrefl}
+use native.Mathlib.Nat.{mul-assoc, mul-left-comm, mul-add, add-mul, pow-suc, mul-le-mul, lt-of-not-le, le-of-suc-le-suc, le-antisymm, le-trans, lt-of-lt-of-le, lt-irrefl}
 use native.Mathlib.Omega.{arith}
 use lib.Dec.{T, leb, leb→le, nleb→lt}
 use Rattle.root.specs.Root.{wholeRoot}
@@ -85,37 +85,6 @@ near n q p g l =
     let t : 2 * q - 1 + 1 ≡ 2 * q = omega arith in
     let u : 2 * q * (2 * q) ≡ (2 * q - 1) * (2 * q - 1) + 2 * (2 * q - 1) + 1 = subst (λ (x : ℕ). x * x ≡ (2 * q - 1) * (2 * q - 1) + 2 * (2 * q - 1) + 1) t (next-square (2 * q - 1)) in
     record { above = omega (arith, u, twice-square q); under = omega (arith, next-square (2 * q), twice-square q) }
-
--- and so of its neighbours
-pub near-next : (n g : ℕ) → g * g + 2 * g < n + g → n + g ≤ g * g + 4 * g + 2 → NearestWhole n (g + 1)
-near-next n g a b = near n (g + 1) (omega arith) (omega (arith, next-square g)) (omega (arith, next-square g))
-
-pub near-before : (n g : ℕ) → 1 < g → n + g ≤ g * g → g * g + 2 < n + g + 2 * g → NearestWhole n (g - 1)
-near-before n g p a b =
-    let t : g - 1 + 1 ≡ g = omega arith in
-    let u : g * g ≡ (g - 1) * (g - 1) + 2 * (g - 1) + 1 = subst (λ (x : ℕ). x * x ≡ (g - 1) * (g - 1) + 2 * (g - 1) + 1) t (next-square (g - 1)) in
-    near n (g - 1) (omega arith) (omega arith) (omega arith)
-
--- a square from the squares and the product of its halves
-split : (a c k : ℕ) → (a * k + c) * (a * k + c) ≡ a * a * (k * k) + a * c * (2 * k) + c * c
-split a c k = (mul-add (a * k + c) (a * k) c ∙ (λ i. add-mul (a * k) c (a * k) i + add-mul (a * k) c c i)) ∙ simp (mul-assoc, mul-comm, mul-left-comm) (omega arith)
-
-halves : (g : ℕ) → g * g ≡ g / 2 ^ 27 * (g / 2 ^ 27) * 2 ^ 54 + g / 2 ^ 27 * (g % 2 ^ 27) * 2 ^ 28 + g % 2 ^ 27 * (g % 2 ^ 27)
-halves g =
-    let e : g / 2 ^ 27 * 2 ^ 27 + g % 2 ^ 27 ≡ g = omega arith in
-    ap (λ (x : ℕ). x * x) (sym e) ∙ split (g / 2 ^ 27) (g % 2 ^ 27) (2 ^ 27)
-
-pub record Halves (g : ℕ) : Type 0 where
-  pub cross : g / 2 ^ 27 * (g % 2 ^ 27) < 2 ^ 53
-  pub upper : g / 2 ^ 27 * (g / 2 ^ 27) < 2 ^ 52
-  pub lower : g % 2 ^ 27 * (g % 2 ^ 27) < 2 ^ 54
-  pub whole : g * g ≡ g / 2 ^ 27 * (g / 2 ^ 27) * 2 ^ 54 + g / 2 ^ 27 * (g % 2 ^ 27) * 2 ^ 28 + g % 2 ^ 27 * (g % 2 ^ 27)
-
-pub in-halves : (g : ℕ) → g < 2 ^ 53 → Halves g
-in-halves g l =
-    let a : g / 2 ^ 27 ≤ 2 ^ 26 - 1 = omega arith in
-    let c : g % 2 ^ 27 ≤ 2 ^ 27 - 1 = omega arith in
-    record { cross = omega (arith, mul-le-mul a c); upper = omega (arith, mul-le-mul a a); lower = omega (arith, mul-le-mul c c); whole = halves g }
 
 pub root-pos : {n r : ℕ} → CutRoot n r → 0 < n → 0 < r
 root-pos {n} {r} g p = go r g

@@ -1,11 +1,15 @@
 // The square root of a binary64: the value of the format nearest to the exact root.
-// A guess is made in floating point and then judged by whole-number squares. Only the judging is proved: a wrong guess costs time and not the answer.
+// A guess is made in whole numbers and then judged by its square. Only the judging is proved: a wrong guess costs time and not the answer.
 ghost use mathlib.Core.Path.{_≡_};
-ghost use Prim.Native.Nat.{_+_, _*_, _^_, _≤_, _<_};
-ghost use lib.Ieee.{binary64, ofBits};
+ghost use mathlib.Core.Bool.{true};
+ghost use Prim.Native.Nat.{_+_, _*_, _/_, _%_, _^_, _≤_, _<_};
+ghost use lib.Ieee.{binary64, ofBits, toBits};
 ghost use Rattle.root.specs.Nearest.{SquareRoot};
 ghost use Rattle.root.specs.Root.{rootOf, rootIn};
 ghost use Rattle.root.specs.Whole.{NearestWhole};
+
+mod guess;
+mod inverse;
 
 struct Root {
     root: u64,
@@ -48,101 +52,115 @@ fn slow_root(n: u64) -> u64
     (r.root + 1) / 2
 }
 
-// hi * 2^54 + lo
-struct Wide {
-    hi: u64,
-    lo: u64,
+// The value nearest to the root of m * 2^(52 + v), in units of 2^-1074, from the whole number q nearest to the root of m * 2^52, or of its double for an odd v.
+fn placed(m: u64, v: u64, q: u64) -> f64
+    requires { ⌜ (2 ^ 52 ≤ m) × (m < 2 ^ 53) × (970 ≤ v) × (v < 3068) × NearestWhole (m * 2 ^ (v % 2) * 2 ^ 52) q ⌝ }
+    ensures { λ r. ⌜ r ≡ rootIn (m * 2 ^ (52 + v)) ⌝ }
+{
+    f64::from_bits((v / 2) * 0x10_0000_0000_0000 + q)
 }
 
-// The square of g, from the squares of its halves and their product.
-fn square(g: u64) -> Wide
-    requires { ⌜ g < 2 ^ 53 ⌝ }
-    ensures { λ r. ⌜ (g * g ≡ r .hi * 2 ^ 54 + r .lo) × (r .hi < 2 ^ 53) × (r .lo < 2 ^ 55) ⌝ }
+// The same, digit by digit.
+fn slow_in(m: u64, v: u64) -> f64
+    requires { ⌜ (2 ^ 52 ≤ m) × (m < 2 ^ 53) × (970 ≤ v) × (v < 3068) ⌝ }
+    ensures { λ r. ⌜ r ≡ rootIn (m * 2 ^ (52 + v)) ⌝ }
 {
-    let a = g / 0x800_0000;
-    let c = g % 0x800_0000;
-    let t = a * c;
-    Wide {
-        hi: a * a + t / 0x400_0000,
-        lo: t % 0x400_0000 * 0x1000_0000 + c * c,
-    }
+    placed(m, v, slow_root(m << (v % 2)))
 }
 
-// The same from a guess g: g or its neighbour where the squares show that it is nearest, and digit by digit where neither is.
-fn root_near(n: u64, g: u64) -> u64
-    requires { ⌜ (2 ^ 52 ≤ n) × (n < 2 ^ 54) × (2 ^ 52 ≤ g) × (g < 2 ^ 53) ⌝ }
-    ensures { λ r. ⌜ NearestWhole (n * 2 ^ 52) r ⌝ }
+// The upper 64 bits of the product, from halves of 32 bits.
+fn high(u: u64, v: u64) -> u64
+    ensures { λ r. ⌜ r ≡ u * v / 2 ^ 64 ⌝ }
 {
-    let s = square(g);
-    let hi = s.hi;
-    let lo = s.lo;
-    let top = n / 4 + 1;
-    if hi > top {
-        return slow_root(n);
-    }
-    let d = top - hi;
-    if d > 3 {
-        return slow_root(n);
-    }
-    // x - y = n * 2^52 + g - g * g
-    let x = d * 0x40_0000_0000_0000 + n % 4 * 0x10_0000_0000_0000 + g;
-    let y = lo + 0x40_0000_0000_0000;
-    if y < x {
-        if x <= y + 2 * g {
-            return g;
+    let u0 = u % 0x1_0000_0000;
+    let u1 = u >> 32;
+    let v0 = v % 0x1_0000_0000;
+    let v1 = v >> 32;
+    let low = u0 * v0;
+    let cross = u1 * v0 + (low >> 32);
+    let middle = cross % 0x1_0000_0000 + u0 * v1;
+    u1 * v1 + (cross >> 32) + (middle >> 32)
+}
+
+// Is g surely the whole number nearest to the root of n * 2^52? It is where g * (g + 1) reaches n * 2^52 and exceeds it by less than 2 * g.
+// Answering false is always allowed: where the lower halves of both would borrow, it does.
+fn judged(n: u64, g: u64) -> bool
+    requires { ⌜ g < 2 ^ 54 ⌝ }
+    ensures { λ r. ⌜ (r ≡ true → NearestWhole (n * 2 ^ 52) g) ⌝ }
+{
+    let low = words::wrapping_mul(g, g + 1);
+    let part = n << 52;
+    if high(g, g + 1) == n >> 12 {
+        if part <= low {
+            return low - part < 2 * g;
         }
-        if x <= y + 4 * g + 2 {
-            return g + 1;
-        }
-        return slow_root(n);
     }
-    if y + 2 < x + 2 * g {
-        return g - 1;
-    }
-    slow_root(n)
+    false
 }
 
-// A guess at 2^52 times the root of the value from 1 to 4 whose pattern is b, nearly always right or one off. Half the pattern, taken from a constant, is
-// roughly the pattern of the inverse root; two of Newton's steps sharpen it, and the last step goes on from the root itself.
-fn guess(b: u64) -> u64
-    requires { ⌜ b < 0x7FF0_0000_0000_0000 ⌝ }
-    ensures { λ r. ⌜ (2 ^ 52 ≤ r) × (r < 2 ^ 53) ⌝ }
-{
-    let x = f64::from_bits(b);
-    let y0 = f64::from_bits(0x5FE3_FFFF_0000_0000 - b / 2);
-    let y1 = y0 * (1.68191391 - ((0.703952253 * x) * y0) * y0);
-    let y2 = y1 * (1.5 - ((0.5 * x) * y1) * y1);
-    let s = x * y2;
-    let e = 1.0 - s * y2;
-    let r = s + (s * e) * (0.5 + 0.375 * e);
-    if r != r {
-        return 0x10_0000_0000_0000;
-    }
-    f64::to_bits(r) % 0x10_0000_0000_0000 + 0x10_0000_0000_0000
-}
-
-// The value nearest to the root of m * 2^w, in units of 2^-1074.
-fn root_in(m: u64, w: u64) -> f64
-    requires { ⌜ (2 ^ 52 ≤ m) × (m < 2 ^ 53) × (1022 ≤ w) × (w < 3120) ⌝ }
-    ensures { λ r. ⌜ r ≡ rootIn (m * 2 ^ w) ⌝ }
-{
-    let p = w % 2;
-    let g = guess(m + (1022 + p) * 0x10_0000_0000_0000);
-    let q = root_near(m << p, g);
-    f64::from_bits(((w - 52) / 2) * 0x10_0000_0000_0000 + q)
-}
-
-// The root of the positive value whose pattern is b.
-fn positive_root(b: u64) -> f64
+// The root of the positive value whose pattern is b, digit by digit.
+fn slow_positive(b: u64) -> f64
     requires { ⌜ (0 < b) × (b < 0x7FF0_0000_0000_0000) ⌝ }
     ensures { λ r. ⌜ r ≡ rootOf (ofBits binary64 b) ⌝ }
 {
     let e = b / 0x10_0000_0000_0000;
     if e == 0 {
         let s = u64::leading_zeros(b) as u64 - 11;
-        return root_in(b << s, 1074 - s);
+        return slow_in(b << s, 1022 - s);
     }
-    root_in(b % 0x10_0000_0000_0000 + 0x10_0000_0000_0000, e + 1073)
+    slow_in(b % 0x10_0000_0000_0000 + 0x10_0000_0000_0000, e + 1021)
+}
+
+// The root of x, digit by digit, for every x.
+fn slow_sqrt(x: f64) -> f64
+    ensures { λ r. ⌜ r ≡ rootOf x ⌝ }
+{
+    if x != x {
+        return x;
+    }
+    let b = f64::to_bits(x);
+    if b == 0 {
+        return x;
+    }
+    if b < 0x7FF0_0000_0000_0000 {
+        return slow_positive(b);
+    }
+    if b == 0x7FF0_0000_0000_0000 {
+        return x;
+    }
+    if b == 0x8000_0000_0000_0000 {
+        return x;
+    }
+    0.0 / 0.0
+}
+
+// The value of a normal pattern b without its exponent's even part: from 1 to 4, in units of 2^-62.
+fn reduced(b: u64) -> u64
+    requires { ⌜ (2 ^ 52 ≤ b) × (b < 0x7FF0_0000_0000_0000) ⌝ }
+    ensures { λ r. ⌜ r ≡ (b % 2 ^ 52 + 2 ^ 52) * 2 ^ ((b / 2 ^ 52 + 1021) % 2) * 2 ^ 10 ⌝ }
+{
+    let m = b % 0x10_0000_0000_0000 + 0x10_0000_0000_0000;
+    (m << 11) >> ((b >> 52) % 2)
+}
+
+// The root of x, whose pattern b is normal, where a guess at it is one off.
+fn beside(x: f64, b: u64, n: u64, g: u64) -> f64
+    requires { ⌜ (b ≡ toBits binary64 x) × (2 ^ 52 ≤ b) × (b < 0x7FF0_0000_0000_0000) × (n ≡ (b % 2 ^ 52 + 2 ^ 52) * 2 ^ ((b / 2 ^ 52 + 1021) % 2)) × (g < 2 ^ 54) ⌝ }
+    ensures { λ r. ⌜ r ≡ rootOf x ⌝ }
+{
+    let m = b % 0x10_0000_0000_0000 + 0x10_0000_0000_0000;
+    let v = (b >> 52) + 1021;
+    if g + 1 < 0x40_0000_0000_0000 {
+        if judged(n, g + 1) {
+            return placed(m, v, g + 1);
+        }
+    }
+    if 1 <= g {
+        if judged(n, g - 1) {
+            return placed(m, v, g - 1);
+        }
+    }
+    slow_sqrt(x)
 }
 
 // The binary64 nearest to the exact square root of x. NaN and what is below zero give NaN; either zero and +infinity give themselves.
@@ -155,17 +173,17 @@ pub fn sqrt(x: f64) -> f64
         return x;
     }
     let b = f64::to_bits(x);
-    if b == 0 {
-        return x;
+    let e = b >> 52;
+    if 1 <= e {
+        if e < 2047 {
+            let y = reduced(b);
+            let n = y >> 10;
+            let g = guess::guess((b >> 44) % 512, y);
+            if judged(n, g) {
+                return placed(b % 0x10_0000_0000_0000 + 0x10_0000_0000_0000, e + 1021, g);
+            }
+            return beside(x, b, n, g);
+        }
     }
-    if b < 0x7FF0_0000_0000_0000 {
-        return positive_root(b);
-    }
-    if b == 0x7FF0_0000_0000_0000 {
-        return x;
-    }
-    if b == 0x8000_0000_0000_0000 {
-        return x;
-    }
-    0.0 / 0.0
+    slow_sqrt(x)
 }

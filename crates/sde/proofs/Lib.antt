@@ -3,6 +3,7 @@ pub mod Counted
 pub mod Mask
 pub mod Changes
 pub mod Factors
+pub mod Ends
 pub mod OneWay
 pub mod Each
 pub mod Skips
@@ -11,3 +12,4 @@ pub mod Cells
 pub mod Walks
 pub mod Members
 pub mod Tested
+pub mod Rates

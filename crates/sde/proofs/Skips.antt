@@ -1,8 +1,8 @@
--- The table of skips: it is filled cell by cell, and a loop may step over places whose change is 0, since noise and drift leave them as they are.
--- Assumes nothing.
+-- The table of skips: it is filled cell by cell, and a loop may step over places whose change is 0, since noise and drift leave them as they are;
+-- where it stops, the change is not 0. Assumes nothing.
 use Prim.Native.Nat.{ℕ, _+_, _*_, _/_, _%_, _≤_, _<_}
 use mathlib.Core.Path.{_≡_, sym, ap, _∙_, subst}
-use mathlib.Core.Bool.{Bool, true}
+use mathlib.Core.Bool.{Bool, true, false}
 use mathlib.Core.List.{List}
 use native.Mathlib.Omega.{arith}
 use lib.Dec.{eqb, ltb}
@@ -47,17 +47,27 @@ module _ (places j : ℕ) (changes : List Float) (skips : List ℕ) where
 
 -- ---- the way from p on
 
-module _ (places from : ℕ) (changes : List Float) (p q : ℕ) where
-  pub skip-none : p ≡ q → Skip places from changes p q
-  skip-none e = record { low = omega arith; high = λ h. omega arith; idle = λ r l h. absurd (omega arith) }
+-- no place from p to before q is changed; place q has yet to be looked at
+pub record Idle (places from : ℕ) (changes : List Float) (p q : ℕ) : Type 0 where
+  pub low : p ≤ q
+  pub high : p ≤ places → q ≤ places
+  pub idle : (r : ℕ) → p ≤ r → r < q → eq (getD changes (from + r) nan) zero64 ≡ true
 
-  pub skip-more : q < places → Skip places from changes p q → eq (getD changes (from + q) nan) zero64 ≡ true → Skip places from changes p (q + 1)
-  skip-more h s e =
+module _ (places from : ℕ) (changes : List Float) (p q : ℕ) where
+  pub idle-none : p ≡ q → Idle places from changes p q
+  idle-none e = record { low = omega arith; high = λ h. omega arith; idle = λ r l h. absurd (omega arith) }
+
+  pub idle-more : q < places → Idle places from changes p q → eq (getD changes (from + q) nan) zero64 ≡ true → Idle places from changes p (q + 1)
+  idle-more h s e =
       record {
         low = omega (arith, s .low);
         high = λ k. omega arith;
         idle = λ r l k. on-bool (eqb r q) (λ y. ap (λ (x : ℕ). eq (getD changes (from + x) nan) zero64) (eqb-true r q y) ∙ e) (λ y. s .idle r l (omega (arith, eqb-false r q y)));
       }
+
+  -- at a place that is changed, or past the last
+  pub skip-here : Idle places from changes p q → (q < places → eq (getD changes (from + q) nan) zero64 ≡ false) → Skip places from changes p q
+  skip-here s e = record { low = s .low; high = s .high; idle = s .idle; changed = e }
 
 -- ---- the loop
 
@@ -75,3 +85,9 @@ noise-idle d noise v e = ap (λ (b : Bool). pick b v (add binary64 v (mul binary
 
 pub drift-idle : (d a dt v : Float) → eq d zero64 ≡ true → driftBy d a dt v ≡ v
 drift-idle d a dt v e = ap (λ (b : Bool). pick b v (add binary64 v (mul binary64 (mul binary64 d a) dt))) e
+
+pub noise-changed : (d noise v : Float) → eq d zero64 ≡ false → add binary64 v (mul binary64 d noise) ≡ noiseBy d noise v
+noise-changed d noise v e = sym (ap (λ (b : Bool). pick b v (add binary64 v (mul binary64 d noise))) e)
+
+pub drift-changed : (d a dt v : Float) → eq d zero64 ≡ false → add binary64 v (mul binary64 (mul binary64 d a) dt) ≡ driftBy d a dt v
+drift-changed d a dt v e = sym (ap (λ (b : Bool). pick b v (add binary64 v (mul binary64 (mul binary64 d a) dt))) e)

@@ -22,6 +22,7 @@ ghost use Rattle.sde.specs.Summed as Summed;
 use crate::DiffusionAnswer;
 use crate::change;
 use crate::gated;
+use crate::propensity;
 use crate::walk;
 use averages::moments;
 use averages::request;
@@ -51,6 +52,7 @@ fn sum_paths<'a>(
     weight: &'a [u64; 1024],
     changes: &'a [f64; 2048],
     skips: &'a [usize; 2112],
+    ends: &'a [usize; 64],
     n: usize,
     realizations: u64,
     seed: u64,
@@ -62,7 +64,7 @@ fn sum_paths<'a>(
     path: &mut [f64],
 ) -> u64
     requires { ⌜ Sound.Sound (lent places transitions (now initial) (now capacity) (now rate) (now delay) (now arcs) (now kind) (now place) (now weight))
-        × Slots.Tables (lent places transitions (now initial) (now capacity) (now rate) (now delay) (now arcs) (now kind) (now place) (now weight)) (now changes) (now skips)
+        × Slots.Tables (lent places transitions (now initial) (now capacity) (now rate) (now delay) (now arcs) (now kind) (now place) (now weight)) (now changes) (now skips) (now ends)
         × (dt ≡ Diffusion.stepOf n horizon) × (root ≡ rootOf dt)
         × (1 ≤ n) × (n ≤ 1024) × (1 ≤ realizations)
         × (places * n ≤ length (now mean)) × (places * n ≤ length (now deviation)) × (places * n ≤ length (now path)) ⌝ }
@@ -94,6 +96,7 @@ fn sum_paths<'a>(
             weight,
             changes,
             skips,
+            ends,
             n,
             dt,
             root,
@@ -149,6 +152,7 @@ fn averaged<'a>(
     weight: &'a [u64; 1024],
     changes: &'a [f64; 2048],
     skips: &'a [usize; 2112],
+    ends: &'a [usize; 64],
     n: usize,
     realizations: u64,
     seed: u64,
@@ -160,7 +164,7 @@ fn averaged<'a>(
     path: &mut [f64],
 ) -> DiffusionAnswer
     requires { ⌜ Sound.Sound (lent places transitions (now initial) (now capacity) (now rate) (now delay) (now arcs) (now kind) (now place) (now weight))
-        × Slots.Tables (lent places transitions (now initial) (now capacity) (now rate) (now delay) (now arcs) (now kind) (now place) (now weight)) (now changes) (now skips)
+        × Slots.Tables (lent places transitions (now initial) (now capacity) (now rate) (now delay) (now arcs) (now kind) (now place) (now weight)) (now changes) (now skips) (now ends)
         × (dt ≡ Diffusion.stepOf n horizon) × (root ≡ rootOf dt)
         × (1 ≤ n) × (n ≤ 1024) × (1 ≤ realizations) × (realizations ≤ 65_535)
         × (places * n ≤ length (now mean)) × (places * n ≤ length (now deviation)) × (places * n ≤ length (now path)) ⌝ }
@@ -183,6 +187,7 @@ fn averaged<'a>(
         weight,
         changes,
         skips,
+        ends,
         n,
         realizations,
         seed,
@@ -249,13 +254,15 @@ pub fn lent_run<'a>(
     if gated::is_gated(g) {
         return DiffusionAnswer::Gated(g);
     }
+    let mut rates = [0.0; 64];
+    propensity::fill_rates(transitions, rate, delay, &mut rates);
     let mut changes = [0.0; 2048];
     change::fill_changes(
         places,
         transitions,
         initial,
         capacity,
-        rate,
+        &rates,
         delay,
         arcs,
         kind,
@@ -265,6 +272,8 @@ pub fn lent_run<'a>(
     );
     let mut skips: [usize; 2112] = [0; 2112];
     change::fill_skips(&changes, places, transitions, &mut skips);
+    let mut ends: [usize; 64] = [0; 64];
+    propensity::fill_ends(transitions, arcs, kind, &mut ends);
     let dt = width(samples as u32, horizon);
     let root = root::sqrt(dt);
     let n = samples as usize;
@@ -273,7 +282,7 @@ pub fn lent_run<'a>(
         transitions,
         initial,
         capacity,
-        rate,
+        &rates,
         delay,
         arcs,
         kind,
@@ -281,6 +290,7 @@ pub fn lent_run<'a>(
         weight,
         &changes,
         &skips,
+        &ends,
         n,
         realizations,
         seed,

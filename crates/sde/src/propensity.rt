@@ -2,7 +2,7 @@
 ghost use mathlib.Core.Path.{_≡_};
 ghost use mathlib.Core.Bool.{_&&_};
 ghost use Prim.Native.Nat.{ℕ, _-_, _*_, _+_, _<_, _≤_};
-ghost use lib.Ieee.{binary64, mul, lt, le, eq};
+ghost use lib.Ieee.{le};
 ghost use lib.Dec.{eqb};
 ghost use lib.ListN as ListN;
 ghost use Rattle.net.specs.Net as Reader;
@@ -81,7 +81,7 @@ fn product<'a>(
 
 // The rate of a transition: 0 where it runs by a timer, and 1 where none is given.
 fn rate_of(rate: f64, delay: f64) -> f64
-    ensures { λ r. ⌜ r ≡ Reader.pick (lt Reader.zero64 delay) Reader.zero64 (Reader.pick (eq rate Reader.zero64) Reader.one64 rate) ⌝ }
+    ensures { λ r. ⌜ r ≡ Slots.tidy rate delay ⌝ }
 {
     if 0.0 < delay {
         return 0.0;
@@ -92,7 +92,62 @@ fn rate_of(rate: f64, delay: f64) -> f64
     rate
 }
 
-// The propensity of transition j, at this state.
+// Tidies the rates, once a call.
+pub fn fill_rates<'a>(
+    transitions: usize,
+    rate: &'a [f64; 64],
+    delay: &'a [f64; 64],
+    rates: &mut [f64; 64],
+)
+    requires { ⌜ (transitions ≤ 64) × (ListN.length (now rates) ≡ 64) ⌝ }
+    ensures { λ _. ⌜ Slots.Tidied transitions (now (rate .entry)) (now (delay .entry)) (now (rates .exit)) ⌝ }
+{
+    let mut j: usize = 0;
+    while j < transitions {
+        let r = rate_of(rate[j], delay[j]);
+        rates[j] = r;
+        j += 1;
+    }
+}
+
+// One past the last kinetic take of the slots from `from` to before `end`, or `from` where there is none.
+fn kinetic_end(kind: &[u64; 1024], from: usize, end: usize) -> usize
+    requires { ⌜ (from ≤ end) × (end ≤ 1024) ⌝ }
+    ensures { λ e. ⌜ Slots.KineticEnd (now (kind .entry)) from end e ⌝ }
+{
+    let mut e = end;
+    while from < e {
+        let last = e - 1;
+        if kind[last] == 0 {
+            return e;
+        }
+        e = last;
+    }
+    e
+}
+
+// Fills the table of ends, once a call: the slots from there on have no kinetic take.
+pub fn fill_ends<'a>(
+    transitions: usize,
+    arcs: &'a [usize; 64],
+    kind: &'a [u64; 1024],
+    ends: &mut [usize; 64],
+)
+    requires { ⌜ (transitions ≤ 64) × ((j : ℕ) → j < transitions → ListN.getD (now arcs) j 0 ≤ 16) × (ListN.length (now ends) ≡ 64) ⌝ }
+    ensures { λ _. ⌜ Slots.EndsOf transitions (now (arcs .entry)) (now (kind .entry)) (now (ends .exit)) ⌝ }
+{
+    let mut j: usize = 0;
+    while j < transitions {
+        let next = j + 1;
+        let from = 16 * j;
+        let end = from + arcs[j];
+        let e = kinetic_end(kind, from, end);
+        ends[j] = e;
+        j = next;
+    }
+}
+
+// The propensity of transition j, at this state; the rates are tidy.
 pub fn propensity<'a>(
     places: usize,
     transitions: usize,
@@ -104,15 +159,15 @@ pub fn propensity<'a>(
     kind: &'a [u64; 1024],
     place: &'a [usize; 1024],
     weight: &'a [u64; 1024],
+    ends: &'a [usize; 64],
     x: &[f64; 32],
     j: usize,
 ) -> f64
-    requires { ⌜ (j < transitions) × Sound.Sound (lent places transitions (now initial) (now capacity) (now rate) (now delay) (now arcs) (now kind) (now place) (now weight)) ⌝ }
+    requires { ⌜ (j < transitions) × Sound.Sound (lent places transitions (now initial) (now capacity) (now rate) (now delay) (now arcs) (now kind) (now place) (now weight))
+        × Slots.Rated (lent places transitions (now initial) (now capacity) (now rate) (now delay) (now arcs) (now kind) (now place) (now weight))
+        × Slots.Ends (lent places transitions (now initial) (now capacity) (now rate) (now delay) (now arcs) (now kind) (now place) (now weight)) (now ends) ⌝ }
     ensures { λ r. ⌜ r ≡ Diffusion.propensity (ListN.take places (now (x .entry))) (Record.transition (lent places transitions (now (initial .entry)) (now (capacity .entry)) (now (rate .entry)) (now (delay .entry))
         (now (arcs .entry)) (now (kind .entry)) (now (place .entry)) (now (weight .entry))) j) ⌝ }
 {
-    let from = 16 * j;
-    let end = from + arcs[j];
-    let r = rate_of(rate[j], delay[j]);
-    product(kind, place, weight, places, x, from, end, r)
+    product(kind, place, weight, places, x, 16 * j, ends[j], rate[j])
 }

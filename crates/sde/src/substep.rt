@@ -22,26 +22,6 @@ pub struct Pushed {
     pub stopped: bool,
 }
 
-// v more by the noise of a transition that changes its place by d.
-fn with_noise(v: f64, d: f64, noise: f64) -> f64
-    ensures { λ r. ⌜ r ≡ Diffusion.noiseBy d noise v ⌝ }
-{
-    if d == 0.0 {
-        return v;
-    }
-    v + d * noise
-}
-
-// v more by the drift of a transition of propensity a that changes its place by d.
-fn with_drift(v: f64, d: f64, a: f64, dt: f64) -> f64
-    ensures { λ r. ⌜ r ≡ Diffusion.driftBy d a dt v ⌝ }
-{
-    if d == 0.0 {
-        return v;
-    }
-    v + d * a * dt
-}
-
 // The noise and the drift of transition j, at the places that it changes.
 fn spread(
     changes: &[f64; 2048],
@@ -64,9 +44,9 @@ fn spread(
     while p < places {
         let q = p + 1;
         let d = changes[from + p];
-        let v = with_noise(x[p], d, noise);
+        let v = x[p] + d * noise;
         x[p] = v;
-        let w = with_drift(drift[p], d, a, dt);
+        let w = drift[p] + d * a * dt;
         drift[p] = w;
         p = skips[first + q];
     }
@@ -108,75 +88,7 @@ fn settle(places: usize, drift: &[f64; 32], x: &mut [f64; 32])
     }
 }
 
-// Transition j: its noise and its drift, with one draw; nothing, and no draw, where its propensity is 0.
-fn push<'a>(
-    places: usize,
-    transitions: usize,
-    initial: &'a [u64; 32],
-    capacity: &'a [u64; 32],
-    rate: &'a [f64; 64],
-    delay: &'a [f64; 64],
-    arcs: &'a [usize; 64],
-    kind: &'a [u64; 1024],
-    place: &'a [usize; 1024],
-    weight: &'a [u64; 1024],
-    changes: &'a [f64; 2048],
-    skips: &'a [usize; 2112],
-    dt: f64,
-    root: f64,
-    x: &mut [f64; 32],
-    drift: &mut [f64; 32],
-    sampler: GaussianSampler,
-    j: usize,
-) -> Pushed
-    requires { ⌜ (j < transitions) × Sound.Sound (lent places transitions (now initial) (now capacity) (now rate) (now delay) (now arcs) (now kind) (now place) (now weight))
-        × Slots.Tables (lent places transitions (now initial) (now capacity) (now rate) (now delay) (now arcs) (now kind) (now place) (now weight)) (now changes) (now skips)
-        × (root ≡ rootOf dt) × Engine.Lengths (now x) (now drift) ⌝ }
-    ensures { λ r. ⌜ (Engine.unless (r .stopped) (Engine.goingOf places (now (x .exit)) (now (drift .exit)) (r .sampler))
-        ≡ Diffusion.pushed dt (Record.transition (lent places transitions (now (initial .entry)) (now (capacity .entry)) (now (rate .entry)) (now (delay .entry))
-        (now (arcs .entry)) (now (kind .entry)) (now (place .entry)) (now (weight .entry))) j) (Engine.goingOf places (now (x .entry)) (now (drift .entry)) sampler))
-        × Engine.Lengths (now (x .exit)) (now (drift .exit)) ⌝ }
-{
-    let a = propensity::propensity(
-        places,
-        transitions,
-        initial,
-        capacity,
-        rate,
-        delay,
-        arcs,
-        kind,
-        place,
-        weight,
-        x,
-        j,
-    );
-    if a == 0.0 {
-        return Pushed {
-            sampler: sampler,
-            stopped: false,
-        };
-    }
-    let drawn = sampler.normal();
-    let draw = drawn.draw;
-    let after = drawn.sampler;
-    match draw {
-        Draw::Value(z) => {
-            let noise = root::sqrt(a) * root * z;
-            spread(changes, skips, places, j, a, dt, noise, x, drift);
-            Pushed {
-                sampler: after,
-                stopped: false,
-            }
-        }
-        Draw::Refused => Pushed {
-            sampler: after,
-            stopped: true,
-        },
-    }
-}
-
-// All transitions, in their order.
+// All transitions, in their order: the noise and the drift of each, with one draw; nothing, and no draw, where its propensity is 0.
 fn push_all<'a>(
     places: usize,
     transitions: usize,
@@ -190,6 +102,7 @@ fn push_all<'a>(
     weight: &'a [u64; 1024],
     changes: &'a [f64; 2048],
     skips: &'a [usize; 2112],
+    ends: &'a [usize; 64],
     dt: f64,
     root: f64,
     x: &mut [f64; 32],
@@ -197,7 +110,7 @@ fn push_all<'a>(
     sampler: GaussianSampler,
 ) -> Pushed
     requires { ⌜ Sound.Sound (lent places transitions (now initial) (now capacity) (now rate) (now delay) (now arcs) (now kind) (now place) (now weight))
-        × Slots.Tables (lent places transitions (now initial) (now capacity) (now rate) (now delay) (now arcs) (now kind) (now place) (now weight)) (now changes) (now skips)
+        × Slots.Tables (lent places transitions (now initial) (now capacity) (now rate) (now delay) (now arcs) (now kind) (now place) (now weight)) (now changes) (now skips) (now ends)
         × (root ≡ rootOf dt) × Engine.Lengths (now x) (now drift) ⌝ }
     ensures { λ r. ⌜ (Engine.unless (r .stopped) (Engine.goingOf places (now (x .exit)) (now (drift .exit)) (r .sampler))
         ≡ Diffusion.pushedAll dt (Record.transitionsFrom (lent places transitions (now (initial .entry)) (now (capacity .entry)) (now (rate .entry)) (now (delay .entry))
@@ -208,7 +121,7 @@ fn push_all<'a>(
     let mut j: usize = 0;
     while j < transitions {
         let next = j + 1;
-        let p = push(
+        let a = propensity::propensity(
             places,
             transitions,
             initial,
@@ -219,19 +132,27 @@ fn push_all<'a>(
             kind,
             place,
             weight,
-            changes,
-            skips,
-            dt,
-            root,
+            ends,
             x,
-            drift,
-            s,
             j,
         );
-        if p.stopped {
-            return p;
+        if a == 0.0 {} else {
+            let drawn = s.normal();
+            let draw = drawn.draw;
+            s = drawn.sampler;
+            match draw {
+                Draw::Value(z) => {
+                    let noise = root::sqrt(a) * root * z;
+                    spread(changes, skips, places, j, a, dt, noise, x, drift);
+                }
+                Draw::Refused => {
+                    return Pushed {
+                        sampler: s,
+                        stopped: true,
+                    };
+                }
+            }
         }
-        s = p.sampler;
         j = next;
     }
     Pushed {
@@ -254,6 +175,7 @@ pub fn substep<'a>(
     weight: &'a [u64; 1024],
     changes: &'a [f64; 2048],
     skips: &'a [usize; 2112],
+    ends: &'a [usize; 64],
     dt: f64,
     root: f64,
     x: &mut [f64; 32],
@@ -261,7 +183,7 @@ pub fn substep<'a>(
     sampler: GaussianSampler,
 ) -> Pushed
     requires { ⌜ Sound.Sound (lent places transitions (now initial) (now capacity) (now rate) (now delay) (now arcs) (now kind) (now place) (now weight))
-        × Slots.Tables (lent places transitions (now initial) (now capacity) (now rate) (now delay) (now arcs) (now kind) (now place) (now weight)) (now changes) (now skips)
+        × Slots.Tables (lent places transitions (now initial) (now capacity) (now rate) (now delay) (now arcs) (now kind) (now place) (now weight)) (now changes) (now skips) (now ends)
         × (root ≡ rootOf dt) × Engine.Lengths (now x) (now drift) ⌝ }
     ensures { λ r. ⌜ (Engine.unless (r .stopped) (Engine.stateOf places (now (x .exit)) (r .sampler))
         ≡ Diffusion.substep (Record.readable (lent places transitions (now (initial .entry)) (now (capacity .entry)) (now (rate .entry)) (now (delay .entry))
@@ -282,6 +204,7 @@ pub fn substep<'a>(
         weight,
         changes,
         skips,
+        ends,
         dt,
         root,
         x,
@@ -311,6 +234,7 @@ pub fn over_interval<'a>(
     weight: &'a [u64; 1024],
     changes: &'a [f64; 2048],
     skips: &'a [usize; 2112],
+    ends: &'a [usize; 64],
     dt: f64,
     root: f64,
     x: &mut [f64; 32],
@@ -318,7 +242,7 @@ pub fn over_interval<'a>(
     sampler: GaussianSampler,
 ) -> Pushed
     requires { ⌜ Sound.Sound (lent places transitions (now initial) (now capacity) (now rate) (now delay) (now arcs) (now kind) (now place) (now weight))
-        × Slots.Tables (lent places transitions (now initial) (now capacity) (now rate) (now delay) (now arcs) (now kind) (now place) (now weight)) (now changes) (now skips)
+        × Slots.Tables (lent places transitions (now initial) (now capacity) (now rate) (now delay) (now arcs) (now kind) (now place) (now weight)) (now changes) (now skips) (now ends)
         × (root ≡ rootOf dt) × Engine.Lengths (now x) (now drift) ⌝ }
     ensures { λ r. ⌜ (Engine.unless (r .stopped) (Engine.stateOf places (now (x .exit)) (r .sampler))
         ≡ Diffusion.overInterval (Record.readable (lent places transitions (now (initial .entry)) (now (capacity .entry)) (now (rate .entry)) (now (delay .entry))
@@ -343,6 +267,7 @@ pub fn over_interval<'a>(
                 weight,
                 changes,
                 skips,
+                ends,
                 dt,
                 root,
                 x,

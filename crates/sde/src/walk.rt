@@ -36,7 +36,7 @@ fn first_state(places: usize, initial: &[u64; 32], x: &mut [f64; 32])
 {
     let mut p: usize = 0;
     while p < places {
-        let v = initial[p] as f64;
+        let v = initial[p] as i64 as f64;
         x[p] = v;
         p += 1;
     }
@@ -56,6 +56,7 @@ fn walk_on<'a>(
     weight: &'a [u64; 1024],
     changes: &'a [f64; 2048],
     skips: &'a [usize; 2112],
+    ends: &'a [usize; 64],
     n: usize,
     dt: f64,
     root: f64,
@@ -65,7 +66,7 @@ fn walk_on<'a>(
     table: &mut [f64],
 ) -> bool
     requires { ⌜ Sound.Sound (lent places transitions (now initial) (now capacity) (now rate) (now delay) (now arcs) (now kind) (now place) (now weight))
-        × Slots.Tables (lent places transitions (now initial) (now capacity) (now rate) (now delay) (now arcs) (now kind) (now place) (now weight)) (now changes) (now skips)
+        × Slots.Tables (lent places transitions (now initial) (now capacity) (now rate) (now delay) (now arcs) (now kind) (now place) (now weight)) (now changes) (now skips) (now ends)
         × (root ≡ rootOf dt) × Engine.Lengths (now x) (now drift)
         × (1 ≤ n) × (n ≤ 1024) × (places * n ≤ length (now table))
         × ((p : ℕ) → p < places → getD (now table) (p * n + 0) nan ≡ getD (now x) p nan) ⌝ }
@@ -92,6 +93,7 @@ fn walk_on<'a>(
             weight,
             changes,
             skips,
+            ends,
             dt,
             root,
             x,
@@ -122,6 +124,7 @@ pub fn walk<'a>(
     weight: &'a [u64; 1024],
     changes: &'a [f64; 2048],
     skips: &'a [usize; 2112],
+    ends: &'a [usize; 64],
     n: usize,
     dt: f64,
     root: f64,
@@ -131,7 +134,7 @@ pub fn walk<'a>(
     table: &mut [f64],
 ) -> bool
     requires { ⌜ Sound.Sound (lent places transitions (now initial) (now capacity) (now rate) (now delay) (now arcs) (now kind) (now place) (now weight))
-        × Slots.Tables (lent places transitions (now initial) (now capacity) (now rate) (now delay) (now arcs) (now kind) (now place) (now weight)) (now changes) (now skips)
+        × Slots.Tables (lent places transitions (now initial) (now capacity) (now rate) (now delay) (now arcs) (now kind) (now place) (now weight)) (now changes) (now skips) (now ends)
         × (root ≡ rootOf dt) × Engine.Lengths (now x) (now drift)
         × (1 ≤ n) × (n ≤ 1024) × (places * n ≤ length (now table)) ⌝ }
     ensures { λ r. ⌜ (Engine.unless r (ListN.take (places * n) (now (table .exit)))
@@ -156,6 +159,7 @@ pub fn walk<'a>(
         weight,
         changes,
         skips,
+        ends,
         n,
         dt,
         root,

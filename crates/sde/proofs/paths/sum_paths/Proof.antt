@@ -19,7 +19,7 @@ abbrev asked : ℕ → ℕ → ℕ → Float → Request
 asked n realizations seed horizon = record { samples = n; realizations = realizations; seed = seed; horizon = horizon }
 
 abbrev Inv-loop : tie.InvT-loop
-Inv-loop places transitions initial capacity rate delay arcs kind place weight changes skips n realizations seed horizon dt root mean₀ deviation₀ path₀ cells x₀ drift₀ k₀ mean deviation path x drift k =
+Inv-loop places transitions initial capacity rate delay arcs kind place weight changes skips ends n realizations seed horizon dt root mean₀ deviation₀ path₀ cells x₀ drift₀ k₀ mean deviation path x drift k =
     let net = lent places transitions initial capacity rate delay arcs kind place weight in
     (k ≤ realizations)
     × Sums (readable net) (asked n realizations seed horizon) (places * n) k mean₀ deviation₀ path₀ mean deviation path
@@ -28,7 +28,7 @@ Inv-loop places transitions initial capacity rate delay arcs kind place weight c
     × (length deviation ≡ length deviation₀)
 
 abbrev μ-loop : tie.MeasureT-loop
-μ-loop places transitions initial capacity rate delay arcs kind place weight changes skips n realizations seed horizon dt root mean₀ deviation₀ path₀ cells x₀ drift₀ k₀ mean deviation path x drift k = realizations - k
+μ-loop places transitions initial capacity rate delay arcs kind place weight changes skips ends n realizations seed horizon dt root mean₀ deviation₀ path₀ cells x₀ drift₀ k₀ mean deviation path x drift k = realizations - k
 
 abbrev netAt : tie.Start Inv-loop μ-loop → NetRecord
 netAt s =

@@ -13,14 +13,14 @@ use Rattle.sde.proofs.substep.over_interval.Statement.{statement}
 use Rattle.sde.proofs.substep.over_interval.Tie as tie
 
 abbrev Inv-loop : tie.InvT-loop
-Inv-loop places transitions initial capacity rate delay arcs kind place weight changes skips dt root x₀ drift₀ s₀ i₀ x drift s i =
+Inv-loop places transitions initial capacity rate delay arcs kind place weight changes skips ends dt root x₀ drift₀ s₀ i₀ x drift s i =
     let net = lent places transitions initial capacity rate delay arcs kind place weight in
     (i ≤ 20)
     × (repeated (20 - i) (substep (readable net) dt) (stateOf places x s) ≡ overInterval (readable net) dt (stateOf places x₀ s₀))
     × Lengths x drift
 
 abbrev μ-loop : tie.MeasureT-loop
-μ-loop places transitions initial capacity rate delay arcs kind place weight changes skips dt root x₀ drift₀ s₀ i₀ x drift s i = 20 - i
+μ-loop places transitions initial capacity rate delay arcs kind place weight changes skips ends dt root x₀ drift₀ s₀ i₀ x drift s i = 20 - i
 
 abbrev netAt : tie.Start Inv-loop μ-loop → NetRecord
 netAt s =

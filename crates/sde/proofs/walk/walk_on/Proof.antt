@@ -16,7 +16,7 @@ use Rattle.sde.proofs.walk.walk_on.Statement.{statement}
 use Rattle.sde.proofs.walk.walk_on.Tie as tie
 
 abbrev Inv-loop : tie.InvT-loop
-Inv-loop places transitions initial capacity rate delay arcs kind place weight changes skips n dt root x₀ drift₀ table₀ s₀ i₀ x drift table s i =
+Inv-loop places transitions initial capacity rate delay arcs kind place weight changes skips ends n dt root x₀ drift₀ table₀ s₀ i₀ x drift table s i =
     let net = lent places transitions initial capacity rate delay arcs kind place weight in
     (i ≤ n)
     × Progress places n i (preceded (take places x₀ ∷ []) (further (n - 1) (overInterval (readable net) dt) (stateOf places x₀ s₀)))
@@ -24,7 +24,7 @@ Inv-loop places transitions initial capacity rate delay arcs kind place weight c
     × Lengths x drift
 
 abbrev μ-loop : tie.MeasureT-loop
-μ-loop places transitions initial capacity rate delay arcs kind place weight changes skips n dt root x₀ drift₀ table₀ s₀ i₀ x drift table s i = n - i
+μ-loop places transitions initial capacity rate delay arcs kind place weight changes skips ends n dt root x₀ drift₀ table₀ s₀ i₀ x drift table s i = n - i
 
 abbrev netAt : tie.Start Inv-loop μ-loop → NetRecord
 netAt s =
