@@ -3,6 +3,7 @@ pub mod Open
 pub mod Room
 pub mod Limits
 pub mod Lists
+pub mod Copying
 pub mod Tidying
 pub mod Marks
 pub mod OneWay

@@ -1,6 +1,7 @@
 // A path of a stochastic Petri net, drawn from a generator's state.
 mod accept;
 mod event;
+mod firing;
 mod marking;
 mod members;
 mod record;

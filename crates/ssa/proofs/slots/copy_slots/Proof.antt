@@ -1,4 +1,4 @@
--- What is copied, then what is left of the group, is the whole group (Tidying, Copying). Assumes nothing.
+-- What is copied, then what is left of the group, is the whole group (proofs/Copying). Assumes nothing.
 use borrow.Author.Needs.{needs}
 use native.Mathlib.Omega.{arith}
 use mathlib.Core.Path.{_∙_, subst, subst⁻¹}
@@ -7,7 +7,7 @@ use Prim.Native.Nat.{_+_, _-_, _≤_}
 use Rattle.net.specs.Readable.{Slot, slotAt, slots}
 use Rattle.ssa.specs.Arcs.{ofGroup}
 use Rattle.ssa.proofs.Arcs.{slots-whole, slots-end}
-use Rattle.ssa.proofs.Tidying.{Copying, copying-none, copying-turn, copying-fits, copying-one, copied-all}
+use Rattle.ssa.proofs.Copying.{Copying, copying-none, copying-turn, copying-fits, copying-one, copied-all}
 use Rattle.ssa.proofs.slots.copy_slots.Statement.{statement}
 use Rattle.ssa.proofs.slots.copy_slots.Tie as tie
 

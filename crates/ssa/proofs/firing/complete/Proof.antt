@@ -7,8 +7,8 @@ use Rattle.net.specs.declared.Net.{Net as NetRecord}
 use Rattle.ssa.specs.Engine.{netOf, Counts}
 use Rattle.ssa.specs.Stepping.{Ready}
 use Rattle.ssa.proofs.Steps.{complete-at, complete-past}
-use Rattle.ssa.proofs.step.complete.Statement.{statement}
-use Rattle.ssa.proofs.step.complete.Tie as tie
+use Rattle.ssa.proofs.firing.complete.Statement.{statement}
+use Rattle.ssa.proofs.firing.complete.Tie as tie
 
 abbrev net : tie.Start → NetRecord
 net s =

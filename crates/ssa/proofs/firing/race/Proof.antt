@@ -9,8 +9,8 @@ use Rattle.net.specs.declared.Net.{Net as NetRecord}
 use Rattle.ssa.specs.Engine.{netOf, choiceOf, Counts}
 use Rattle.ssa.specs.Stepping.{Ready}
 use Rattle.ssa.proofs.Steps.{race-none, race-at, race-past}
-use Rattle.ssa.proofs.step.race.Statement.{statement}
-use Rattle.ssa.proofs.step.race.Tie as tie
+use Rattle.ssa.proofs.firing.race.Statement.{statement}
+use Rattle.ssa.proofs.firing.race.Tie as tie
 
 abbrev net : tie.Start → NetRecord
 net s =
