@@ -100,7 +100,7 @@ movesFault n j (suc k) = orElse (moveFault n j) (movesFault n (suc j) k)
 unfoldable pub fault : NetRecord → Option ℕ
 fault n =
     orElse (placesFault 0 (readable n .places))
-    (orElse (firstOf ((Refusal.wrongNumber, empty (readable n .places)) ∷ []))
+    (orElse (firstOf ((Refusal.badSize, empty (readable n .places)) ∷ []))
     (movesFault n 0 (n .transitions)))
 
 -- what an answer says: accepted, or refused by a number

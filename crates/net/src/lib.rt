@@ -49,7 +49,7 @@ pub fn place_fault(before: usize, strange: bool, initial: u64, capacity: u64) ->
     ensures { λ r. ⌜ Readable.meaning r ≡ Tests.firstOf (Tests.placeTests before strange (record { initial = initial; capacity = capacity })) ⌝ }
 {
     if bounds::MOST_PLACES <= before {
-        return Verdict::Refused(refusals::WRONG_NUMBER);
+        return Verdict::Refused(refusals::BAD_SIZE);
     }
     if strange {
         return Verdict::Refused(refusals::OUTSIDE_DOMAIN);
@@ -81,7 +81,7 @@ pub fn transition_fault<'a>(
         (Readable.transitionOf rate delay (Readable.slots (now (kind .entry)) (now (place .entry)) (now (weight .entry)) (16 * before) count))) ⌝ }
 {
     if bounds::too_many(places, before, count) {
-        return Verdict::Refused(refusals::WRONG_NUMBER);
+        return Verdict::Refused(refusals::BAD_SIZE);
     }
     let from = 16 * before;
     let end = from + count;
@@ -124,7 +124,7 @@ pub fn fields_fault<'a>(
         return Verdict::Refused(c);
     }
     if places == 0 {
-        return Verdict::Refused(refusals::WRONG_NUMBER);
+        return Verdict::Refused(refusals::BAD_SIZE);
     }
     transitions::transitions_fault(
         places,

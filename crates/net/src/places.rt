@@ -12,7 +12,7 @@ fn place_at<'a>(initial: &'a [u64; 32], capacity: &'a [u64; 32], p: usize) -> Ve
     ensures { λ r. ⌜ Readable.meaning r ≡ Tests.firstOf (Tests.placeTests p false (record { initial = getD (now (initial .entry)) p 0; capacity = getD (now (capacity .entry)) p 0 })) ⌝ }
 {
     if bounds::MOST_PLACES <= p {
-        return Verdict::Refused(refusals::WRONG_NUMBER);
+        return Verdict::Refused(refusals::BAD_SIZE);
     }
     crate::place_fault(p, false, initial[p], capacity[p])
 }

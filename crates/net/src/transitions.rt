@@ -23,7 +23,7 @@ fn transition_at<'a>(
         (now (arcs .entry)) (now (kind .entry)) (now (place .entry)) (now (weight .entry))) j ⌝ }
 {
     if bounds::MOST_TRANSITIONS <= j {
-        return Verdict::Refused(refusals::WRONG_NUMBER);
+        return Verdict::Refused(refusals::BAD_SIZE);
     }
     crate::transition_fault(
         places,

@@ -155,7 +155,7 @@ pub record MoveTaken (places transitions : ℕ) (strange : Bool) (rateBits delay
 
 -- a run line of the right form: "no place before the first … run line"; "Decimals … fit 64 bits, else 4"
 abbrev pub runTests : ℕ → Bool → List Test
-runTests places strange = (Refusal.wrongNumber, eqb places 0) ∷ (Refusal.outsideDomain, strange) ∷ []
+runTests places strange = (Refusal.badSize, eqb places 0) ∷ (Refusal.outsideDomain, strange) ∷ []
 
 -- ---- what the reading ends with
 

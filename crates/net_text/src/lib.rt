@@ -46,7 +46,7 @@ pub fn read_net(text: &[u8]) -> NetText
     ensures { λ r. ⌜ Answered.NetRead (now (text .entry)) r ⌝ }
 {
     if 8192 < text.len() {
-        return refused(refusals::WRONG_NUMBER, 0);
+        return refused(refusals::BAD_SIZE, 0);
     }
     let mut initial = [0u64; 32];
     let mut capacity = [0u64; 32];

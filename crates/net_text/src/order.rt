@@ -167,7 +167,7 @@ fn run_fault(places: usize, strange: bool) -> net::Verdict
     ensures { λ r. ⌜ Readable.meaning r ≡ Tests.firstOf (Spec.runTests places strange) ⌝ }
 {
     if places == 0 {
-        return net::Verdict::Refused(refusals::WRONG_NUMBER);
+        return net::Verdict::Refused(refusals::BAD_SIZE);
     }
     if strange {
         return net::Verdict::Refused(refusals::OUTSIDE_DOMAIN);
