@@ -2,6 +2,7 @@
 // slots.
 ghost use mathlib.Core.Path.{_≡_};
 ghost use mathlib.Core.Bool.{_||_};
+ghost use mathlib.Core.List.{List};
 ghost use Prim.Native.Nat.{_-_, _≤_};
 ghost use lib.Dec.{leb, ltb};
 ghost use Rattle.net.specs.Tests as Tests;
@@ -19,8 +20,10 @@ pub fn no_such_place<'a>(
     from: usize,
     end: usize,
 ) -> bool
-    requires { ⌜ end ≤ 1024 ⌝ }
-    ensures { λ r. ⌜ r ≡ Tests.any (λ (l : Readable.Slot). leb places (l .place)) (Readable.slots (now (kind .entry)) (now (place .entry)) (now (weight .entry)) from (end - from)) ⌝ }
+    ghost { List Readable.Slot }
+    requires { λ slots. ⌜ Readable.slots (now kind) (now place) (now weight) from (end - from) ≡ slots ⌝ }
+    requires { λ slots. ⌜ end ≤ 1024 ⌝ }
+    ensures { λ slots r. ⌜ r ≡ Tests.any (λ (l : Readable.Slot). leb places (l .place)) slots ⌝ }
 {
     let mut slot = from;
     while slot < end {
@@ -40,8 +43,10 @@ fn outside_arc<'a>(
     from: usize,
     end: usize,
 ) -> bool
-    requires { ⌜ end ≤ 1024 ⌝ }
-    ensures { λ r. ⌜ r ≡ Tests.any (λ (l : Readable.Slot). ltb 4 (l .kind) || ltb 1_000_000 (l .weight)) (Readable.slots (now (kind .entry)) (now (place .entry)) (now (weight .entry)) from (end - from)) ⌝ }
+    ghost { List Readable.Slot }
+    requires { λ slots. ⌜ Readable.slots (now kind) (now place) (now weight) from (end - from) ≡ slots ⌝ }
+    requires { λ slots. ⌜ end ≤ 1024 ⌝ }
+    ensures { λ slots r. ⌜ r ≡ Tests.any (λ (l : Readable.Slot). ltb 4 (l .kind) || ltb 1_000_000 (l .weight)) slots ⌝ }
 {
     let mut slot = from;
     while slot < end {
@@ -67,9 +72,10 @@ pub fn outside<'a>(
     from: usize,
     end: usize,
 ) -> bool
-    requires { ⌜ end ≤ 1024 ⌝ }
-    ensures { λ r. ⌜ r ≡ (strange || Readable.strange (Readable.slots (now (kind .entry)) (now (place .entry)) (now (weight .entry)) from (end - from))
-        || Tests.outside (Readable.transitionOf rate delay (Readable.slots (now (kind .entry)) (now (place .entry)) (now (weight .entry)) from (end - from)))) ⌝ }
+    ghost { List Readable.Slot }
+    requires { λ slots. ⌜ Readable.slots (now kind) (now place) (now weight) from (end - from) ≡ slots ⌝ }
+    requires { λ slots. ⌜ end ≤ 1024 ⌝ }
+    ensures { λ slots r. ⌜ r ≡ (strange || Readable.strange slots || Tests.outside (Readable.transitionOf rate delay slots)) ⌝ }
 {
     if strange {
         return true;

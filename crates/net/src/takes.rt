@@ -3,7 +3,7 @@
 ghost use mathlib.Core.Path.{_≡_};
 ghost use mathlib.Core.Bool.{_&&_};
 ghost use Prim.Native.Nat.{_+_, _-_, _≤_, _<_};
-ghost use mathlib.Core.List.{map};
+ghost use mathlib.Core.List.{List, map};
 ghost use lib.Dec.{eqb, leb, ltb};
 ghost use lib.ListN.{getD};
 ghost use lib.Ieee as Ieee;
@@ -31,8 +31,10 @@ fn taken_in<'a>(
     from: usize,
     end: usize,
 ) -> bool
-    requires { ⌜ end ≤ 1024 ⌝ }
-    ensures { λ r. ⌜ r ≡ Tests.any (λ (l : Readable.Slot). leb (l .kind) 1 && eqb p (l .place)) (Readable.slots (now (kind .entry)) (now (place .entry)) (now (weight .entry)) from (end - from)) ⌝ }
+    ghost { List Readable.Slot }
+    requires { λ slots. ⌜ Readable.slots (now kind) (now place) (now weight) from (end - from) ≡ slots ⌝ }
+    requires { λ slots. ⌜ end ≤ 1024 ⌝ }
+    ensures { λ slots r. ⌜ r ≡ Tests.any (λ (l : Readable.Slot). leb (l .kind) 1 && eqb p (l .place)) slots ⌝ }
 {
     let mut slot = from;
     while slot < end {
@@ -70,8 +72,10 @@ pub fn taken_twice<'a>(
     from: usize,
     end: usize,
 ) -> bool
-    requires { ⌜ end ≤ 1024 ⌝ }
-    ensures { λ r. ⌜ r ≡ Tests.twice (map (λ (k : NetSpec.Take). k .place) (Readable.takesOf (Readable.slots (now (kind .entry)) (now (place .entry)) (now (weight .entry)) from (end - from)))) ⌝ }
+    ghost { List Readable.Slot }
+    requires { λ slots. ⌜ Readable.slots (now kind) (now place) (now weight) from (end - from) ≡ slots ⌝ }
+    requires { λ slots. ⌜ end ≤ 1024 ⌝ }
+    ensures { λ slots r. ⌜ r ≡ Tests.twice (map (λ (k : NetSpec.Take). k .place) (Readable.takesOf slots)) ⌝ }
 {
     let mut slot = from;
     while slot < end {
@@ -91,8 +95,10 @@ fn any_take<'a>(
     from: usize,
     end: usize,
 ) -> bool
-    requires { ⌜ end ≤ 1024 ⌝ }
-    ensures { λ r. ⌜ r ≡ Tests.any (λ (l : Readable.Slot). leb (l .kind) 1) (Readable.slots (now (kind .entry)) (now (place .entry)) (now (weight .entry)) from (end - from)) ⌝ }
+    ghost { List Readable.Slot }
+    requires { λ slots. ⌜ Readable.slots (now kind) (now place) (now weight) from (end - from) ≡ slots ⌝ }
+    requires { λ slots. ⌜ end ≤ 1024 ⌝ }
+    ensures { λ slots r. ⌜ r ≡ Tests.any (λ (l : Readable.Slot). leb (l .kind) 1) slots ⌝ }
 {
     let mut slot = from;
     while slot < end {
@@ -113,8 +119,10 @@ pub fn delayed_for_nothing<'a>(
     from: usize,
     end: usize,
 ) -> bool
-    requires { ⌜ end ≤ 1024 ⌝ }
-    ensures { λ r. ⌜ r ≡ (Ieee.lt NetSpec.zero64 delay && Tests.empty (Readable.takesOf (Readable.slots (now (kind .entry)) (now (place .entry)) (now (weight .entry)) from (end - from)))) ⌝ }
+    ghost { List Readable.Slot }
+    requires { λ slots. ⌜ Readable.slots (now kind) (now place) (now weight) from (end - from) ≡ slots ⌝ }
+    requires { λ slots. ⌜ end ≤ 1024 ⌝ }
+    ensures { λ slots r. ⌜ r ≡ (Ieee.lt NetSpec.zero64 delay && Tests.empty (Readable.takesOf slots)) ⌝ }
 {
     if 0.0 < delay {
         return !any_take(kind, place, weight, from, end);
@@ -143,8 +151,10 @@ pub fn kinetic_over<'a>(
     from: usize,
     end: usize,
 ) -> bool
-    requires { ⌜ end ≤ 1024 ⌝ }
-    ensures { λ r. ⌜ r ≡ ltb 16 (Tests.kineticTotal (Readable.takesOf (Readable.slots (now (kind .entry)) (now (place .entry)) (now (weight .entry)) from (end - from)))) ⌝ }
+    ghost { List Readable.Slot }
+    requires { λ slots. ⌜ Readable.slots (now kind) (now place) (now weight) from (end - from) ≡ slots ⌝ }
+    requires { λ slots. ⌜ end ≤ 1024 ⌝ }
+    ensures { λ slots r. ⌜ r ≡ ltb 16 (Tests.kineticTotal (Readable.takesOf slots)) ⌝ }
 {
     let mut total: u64 = 0;
     let mut slot = from;

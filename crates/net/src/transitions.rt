@@ -1,5 +1,6 @@
 // The tests of a net's transitions, in their order.
 ghost use mathlib.Core.Path.{_≡_};
+ghost use Rattle.net.specs.declared.Net.{Net as NetRecord};
 ghost use Rattle.net.specs.Readable as Readable;
 ghost use Rattle.net.specs.Record.{lent};
 use crate::Verdict;
@@ -19,8 +20,9 @@ fn transition_at<'a>(
     weight: &'a [u64; 1024],
     j: usize,
 ) -> Verdict
-    ensures { λ r. ⌜ Readable.meaning r ≡ Readable.moveFault (lent places transitions (now (initial .entry)) (now (capacity .entry)) (now (rate .entry)) (now (delay .entry))
-        (now (arcs .entry)) (now (kind .entry)) (now (place .entry)) (now (weight .entry))) j ⌝ }
+    ghost { NetRecord }
+    requires { λ net. ⌜ lent places transitions (now initial) (now capacity) (now rate) (now delay) (now arcs) (now kind) (now place) (now weight) ≡ net ⌝ }
+    ensures { λ net r. ⌜ Readable.meaning r ≡ Readable.moveFault net j ⌝ }
 {
     if bounds::MOST_TRANSITIONS <= j {
         return Verdict::Refused(refusals::BAD_SIZE);
@@ -51,8 +53,9 @@ pub fn transitions_fault<'a>(
     place: &'a [usize; 1024],
     weight: &'a [u64; 1024],
 ) -> Verdict
-    ensures { λ r. ⌜ Readable.meaning r ≡ Readable.movesFault (lent places transitions (now (initial .entry)) (now (capacity .entry)) (now (rate .entry)) (now (delay .entry))
-        (now (arcs .entry)) (now (kind .entry)) (now (place .entry)) (now (weight .entry))) 0 transitions ⌝ }
+    ghost { NetRecord }
+    requires { λ net. ⌜ lent places transitions (now initial) (now capacity) (now rate) (now delay) (now arcs) (now kind) (now place) (now weight) ≡ net ⌝ }
+    ensures { λ net r. ⌜ Readable.meaning r ≡ Readable.movesFault net 0 transitions ⌝ }
 {
     let mut j: usize = 0;
     while j < transitions {

@@ -199,10 +199,10 @@ fn inside_line(
     place: &mut [usize; 1024],
     weight: &mut [u64; 1024],
 ) -> Taken
-    requires { ⌜ Spec.Room (Spec.netAt places transitions (Spec.tables (now initial) (now capacity) (now rate) (now delay) (now arcs) (now kind) (now place) (now weight))) ⌝ }
-    ensures { λ r. ⌜ Spec.LineTaken
-        (Spec.insideOf places transitions (Spec.tables (now (initial .entry)) (now (capacity .entry)) (now (rate .entry)) (now (delay .entry)) (now (arcs .entry)) (now (kind .entry)) (now (place .entry)) (now (weight .entry))))
-        (now (line .entry))
+    ghost { Spec.Tables }
+    requires { λ before. ⌜ Spec.tables (now initial) (now capacity) (now rate) (now delay) (now arcs) (now kind) (now place) (now weight) ≡ before ⌝ }
+    requires { λ before. ⌜ Spec.Room (Spec.netAt places transitions before) ⌝ }
+    ensures { λ before r. ⌜ Spec.LineTaken (Spec.insideOf places transitions before) (now (line .entry))
         (Spec.tables (now (initial .exit)) (now (capacity .exit)) (now (rate .exit)) (now (delay .exit)) (now (arcs .exit)) (now (kind .exit)) (now (place .exit)) (now (weight .exit))) r ⌝ }
 {
     let p = form::place_form(line);
@@ -296,10 +296,10 @@ fn one_line(
     place: &mut [usize; 1024],
     weight: &mut [u64; 1024],
 ) -> Taken
-    requires { ⌜ Spec.Standing p (Spec.tables (now initial) (now capacity) (now rate) (now delay) (now arcs) (now kind) (now place) (now weight)) ⌝ }
-    ensures { λ r. ⌜ Spec.LineTaken
-        (Spec.dueOf p (Spec.tables (now (initial .entry)) (now (capacity .entry)) (now (rate .entry)) (now (delay .entry)) (now (arcs .entry)) (now (kind .entry)) (now (place .entry)) (now (weight .entry))))
-        (now (line .entry))
+    ghost { Spec.Tables }
+    requires { λ before. ⌜ Spec.tables (now initial) (now capacity) (now rate) (now delay) (now arcs) (now kind) (now place) (now weight) ≡ before ⌝ }
+    requires { λ before. ⌜ Spec.Standing p before ⌝ }
+    ensures { λ before r. ⌜ Spec.LineTaken (Spec.dueOf p before) (now (line .entry))
         (Spec.tables (now (initial .exit)) (now (capacity .exit)) (now (rate .exit)) (now (delay .exit)) (now (arcs .exit)) (now (kind .exit)) (now (place .exit)) (now (weight .exit))) r ⌝ }
 {
     let stage = p.stage;
