@@ -7,6 +7,7 @@ ghost use lib.Ieee as Ieee;
 ghost use Rattle.refusals.specs as Refusal;
 ghost use Rattle.net.specs.Tests as Tests;
 ghost use Rattle.net.specs.Readable as Readable;
+ghost use Rattle.net.specs.Record.{blank};
 ghost use Rattle.text.specs.Text as Text;
 ghost use Rattle.net_text.specs.Position as Spec;
 ghost use Rattle.net_text.specs.Reading as Reading;
@@ -202,7 +203,7 @@ fn inside_line(
     ghost { Spec.Tables }
     requires { λ before. ⌜ Spec.tables (now initial) (now capacity) (now rate) (now delay) (now arcs) (now kind) (now place) (now weight) ≡ before ⌝ }
     requires { λ before. ⌜ Spec.Room (Spec.netAt places transitions before) ⌝ }
-    ensures { λ before r. ⌜ Spec.LineTaken (Spec.insideOf places transitions before) (now (line .entry))
+    ensures { λ before r. ⌜ Spec.LineTaken (Spec.insideOf places transitions before) (Spec.netAt places transitions before) (now (line .entry))
         (Spec.tables (now (initial .exit)) (now (capacity .exit)) (now (rate .exit)) (now (delay .exit)) (now (arcs .exit)) (now (kind .exit)) (now (place .exit)) (now (weight .exit))) r ⌝ }
 {
     let p = form::place_form(line);
@@ -299,7 +300,7 @@ fn one_line(
     ghost { Spec.Tables }
     requires { λ before. ⌜ Spec.tables (now initial) (now capacity) (now rate) (now delay) (now arcs) (now kind) (now place) (now weight) ≡ before ⌝ }
     requires { λ before. ⌜ Spec.Standing p before ⌝ }
-    ensures { λ before r. ⌜ Spec.LineTaken (Spec.dueOf p before) (now (line .entry))
+    ensures { λ before r. ⌜ Spec.LineTaken (Spec.dueOf p before) (Spec.netAt (p .places) (p .transitions) before) (now (line .entry))
         (Spec.tables (now (initial .exit)) (now (capacity .exit)) (now (rate .exit)) (now (delay .exit)) (now (arcs .exit)) (now (kind .exit)) (now (place .exit)) (now (weight .exit))) r ⌝ }
 {
     let stage = p.stage;
@@ -376,7 +377,7 @@ fn after_last(p: Position, number: u64) -> Ended
     }
 }
 
-// Line by line; the first that is refused decides.
+// Line by line into tables of zeros; the first line that is refused decides.
 pub fn read_lines(
     text: &[u8],
     initial: &mut [u64; 32],
@@ -388,7 +389,7 @@ pub fn read_lines(
     place: &mut [usize; 1024],
     weight: &mut [u64; 1024],
 ) -> Ended
-    requires { ⌜ Spec.Room (Spec.netAt 0 0 (Spec.tables (now initial) (now capacity) (now rate) (now delay) (now arcs) (now kind) (now place) (now weight))) ⌝ }
+    requires { ⌜ Spec.netAt 0 0 (Spec.tables (now initial) (now capacity) (now rate) (now delay) (now arcs) (now kind) (now place) (now weight)) ≡ blank ⌝ }
     ensures { λ r. ⌜ Spec.LinesRead (now (text .entry)) (Spec.tables (now (initial .exit)) (now (capacity .exit)) (now (rate .exit)) (now (delay .exit)) (now (arcs .exit)) (now (kind .exit)) (now (place .exit)) (now (weight .exit))) r ⌝ }
 {
     let mut p = Position {
