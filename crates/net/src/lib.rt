@@ -6,7 +6,6 @@ mod takes;
 mod transitions;
 
 ghost use mathlib.Core.Path.{_≡_};
-ghost use mathlib.Core.Bool.{_||_};
 ghost use Prim.Native.Nat.{_*_};
 ghost use Rattle.net.specs.Tests as Tests;
 ghost use Rattle.net.specs.Readable as Readable;
@@ -76,9 +75,8 @@ pub fn transition_fault<'a>(
     place: &'a [usize; 1024],
     weight: &'a [u64; 1024],
 ) -> Verdict
-    ensures { λ r. ⌜ Readable.meaning r ≡ Tests.firstOf (Tests.moveTests places before
-        (strange || Readable.strange (Readable.slots (now (kind .entry)) (now (place .entry)) (now (weight .entry)) (16 * before) count))
-        (Readable.transitionOf rate delay (Readable.slots (now (kind .entry)) (now (place .entry)) (now (weight .entry)) (16 * before) count))) ⌝ }
+    ensures { λ r. ⌜ Readable.meaning r ≡ Readable.slotsFault places before strange rate delay
+        (Readable.slots (now (kind .entry)) (now (place .entry)) (now (weight .entry)) (16 * before) count) ⌝ }
 {
     if bounds::too_many(places, before, count) {
         return Verdict::Refused(refusals::BAD_SIZE);

@@ -7,9 +7,9 @@ use mathlib.Core.List.{[], _∷_}
 use mathlib.Core.Option.{none}
 use native.Mathlib.Omega.{arith}
 use lib.Dec.{eqb}
-use lib.ListN.{length, take, drop, drop-of-length-le, length-replicate}
+use lib.ListN.{length, take, drop, drop-of-length-le}
 use borrow.Author.Tests.{eqb-true}
-use Rattle.net.specs.Net.{Net, pick, zero64}
+use Rattle.net.specs.Net.{Net, pick}
 use Rattle.net.specs.Readable.{readable}
 use Rattle.net.specs.Record.{blank}
 use Rattle.net.specs.declared.Net.{Net as NetRecord}
@@ -150,14 +150,14 @@ pub record Reading (t : Bytes) (T : Tables) (p : Position) (at number : ℕ) : T
 blank-room : Room blank
 blank-room =
     record {
-      initials = length-replicate {A = ℕ} 32 0;
-      capacities = length-replicate {A = ℕ} 32 0;
-      rates = length-replicate 64 zero64;
-      delays = length-replicate 64 zero64;
-      counts = length-replicate {A = ℕ} 64 0;
-      kinds = length-replicate {A = ℕ} 1024 0;
-      ends = length-replicate {A = ℕ} 1024 0;
-      weights = length-replicate {A = ℕ} 1024 0;
+      initials = refl;
+      capacities = refl;
+      rates = refl;
+      delays = refl;
+      counts = refl;
+      kinds = refl;
+      ends = refl;
+      weights = refl;
       few-places = omega arith;
       few-transitions = omega arith;
       few-arcs = λ j h. absurd (omega arith);

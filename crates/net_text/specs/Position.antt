@@ -2,7 +2,7 @@
 -- nothing here adds to them.
 use Prim.Native.Nat.{ℕ, _-_, _*_, _<_, _≤_}
 use mathlib.Core.Path.{_≡_}
-use mathlib.Core.Bool.{Bool, false, not, _||_}
+use mathlib.Core.Bool.{Bool, false, not}
 use mathlib.Core.List.{List, [], _∷_}
 use mathlib.Core.Option.{none}
 use lib.Dec.{eqb}
@@ -10,8 +10,8 @@ use lib.ListN.{length, getD, take, drop, set}
 use lib.Ieee.{Float, binary64, ofBits}
 use Rattle.refusals.specs as Refusal
 use Rattle.net.specs.Net.{Net}
-use Rattle.net.specs.Tests.{Test, firstOf, placeTests, moveTests}
-use Rattle.net.specs.Readable.{readable, transitionOf, slots, meaning, placesFault, movesFault}
+use Rattle.net.specs.Tests.{Test, firstOf, placeTests}
+use Rattle.net.specs.Readable.{readable, slots, slotsFault, meaning, placesFault, movesFault}
 use Rattle.net.specs.Readable as Readable
 use Rattle.net.specs.declared.Net.{Net as NetRecord}
 use Rattle.net.specs.declared.Verdict.{Verdict}
@@ -155,9 +155,7 @@ pub record PlaceTaken (places transitions : ℕ) (strange : Bool) (i c : ℕ) (i
 -- a move line of the right form, its arcs in the slots
 pub record MoveTaken (places transitions : ℕ) (strange : Bool) (rateBits delayBits count : ℕ) (kind place weight : List ℕ)
     (rate₀ delay₀ : List Float) (arcs₀ : List ℕ) (rate delay : List Float) (arcs : List ℕ) (r : Verdict) : Type 0 where
-  pub fault : meaning r ≡ firstOf (moveTests places transitions
-      (strange || Readable.strange (slots kind place weight (16 * transitions) count))
-      (transitionOf (ofBits binary64 rateBits) (ofBits binary64 delayBits) (slots kind place weight (16 * transitions) count)))
+  pub fault : meaning r ≡ slotsFault places transitions strange (ofBits binary64 rateBits) (ofBits binary64 delayBits) (slots kind place weight (16 * transitions) count)
   pub stored-rate : meaning r ≡ none → rate ≡ set rate₀ transitions (ofBits binary64 rateBits)
   pub stored-delay : meaning r ≡ none → delay ≡ set delay₀ transitions (ofBits binary64 delayBits)
   pub stored-arcs : meaning r ≡ none → arcs ≡ set arcs₀ transitions count
