@@ -1,16 +1,16 @@
 -- A line between `(net` and `)`, from what its form and its tests answered: the outcome is the rules', and the tables hold the net with what it
 -- adds. Assumes nothing.
-use Prim.Native.Nat.{ℕ, _+_, _-_, _*_, _^_, _≤_, _<_}
+use Prim.Native.Nat.{ℕ, _+_, _*_, _^_, _≤_, _<_}
 use mathlib.Core.Path.{_≡_, refl, sym, ap, _∙_}
 use mathlib.Core.Bool.{Bool, true, false, _||_, not}
 use mathlib.Core.List.{List, [], _∷_, map}
 use mathlib.Core.Option.{Option, none, some}
-use native.Mathlib.Omega.{arith, min-cases}
+use native.Mathlib.Omega.{arith}
 use lib.Dec.{eqb, leb, ltb}
 use lib.ListN.{length, getD, set, drop, length-map}
 use lib.Ieee.{Float, binary64, ofBits}
 use borrow.Author.Tests.{eq-eqb, ne-eqb, leb-false, ltb-true, ltb-false, eqb-true, not-false}
-use Rattle.net.specs.Net.{Place, Transition, Net, pick}
+use Rattle.net.specs.Net.{Place, Transition, Net}
 use Rattle.net.specs.Tests.{Test, firstOf, empty, any, arcs, placeTests, moveTests, tooMany, noSuchPlace, outside}
 use Rattle.net.specs.Readable.{Slot, slots, transitionOf, strange, readable, meaning, placesFault, movesFault, fault}
 use Rattle.net.specs.declared.Net.{Net as NetRecord}
@@ -18,7 +18,7 @@ use Rattle.net.specs.declared.Verdict.{Verdict}
 use Rattle.net.specs.declared.Verdict.the-variants.{Accepted, Refused}
 use Rattle.net.proofs.Slots.{length-arcs, length-slots}
 use Rattle.text.specs.Text.{Bytes}
-use Rattle.net_text.specs.Forms.{wrong, met, Decimal, RawArc, rawTake, rawPut, rawRead, rawBlock, rawPlace, rawMove, rawRun, lineOf, placeForm, moveForm, runForm}
+use Rattle.net_text.specs.Forms.{wrong, met, RawArc, rawPlace, rawMove, rawRun, lineOf, placeForm, moveForm, runForm}
 use Rattle.net_text.specs.Reading.{RunLine, badly, badArc, Due, inside, closing, goOn, unless, afterPlace, afterMove, insideLine, lineRead}
 use Rattle.net_text.specs.Filled.{arcSlot, kindSlots, placeSlots, weightSlots, withLine}
 use Rattle.net_text.specs.Scanned.{held, slotOf}
@@ -31,7 +31,7 @@ use Rattle.net_text.specs.declared.form.MoveSeen.{MoveSeen}
 use Rattle.net_text.specs.declared.order.Stage.the-variants.{Inside, Closing}
 use Rattle.net_text.specs.declared.order.Taken.the-variants.{Fault, GoOn}
 use Rattle.net_text.proofs.Parts.{found-met, found-wrong, place-whole, place-more, move-whole, move-more, run-whole, run-more}
-use Rattle.net_text.proofs.Clipped.{later, place-held, run-held, move-held, move-crowded, move-late}
+use Rattle.net_text.proofs.Clipped.{held-whole, clean, later, place-held, run-held, move-held, move-crowded, move-late}
 use Rattle.net_text.proofs.Stored.{places-length, transitions-length, places-empty, transitions-empty, place-stored, place-room, move-stored, move-room}
 
 -- ---- tests
@@ -88,30 +88,6 @@ or-no-left false b e = refl
 or-no-right : (a b : Bool) → (a || b) ≡ false → b ≡ false
 or-no-right true b e = let z : _≡_ {A = ℕ} 0 1 = cc in absurd (omega arith)
 or-no-right false b e = e
-
--- what is not badly written is held as it is
-held-itself : (d : Decimal) → badly d ≡ false → held (d .value) ≡ d .value
-held-itself d e =
-    let fits : d .value < 2 ^ 64 = leb-false (2 ^ 64) (d .value) (or-no-right (d .zeroLed) (leb (2 ^ 64) (d .value)) e) in
-    min-cases (d .value) (2 ^ 64 - 1) _ (λ h m. m) (λ h m. omega arith)
-
-plain-slot : (k p w : ℕ) (p′ w′ : ℕ) → p ≡ p′ → w ≡ w′ → _≡_ {A = Slot} (record { kind = k; place = p; weight = w }) (record { kind = k; place = p′; weight = w′ })
-plain-slot k p w p′ w′ e f = rw (e, f)
-
-slot-itself : (a : RawArc) → badArc a ≡ false → slotOf a ≡ arcSlot a
-slot-itself (rawTake p w k) e =
-    let pw : (badly p || badly w) ≡ false = or-no-left (badly p || badly w) (badly k) (or-no-left (badly p || badly w || badly k) (ltb 1 (k .value)) e) in
-    plain-slot (pick (eqb (k .value) 1) 0 1) (held (p .value)) (held (w .value)) (p .value) (w .value)
-    (held-itself p (or-no-left (badly p) (badly w) pw)) (held-itself w (or-no-right (badly p) (badly w) pw))
-slot-itself (rawPut p w) e = plain-slot 2 (held (p .value)) (held (w .value)) (p .value) (w .value) (held-itself p (or-no-left (badly p) (badly w) e)) (held-itself w (or-no-right (badly p) (badly w) e))
-slot-itself (rawRead p w) e = plain-slot 3 (held (p .value)) (held (w .value)) (p .value) (w .value) (held-itself p (or-no-left (badly p) (badly w) e)) (held-itself w (or-no-right (badly p) (badly w) e))
-slot-itself (rawBlock p w) e = plain-slot 4 (held (p .value)) (held (w .value)) (p .value) (w .value) (held-itself p (or-no-left (badly p) (badly w) e)) (held-itself w (or-no-right (badly p) (badly w) e))
-
-slots-themselves : (xs : List RawArc) → any badArc xs ≡ false → map slotOf xs ≡ map arcSlot xs
-slots-themselves [] e = refl
-slots-themselves (a ∷ xs) e =
-    ap (λ (l : Slot). l ∷ map slotOf xs) (slot-itself a (or-no-left (badArc a) (any badArc xs) e))
-    ∙ ap (λ (ls : List Slot). arcSlot a ∷ ls) (slots-themselves xs (or-no-right (badArc a) (any badArc xs) e))
 
 -- a record whose transitions are the same
 same-record : (p t : ℕ) (T : Tables) {x x′ y y′ : List Float} {a a′ k k′ q q′ w w′ : List ℕ} → x ≡ x′ → y ≡ y′ → a ≡ a′ → k ≡ k′ → q ≡ q′ → w ≡ w′
@@ -185,8 +161,8 @@ module _ (line : Bytes) (p t : ℕ) (T : Tables) where
           let is-i : i′ ≡ set (T .initial) p (s .initial) = taken .stored-initial passes in
           let is-c : c′ ≡ set (T .capacity) p (s .capacity) = taken .stored-capacity passes in
           let proper : (badly (r .initial) || badly (r .capacity)) ≡ false = sym (r .strange) ∙ place-proper p (s .strange) q tested in
-          let value-i : s .initial ≡ r .initial .value = r .held-initial ∙ held-itself (r .initial) (or-no-left (badly (r .initial)) (badly (r .capacity)) proper) in
-          let value-c : s .capacity ≡ r .capacity .value = r .held-capacity ∙ held-itself (r .capacity) (or-no-right (badly (r .initial)) (badly (r .capacity)) proper) in
+          let value-i : s .initial ≡ r .initial .value = r .held-initial ∙ held-whole (r .initial) (or-no-left (badly (r .initial)) (badly (r .capacity)) proper) in
+          let value-c : s .capacity ≡ r .capacity .value = r .held-capacity ∙ held-whole (r .capacity) (or-no-right (badly (r .initial)) (badly (r .capacity)) proper) in
           record {
             is =
                 ap (λ (m : Net). goOn (inside m))
@@ -319,11 +295,11 @@ module _ (line : Bytes) (p t : ℕ) (T : Tables) where
           let few-xs : length xs ≤ 16 = omega (arith, r .count) in
           let is-n : s .count ≡ length (map arcSlot xs) = r .count ∙ sym (length-map xs arcSlot) in
           let is-k : k′ ≡ kindSlots (16 * t) (map arcSlot xs) (T .kind) =
-          r .kind-filled ok few-xs ∙ ap (λ (l : List Slot). kindSlots base l (T .kind)) (slots-themselves xs proper) ∙ ap (λ (b : ℕ). kindSlots b (map arcSlot xs) (T .kind)) starts in
+          r .kind-filled ok few-xs ∙ ap (λ (l : List Slot). kindSlots base l (T .kind)) (sym (clean xs proper)) ∙ ap (λ (b : ℕ). kindSlots b (map arcSlot xs) (T .kind)) starts in
           let is-p : p′ ≡ placeSlots (16 * t) (map arcSlot xs) (T .place) =
-          r .place-filled ok few-xs ∙ ap (λ (l : List Slot). placeSlots base l (T .place)) (slots-themselves xs proper) ∙ ap (λ (b : ℕ). placeSlots b (map arcSlot xs) (T .place)) starts in
+          r .place-filled ok few-xs ∙ ap (λ (l : List Slot). placeSlots base l (T .place)) (sym (clean xs proper)) ∙ ap (λ (b : ℕ). placeSlots b (map arcSlot xs) (T .place)) starts in
           let is-w : w′ ≡ weightSlots (16 * t) (map arcSlot xs) (T .weight) =
-          r .weight-filled ok few-xs ∙ ap (λ (l : List Slot). weightSlots base l (T .weight)) (slots-themselves xs proper) ∙ ap (λ (b : ℕ). weightSlots b (map arcSlot xs) (T .weight)) starts in
+          r .weight-filled ok few-xs ∙ ap (λ (l : List Slot). weightSlots base l (T .weight)) (sym (clean xs proper)) ∙ ap (λ (b : ℕ). weightSlots b (map arcSlot xs) (T .weight)) starts in
           let kinds : (a : ℕ) → a < 16 * t → getD k′ a 0 ≡ getD (T .kind) a 0 = λ a h. r .kind-before a (omega arith) in
           let places : (a : ℕ) → a < 16 * t → getD p′ a 0 ≡ getD (T .place) a 0 = λ a h. r .place-before a (omega arith) in
           let weights : (a : ℕ) → a < 16 * t → getD w′ a 0 ≡ getD (T .weight) a 0 = λ a h. r .weight-before a (omega arith) in

@@ -1,11 +1,10 @@
 -- What the reader's answer says. Document 01, "Each operation's turn-downs: Net text": "A refusal gives number and line (from 1), no net".
 use Prim.Native.Nat.{ℕ}
 use mathlib.Core.Path.{_≡_}
-use Rattle.net.specs.Net.{Net}
 use Rattle.net.specs.Readable.{readable}
 use Rattle.net.specs.Record.{blank}
 use Rattle.text.specs.Text.{Bytes}
-use Rattle.net_text.specs.Reading.{Answer, given, read}
+use Rattle.net_text.specs.Reading.{Answer, read}
 use Rattle.net_text.specs.Filled.{recordOf}
 use Rattle.net_text.specs.Position.{runOf, noRun, answer, acceptedBy}
 use Rattle.net_text.specs.declared.Judged.{Judged}

@@ -11,9 +11,9 @@ use Rattle.net.specs.Net.{pick}
 use Rattle.net.specs.Tests.{any}
 use Rattle.net.specs.Readable.{Slot, slots}
 use Rattle.text.specs.Text.{Bytes}
-use Rattle.net_text.specs.Forms.{Met, wrong, met, Form, say, _>>=_, _>>_, quoted, Decimal, RawArc, rawTake, rawPut, rawRead, rawBlock, decimal, nextArc, many}
+use Rattle.net_text.specs.Forms.{Met, wrong, met, Form, say, _>>=_, _>>_, quoted, Decimal, RawArc, decimal, nextArc, many}
 use Rattle.net_text.specs.Reading.{badly, badArc}
-use Rattle.net_text.specs.Filled.{kindSlots, placeSlots, weightSlots}
+use Rattle.net_text.specs.Filled.{arcSlot, kindSlots, placeSlots, weightSlots}
 use Rattle.net_text.specs.declared.scan.Number.{Number}
 use Rattle.net_text.specs.declared.scan.Pattern.{Pattern}
 use Rattle.net_text.specs.declared.scan.Pair.{Pair}
@@ -61,11 +61,11 @@ pub record SeenArc : Type 0 where
   pub slot : Slot
   pub strange : Bool
 
+-- its place and weight as 64 bits hold them
 abbrev pub slotOf : RawArc → Slot
-slotOf (rawTake p w k) = record { kind = pick (eqb (k .value) 1) 0 1; place = held (p .value); weight = held (w .value) }
-slotOf (rawPut p w) = record { kind = 2; place = held (p .value); weight = held (w .value) }
-slotOf (rawRead p w) = record { kind = 3; place = held (p .value); weight = held (w .value) }
-slotOf (rawBlock p w) = record { kind = 4; place = held (p .value); weight = held (w .value) }
+slotOf a =
+    let l = arcSlot a in
+    record { kind = l .kind; place = held (l .place); weight = held (l .weight) }
 
 abbrev pub seenArc : RawArc → SeenArc
 seenArc a = record { slot = slotOf a; strange = badArc a }

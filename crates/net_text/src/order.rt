@@ -1,16 +1,13 @@
 // The lines in their order, and what each adds to the net. The net's arrays are lent apart, since the scanner stores through three of them.
 ghost use mathlib.Core.Path.{_≡_};
-ghost use mathlib.Core.Bool.{false, not};
 ghost use Prim.Native.Nat.{_+_, _*_, _<_, _≤_};
 ghost use lib.ListN.{length};
 ghost use lib.Ieee as Ieee;
-ghost use Rattle.refusals.specs as Refusal;
 ghost use Rattle.net.specs.Tests as Tests;
 ghost use Rattle.net.specs.Readable as Readable;
 ghost use Rattle.net.specs.Record.{blank};
 ghost use Rattle.text.specs.Text as Text;
 ghost use Rattle.net_text.specs.Position as Spec;
-ghost use Rattle.net_text.specs.Reading as Reading;
 use super::Judged;
 use super::RunLine;
 use super::form;
