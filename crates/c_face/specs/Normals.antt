@@ -7,7 +7,7 @@ use lib.Ieee.{Float}
 use Rattle.rng.specs.State.{words}
 use Rattle.rules.specs.Step.{Answer, refused, given}
 use Rattle.normals.specs.Normal.{Sampler, normal, samplerOf}
-use Rattle.c_face.specs.declared.Filled.{Filled as FilledStruct}
+use Rattle.c_face.specs.declared.sampler.Filled.{Filled as FilledStruct}
 
 -- how many draws were answered, the cells that they went to with those behind them, and the sampler after them
 pub record Filled : Type 0 where

@@ -76,7 +76,7 @@ module _ (n : NetRecord) where
   placed = placesFault 0 (placesFrom (n .initial) (n .capacity) 0 (n .places))
 
   abbrev placeless : Bool → Option ℕ
-  placeless b = orElse (firstOf ((Refusal.wrongNumber, b) ∷ [])) (movesFault n 0 (n .transitions))
+  placeless b = orElse (firstOf ((Refusal.badSize, b) ∷ [])) (movesFault n 0 (n .transitions))
 
   pub by-place : {c : ℕ} → placed ≡ some c → some c ≡ fault n
   unfolding fault

@@ -190,7 +190,7 @@ module _ (n : NetRecord) (e : fault n ≡ none) where
   placed = placesFault 0 (placesFrom (n .initial) (n .capacity) 0 (n .places))
 
   abbrev placeless : Option ℕ
-  placeless = firstOf ((Refusal.wrongNumber, empty (placesFrom (n .initial) (n .capacity) 0 (n .places))) ∷ [])
+  placeless = firstOf ((Refusal.badSize, empty (placesFrom (n .initial) (n .capacity) 0 (n .places))) ∷ [])
 
   abbrev moves : Option ℕ
   moves = movesFault n 0 (n .transitions)

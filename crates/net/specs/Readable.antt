@@ -1,11 +1,11 @@
 -- The program's net record: the readable net that it stands for, and its test. A record has room for 32 places, 64 transitions and 16 arcs a
 -- transition. Arc i of transition j stands in slot 16 × j + i. Slots past the counts are not looked at.
 use Prim.Native.Nat.{ℕ, zero, suc, _+_, _*_}
-use mathlib.Core.Bool.{Bool, true, false}
+use mathlib.Core.Bool.{Bool, true, false, _||_}
 use mathlib.Core.List.{List, [], _∷_}
 use mathlib.Core.Option.{Option, none, some}
 use lib.Dec.{eqb, leb, ltb}
-use lib.ListN.{length, getD}
+use lib.ListN.{getD}
 use lib.Ieee.{Float, nan}
 use Rattle.refusals.specs as Refusal
 use Rattle.net.specs.declared.Net.{Net as NetRecord}
@@ -88,8 +88,13 @@ abbrev pub placesFault : ℕ → List Place → Option ℕ
 placesFault before [] = none
 placesFault before (q ∷ qs) = orElse (firstOf (placeTests before false q)) (placesFault (suc before) qs)
 
+-- a transition over so many places, with so many transitions before it, whose arcs stand in these slots. odd: its text holds a value that no
+-- transition can have.
+abbrev pub slotsFault : ℕ → ℕ → Bool → Float → Float → List Slot → Option ℕ
+slotsFault places before odd rate delay ls = firstOf (moveTests places before (odd || strange ls) (transitionOf rate delay ls))
+
 abbrev pub moveFault : NetRecord → ℕ → Option ℕ
-moveFault n j = firstOf (moveTests (n .places) j (strange (slotsOf n j)) (transition n j))
+moveFault n j = slotsFault (n .places) j false (getD (n .rate) j nan) (getD (n .delay) j nan) (slotsOf n j)
 
 -- k transitions from number j on
 abbrev pub movesFault : NetRecord → ℕ → ℕ → Option ℕ
@@ -100,7 +105,7 @@ movesFault n j (suc k) = orElse (moveFault n j) (movesFault n (suc j) k)
 unfoldable pub fault : NetRecord → Option ℕ
 fault n =
     orElse (placesFault 0 (readable n .places))
-    (orElse (firstOf ((Refusal.wrongNumber, empty (readable n .places)) ∷ []))
+    (orElse (firstOf ((Refusal.badSize, empty (readable n .places)) ∷ []))
     (movesFault n 0 (n .transitions)))
 
 -- what an answer says: accepted, or refused by a number

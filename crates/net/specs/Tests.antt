@@ -37,7 +37,7 @@ empty (a ∷ rest) = false
 -- leading zero or over 64 bits.
 abbrev pub placeTests : ℕ → Bool → Place → List Test
 placeTests before strange q =
-    (Refusal.wrongNumber, leb 32 before)
+    (Refusal.badSize, leb 32 before)
     ∷ (Refusal.outsideDomain, strange || ltb (2 ^ 53) (q .initial) || ltb (2 ^ 53) (q .capacity))
     ∷ []
 
@@ -92,7 +92,7 @@ kineticTotal (k ∷ ks) = pick (k .kinetic) (amount (k .weight)) 0 + kineticTota
 -- other than 0 and 1; in data an arc of no known kind
 abbrev pub moveTests : ℕ → ℕ → Bool → Transition → List Test
 moveTests places before strange t =
-    (Refusal.wrongNumber, tooMany places before t)
+    (Refusal.badSize, tooMany places before t)
     ∷ (Refusal.noSuchPlace, noSuchPlace places t)
     ∷ (Refusal.outsideDomain, strange || outside t)
     ∷ (Refusal.takenTwice, takenTwice t)

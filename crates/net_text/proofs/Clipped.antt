@@ -16,6 +16,7 @@ use Rattle.net.specs.Readable.{Slot, takesOf, arcsOf, isPut, isRead, isBlock, t
 use Rattle.net.proofs.Slots.{length-arcs, any-arcs}
 use Rattle.net_text.specs.Forms.{Decimal, RawArc, rawTake, rawPut, rawRead, rawBlock, rawPlace, rawMove, rawRun}
 use Rattle.net_text.specs.Reading.{RunLine, badly, badArc, transition, withArc, Due, closing, Outcome, unless, afterPlace, afterMove, insideLine}
+use Rattle.net_text.specs.Filled.{arcSlot}
 use Rattle.net_text.specs.Scanned.{held, slotOf}
 use Rattle.net_text.specs.Position.{runTests}
 
@@ -37,14 +38,7 @@ held-whole d e =
 
 -- ---- arcs
 
--- an arc as a slot of any size would hold it
-abbrev exactSlot : RawArc → Slot
-exactSlot (rawTake p w k) = record { kind = pick (eqb (k .value) 1) 0 1; place = p .value; weight = w .value }
-exactSlot (rawPut p w) = record { kind = 2; place = p .value; weight = w .value }
-exactSlot (rawRead p w) = record { kind = 3; place = p .value; weight = w .value }
-exactSlot (rawBlock p w) = record { kind = 4; place = p .value; weight = w .value }
-
-exact-more : (r d : Float) (a : RawArc) (ls : List Slot) → withArc a (transitionOf r d ls) ≡ transitionOf r d (exactSlot a ∷ ls)
+exact-more : (r d : Float) (a : RawArc) (ls : List Slot) → withArc a (transitionOf r d ls) ≡ transitionOf r d (arcSlot a ∷ ls)
 exact-more r d (rawTake p w k) ls = go (eqb (k .value) 1)
   where
     go : (x : Bool) → record { rate = r; delay = d; takes = record { place = p .value; weight = w .value; kinetic = x } ∷ takesOf ls; puts = arcsOf isPut ls; reads = arcsOf isRead ls; blocks = arcsOf isBlock ls }
@@ -55,12 +49,12 @@ exact-more r d (rawPut p w) ls = refl
 exact-more r d (rawRead p w) ls = refl
 exact-more r d (rawBlock p w) ls = refl
 
-exact-is : (r d : ℕ) (xs : List RawArc) → transition r d xs ≡ transitionOf (ofBits binary64 r) (ofBits binary64 d) (map exactSlot xs)
+exact-is : (r d : ℕ) (xs : List RawArc) → transition r d xs ≡ transitionOf (ofBits binary64 r) (ofBits binary64 d) (map arcSlot xs)
 exact-is r d [] = refl
-exact-is r d (a ∷ xs) = ap (withArc a) (exact-is r d xs) ∙ exact-more (ofBits binary64 r) (ofBits binary64 d) a (map exactSlot xs)
+exact-is r d (a ∷ xs) = ap (withArc a) (exact-is r d xs) ∙ exact-more (ofBits binary64 r) (ofBits binary64 d) a (map arcSlot xs)
 
 -- arcs that are not badly written are held whole
-clean-arc : (a : RawArc) → badArc a ≡ false → exactSlot a ≡ slotOf a
+clean-arc : (a : RawArc) → badArc a ≡ false → arcSlot a ≡ slotOf a
 clean-arc (rawTake p w k) e =
     let one : (badly p || badly w || badly k) ≡ false = or-no-left (badly p || badly w || badly k) (ltb 1 (k .value)) e in
     let two : (badly p || badly w) ≡ false = or-no-left (badly p || badly w) (badly k) one in
@@ -69,9 +63,11 @@ clean-arc (rawPut p w) e = rw (held-whole p (or-no-left (badly p) (badly w) e), 
 clean-arc (rawRead p w) e = rw (held-whole p (or-no-left (badly p) (badly w) e), held-whole w (or-no-right (badly p) (badly w) e))
 clean-arc (rawBlock p w) e = rw (held-whole p (or-no-left (badly p) (badly w) e), held-whole w (or-no-right (badly p) (badly w) e))
 
-clean : (xs : List RawArc) → any badArc xs ≡ false → map exactSlot xs ≡ map slotOf xs
+pub clean : (xs : List RawArc) → any badArc xs ≡ false → map arcSlot xs ≡ map slotOf xs
 clean [] e = refl
-clean (a ∷ xs) e = rw (clean-arc a (or-no-left (badArc a) (any badArc xs) e), clean xs (or-no-right (badArc a) (any badArc xs) e))
+clean (a ∷ xs) e =
+    ap (λ (l : Slot). l ∷ map arcSlot xs) (clean-arc a (or-no-left (badArc a) (any badArc xs) e))
+    ∙ ap (λ (ls : List Slot). slotOf a ∷ ls) (clean xs (or-no-right (badArc a) (any badArc xs) e))
 
 -- every slot has a known kind
 known-arc : (a : RawArc) → ltb 4 (slotOf a .kind) ≡ false
@@ -93,13 +89,13 @@ leb-by : (p v : ℕ) (x : Bool) → p ≤ 32 → leb p v ≡ x → leb p (held v
 leb-by p v true h e = let l : p ≤ v = leb-true p v e in le-leb p (held v) (omega arith)
 leb-by p v false h e = let l : v < p = leb-false p v e in lt-leb p (held v) (omega arith)
 
-far-arc : (p : ℕ) → p ≤ 32 → (a : RawArc) → leb p (slotOf a .place) ≡ leb p (exactSlot a .place)
+far-arc : (p : ℕ) → p ≤ 32 → (a : RawArc) → leb p (slotOf a .place) ≡ leb p (arcSlot a .place)
 far-arc p h (rawTake q w k) = leb-by p (q .value) (leb p (q .value)) h refl
 far-arc p h (rawPut q w) = leb-by p (q .value) (leb p (q .value)) h refl
 far-arc p h (rawRead q w) = leb-by p (q .value) (leb p (q .value)) h refl
 far-arc p h (rawBlock q w) = leb-by p (q .value) (leb p (q .value)) h refl
 
-far : (p : ℕ) → p ≤ 32 → (xs : List RawArc) → any (λ (l : Slot). leb p (l .place)) (map exactSlot xs) ≡ any (λ (l : Slot). leb p (l .place)) (map slotOf xs)
+far : (p : ℕ) → p ≤ 32 → (xs : List RawArc) → any (λ (l : Slot). leb p (l .place)) (map arcSlot xs) ≡ any (λ (l : Slot). leb p (l .place)) (map slotOf xs)
 far p h [] = refl
 far p h (a ∷ xs) = rw (far-arc p h a, far p h xs)
 
@@ -122,7 +118,7 @@ stopped false false ts d e = refl
 
 module _ (p k : ℕ) (R D : Float) where
   abbrev E : List RawArc → Transition
-  E xs = transitionOf R D (map exactSlot xs)
+  E xs = transitionOf R D (map arcSlot xs)
 
   abbrev S : List RawArc → Transition
   S xs = transitionOf R D (map slotOf xs)
@@ -130,11 +126,11 @@ module _ (p k : ℕ) (R D : Float) where
   many-same : (xs : List RawArc) → tooMany p k (E xs) ≡ tooMany p k (S xs)
   many-same xs =
       ap (λ (n : ℕ). eqb p 0 || leb 64 k || ltb 16 n)
-      (length-arcs R D (map exactSlot xs) ∙ length-map xs exactSlot ∙ sym (length-map xs slotOf) ∙ sym (length-arcs R D (map slotOf xs)))
+      (length-arcs R D (map arcSlot xs) ∙ length-map xs arcSlot ∙ sym (length-map xs slotOf) ∙ sym (length-arcs R D (map slotOf xs)))
 
   far-same : p ≤ 32 → (xs : List RawArc) → noSuchPlace p (E xs) ≡ noSuchPlace p (S xs)
   far-same h xs =
-      any-arcs (λ (a : Arc). leb p (a .place)) R D (map exactSlot xs)
+      any-arcs (λ (a : Arc). leb p (a .place)) R D (map arcSlot xs)
       ∙ far p h xs
       ∙ sym (any-arcs (λ (a : Arc). leb p (a .place)) R D (map slotOf xs))
 
@@ -189,8 +185,8 @@ module _ (n : Net) (p k : ℕ) (r d : ℕ) (xs : List RawArc) (ls : List Slot) (
   counted : length (arcs (transition r d xs)) ≡ length xs
   counted =
       ap (λ (t : Transition). length (arcs t)) (exact-is r d xs)
-      ∙ length-arcs (ofBits binary64 r) (ofBits binary64 d) (map exactSlot xs)
-      ∙ length-map xs exactSlot
+      ∙ length-arcs (ofBits binary64 r) (ofBits binary64 d) (map arcSlot xs)
+      ∙ length-map xs arcSlot
 
   counted-slots : length (arcs (transitionOf (ofBits binary64 r) (ofBits binary64 d) ls)) ≡ length xs
   counted-slots = length-arcs (ofBits binary64 r) (ofBits binary64 d) ls ∙ count

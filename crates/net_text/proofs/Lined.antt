@@ -269,6 +269,9 @@ pub untouched : (base : ℕ) (kind place weight : List ℕ) → length kind ≡ 
 untouched base kind place weight k p w =
     record { kind-before = λ a h. refl; place-before = λ a h. refl; weight-before = λ a h. refl; kinds = k; places = p; weights = w }
 
+not-met : {P : Type 0} → false ≡ true → P
+not-met e = let z : _≡_ {A = ℕ} 0 1 = cc in absurd (omega arith)
+
 pub no-move : (line : Bytes) (base : ℕ) (kind₀ place₀ weight₀ kind place weight : List ℕ) → Kept base kind₀ place₀ weight₀ kind place weight
     → moveForm line ≡ wrong → MoveRead line base kind₀ place₀ weight₀ kind place weight noMove
 no-move line base kind₀ place₀ weight₀ kind place weight k e =
@@ -278,6 +281,9 @@ no-move line base kind₀ place₀ weight₀ kind place weight k e =
       count = refl;
       strange = refl;
       stored = λ h. refl;
+      kind-filled = λ ok. not-met ok;
+      place-filled = λ ok. not-met ok;
+      weight-filled = λ ok. not-met ok;
       kind-before = k .kind-before;
       place-before = k .place-before;
       weight-before = k .weight-before;
@@ -331,6 +337,9 @@ module _ (line : Bytes) (r : Pattern) (a : PatternAfter (bytes "(move ") line 0 
               count = b .count;
               strange = b .strange;
               stored = b .stored;
+              kind-filled = λ ok. b .kind-filled;
+              place-filled = λ ok. b .place-filled;
+              weight-filled = λ ok. b .weight-filled;
               kind-before = b .kind-before;
               place-before = b .place-before;
               weight-before = b .weight-before;

@@ -7,7 +7,7 @@ use mathlib.Core.List.{List, [], _∷_, map}
 use mathlib.Core.Option.{Option, none, some}
 use native.Mathlib.Omega.{arith}
 use lib.Dec.{eqb, leb, ltb}
-use lib.ListN.{length, getD, set, drop}
+use lib.ListN.{length, getD, set, drop, length-map}
 use lib.Ieee.{Float, binary64, ofBits}
 use borrow.Author.Tests.{eq-eqb, ne-eqb, leb-false, ltb-true, ltb-false, eqb-true, not-false}
 use Rattle.net.specs.Net.{Place, Transition, Net}
@@ -20,6 +20,7 @@ use Rattle.net.proofs.Slots.{length-arcs, length-slots}
 use Rattle.text.specs.Text.{Bytes}
 use Rattle.net_text.specs.Forms.{wrong, met, RawArc, rawPlace, rawMove, rawRun, lineOf, placeForm, moveForm, runForm}
 use Rattle.net_text.specs.Reading.{RunLine, badly, badArc, Due, inside, closing, goOn, unless, afterPlace, afterMove, insideLine, lineRead}
+use Rattle.net_text.specs.Filled.{arcSlot, kindSlots, placeSlots, weightSlots, withLine}
 use Rattle.net_text.specs.Scanned.{held, slotOf}
 use Rattle.net_text.specs.Seen.{PlaceRead, RunRead, MoveRead}
 use Rattle.net_text.specs.Position.{Tables, tables, netAt, Room, insideOf, LineTaken, PlaceTaken, MoveTaken, runTests}
@@ -30,7 +31,7 @@ use Rattle.net_text.specs.declared.form.MoveSeen.{MoveSeen}
 use Rattle.net_text.specs.declared.order.Stage.the-variants.{Inside, Closing}
 use Rattle.net_text.specs.declared.order.Taken.the-variants.{Fault, GoOn}
 use Rattle.net_text.proofs.Parts.{found-met, found-wrong, place-whole, place-more, move-whole, move-more, run-whole, run-more}
-use Rattle.net_text.proofs.Clipped.{later, place-held, run-held, move-held, move-crowded, move-late}
+use Rattle.net_text.proofs.Clipped.{held-whole, clean, later, place-held, run-held, move-held, move-crowded, move-late}
 use Rattle.net_text.proofs.Stored.{places-length, transitions-length, places-empty, transitions-empty, place-stored, place-room, move-stored, move-room}
 
 -- ---- tests
@@ -65,6 +66,16 @@ move-clean p k true b t e =
     not-refused 4 (tail-passes 3 (noSuchPlace p t) ((4, true) ∷ later t) (tail-passes 2 (tooMany p k t) ((3, noSuchPlace p t) ∷ (4, true) ∷ later t) e))
 move-clean p k false b t e = e
 
+-- and nothing is badly written
+place-proper : (p : ℕ) (bad : Bool) (q : Place) → firstOf (placeTests p bad q) ≡ none → bad ≡ false
+place-proper p true q e = not-refused 4 (tail-passes 2 (leb 32 p) ((4, true) ∷ []) e)
+place-proper p false q e = refl
+
+move-proper : (p k : ℕ) (a b : Bool) (t : Transition) → firstOf (moveTests p k (a || b) t) ≡ none → a ≡ false
+move-proper p k true b t e =
+    not-refused 4 (tail-passes 3 (noSuchPlace p t) ((4, true) ∷ later t) (tail-passes 2 (tooMany p k t) ((3, noSuchPlace p t) ∷ (4, true) ∷ later t) e))
+move-proper p k false b t e = refl
+
 -- a net with a place and no fault in its places and transitions has none
 whole-net : (m : NetRecord) → placesFault 0 (readable m .places) ≡ none → empty (readable m .places) ≡ false → movesFault m 0 (m .transitions) ≡ none → fault m ≡ none
 unfolding fault
@@ -77,6 +88,11 @@ or-no-left false b e = refl
 or-no-right : (a b : Bool) → (a || b) ≡ false → b ≡ false
 or-no-right true b e = let z : _≡_ {A = ℕ} 0 1 = cc in absurd (omega arith)
 or-no-right false b e = e
+
+-- a record whose transitions are the same
+same-record : (p t : ℕ) (T : Tables) {x x′ y y′ : List Float} {a a′ k k′ q q′ w w′ : List ℕ} → x ≡ x′ → y ≡ y′ → a ≡ a′ → k ≡ k′ → q ≡ q′ → w ≡ w′
+    → netAt p t (tables (T .initial) (T .capacity) x y a k q w) ≡ netAt p t (tables (T .initial) (T .capacity) x′ y′ a′ k′ q′ w′)
+same-record p t T d e f g h i = rw (d, e, f, g, h, i)
 
 module _ (p k : ℕ) (bad : Bool) (t : Transition) (e : firstOf (moveTests p k bad t) ≡ none) where
   few : tooMany p k t ≡ false
@@ -93,13 +109,13 @@ module _ (line : Bytes) (p t : ℕ) (T : Tables) where
   n = readable (netAt p t T)
 
   -- the form is wrong
-  pub wrong-line : (T′ : Tables) → lineOf line ≡ none → LineTaken (insideOf p t T) line T′ (Fault 1)
-  wrong-line T′ e = record { is = sym (ap (insideLine n) e); holds = tt }
+  pub wrong-line : (T′ : Tables) → lineOf line ≡ none → LineTaken (insideOf p t T) (netAt p t T) line T′ (Fault 1)
+  wrong-line T′ e = record { is = sym (ap (insideLine n) e); holds = tt; fills = tt }
 
   -- a test applies
   pub refused-by : (T′ : Tables) (v : Verdict) (k : ℕ) (d : Due) → v ≡ Refused k → lineRead (inside n) line ≡ unless (meaning v) d
-      → LineTaken (insideOf p t T) line T′ (Fault k)
-  refused-by T′ v k d e f = record { is = sym (f ∙ ap (λ (u : Verdict). unless (meaning u) d) e); holds = tt }
+      → LineTaken (insideOf p t T) (netAt p t T) line T′ (Fault k)
+  refused-by T′ v k d e f = record { is = sym (f ∙ ap (λ (u : Verdict). unless (meaning u) d) e); holds = tt; fills = tt }
 
   accepted-by : (v : Verdict) (d : Due) → v ≡ Accepted → lineRead (inside n) line ≡ unless (meaning v) d → goOn d ≡ lineRead (inside n) line
   accepted-by v d e f = sym (f ∙ ap (λ (u : Verdict). unless (meaning u) d) e)
@@ -112,7 +128,7 @@ module _ (line : Bytes) (p t : ℕ) (T : Tables) where
     place-met : s .ok ≡ true → placeForm line ≡ met (rawPlace (r .initial) (r .capacity)) (drop (s .next) line)
     place-met e = found-met (placeForm line) line (s .ok) (rawPlace (r .initial) (r .capacity)) (s .next) (r .is) e
 
-    pub place-behind : (T′ : Tables) → s .ok ≡ true → s .next < length line → LineTaken (insideOf p t T) line T′ (Fault 1)
+    pub place-behind : (T′ : Tables) → s .ok ≡ true → s .next < length line → LineTaken (insideOf p t T) (netAt p t T) line T′ (Fault 1)
     place-behind T′ e h = wrong-line T′ (place-more line (rawPlace (r .initial) (r .capacity)) (s .next) h (place-met e))
 
     abbrev q : Place
@@ -130,11 +146,11 @@ module _ (line : Bytes) (p t : ℕ) (T : Tables) where
           ∙ ap (λ (x : Place). unless (firstOf ((1, not (eqb t 0)) ∷ placeTests p (s .strange) x)) (afterPlace n x)) same
           ∙ ap (λ (o : Option ℕ). unless o (afterPlace n q)) (sym (taken .fault))
 
-      pub place-refused : (T′ : Tables) (k : ℕ) → v ≡ Refused k → LineTaken (insideOf p t T) line T′ (Fault k)
+      pub place-refused : (T′ : Tables) (k : ℕ) → v ≡ Refused k → LineTaken (insideOf p t T) (netAt p t T) line T′ (Fault k)
       place-refused T′ k e = refused-by T′ v k (afterPlace n q) e place-judged
 
       pub place-accepted : (run : RunRecord) → Room (netAt p t T) → v ≡ Accepted
-          → LineTaken (insideOf p t T) line (tables i′ c′ (T .rate) (T .delay) (T .arcs) (T .kind) (T .place) (T .weight))
+          → LineTaken (insideOf p t T) (netAt p t T) line (tables i′ c′ (T .rate) (T .delay) (T .arcs) (T .kind) (T .place) (T .weight))
           (GoOn (record { stage = Inside; places = p + 1; transitions = t; run = run }))
       place-accepted run room e =
           let passes : meaning v ≡ none = ap meaning e in
@@ -144,6 +160,9 @@ module _ (line : Bytes) (p t : ℕ) (T : Tables) where
           let small : p < 32 = place-few p (s .strange) q tested in
           let is-i : i′ ≡ set (T .initial) p (s .initial) = taken .stored-initial passes in
           let is-c : c′ ≡ set (T .capacity) p (s .capacity) = taken .stored-capacity passes in
+          let proper : (badly (r .initial) || badly (r .capacity)) ≡ false = sym (r .strange) ∙ place-proper p (s .strange) q tested in
+          let value-i : s .initial ≡ r .initial .value = r .held-initial ∙ held-whole (r .initial) (or-no-left (badly (r .initial)) (badly (r .capacity)) proper) in
+          let value-c : s .capacity ≡ r .capacity .value = r .held-capacity ∙ held-whole (r .capacity) (or-no-right (badly (r .initial)) (badly (r .capacity)) proper) in
           record {
             is =
                 ap (λ (m : Net). goOn (inside m))
@@ -158,6 +177,8 @@ module _ (line : Bytes) (p t : ℕ) (T : Tables) where
                       (place-room (T .initial) (T .capacity) (T .rate) (T .delay) (T .arcs) (T .kind) (T .place) (T .weight) p t (s .initial) (s .capacity) room small none-yet (place-clean p (s .strange) q tested));
                   at-stage = tt;
                 };
+            fills =
+                rw (place-whole line (rawPlace (r .initial) (r .capacity)) (s .next) whole (place-met ok), is-i, is-c, value-i, value-c);
           }
 
   -- ---- a run line
@@ -168,7 +189,7 @@ module _ (line : Bytes) (p t : ℕ) (T : Tables) where
     run-met : s .ok ≡ true → runForm line ≡ met (rawRun (r .samples) (r .realizations) (r .seed) (s .horizon)) (drop (s .next) line)
     run-met e = found-met (runForm line) line (s .ok) (rawRun (r .samples) (r .realizations) (r .seed) (s .horizon)) (s .next) (r .is) e
 
-    pub run-behind : (T′ : Tables) → placeForm line ≡ wrong → s .ok ≡ true → s .next < length line → LineTaken (insideOf p t T) line T′ (Fault 1)
+    pub run-behind : (T′ : Tables) → placeForm line ≡ wrong → s .ok ≡ true → s .next < length line → LineTaken (insideOf p t T) (netAt p t T) line T′ (Fault 1)
     run-behind T′ f e h = wrong-line T′ (run-more line (rawRun (r .samples) (r .realizations) (r .seed) (s .horizon)) (s .next) h f (run-met e))
 
     abbrev asked : RunLine
@@ -186,11 +207,11 @@ module _ (line : Bytes) (p t : ℕ) (T : Tables) where
           ∙ ap (λ (x : RunLine). unless (firstOf (runTests p (s .strange))) (closing n x)) same
           ∙ ap (λ (o : Option ℕ). unless o (closing n asked)) (sym judged)
 
-      pub run-refused : (T′ : Tables) (k : ℕ) → v ≡ Refused k → LineTaken (insideOf p t T) line T′ (Fault k)
+      pub run-refused : (T′ : Tables) (k : ℕ) → v ≡ Refused k → LineTaken (insideOf p t T) (netAt p t T) line T′ (Fault k)
       run-refused T′ k e = refused-by T′ v k (closing n asked) e run-judged
 
       pub run-accepted : Room (netAt p t T) → v ≡ Accepted
-          → LineTaken (insideOf p t T) line (tables (T .initial) (T .capacity) (T .rate) (T .delay) (T .arcs) (T .kind) (T .place) (T .weight))
+          → LineTaken (insideOf p t T) (netAt p t T) line (tables (T .initial) (T .capacity) (T .rate) (T .delay) (T .arcs) (T .kind) (T .place) (T .weight))
           (GoOn (record { stage = Closing; places = p; transitions = t; run = record { samples = s .samples; realizations = s .realizations; seed = s .seed; horizon = s .horizon } }))
       run-accepted room e =
           let some-place : eqb p 0 ≡ false = head-passes 2 (eqb p 0) ((4, s .strange) ∷ []) (sym judged ∙ ap meaning e) in
@@ -202,6 +223,8 @@ module _ (line : Bytes) (p t : ℕ) (T : Tables) where
                   at-stage =
                       whole-net (netAt p t T) (room .fit-places) (places-empty (T .initial) (T .capacity) 0 p ∙ some-place) (room .fit-transitions);
                 };
+            fills =
+                sym (ap (withLine (netAt p t T)) (run-whole line (rawRun (r .samples) (r .realizations) (r .seed) (s .horizon)) (s .next) whole no-place (run-met ok)));
           }
 
   -- ---- a move line
@@ -212,7 +235,7 @@ module _ (line : Bytes) (p t : ℕ) (T : Tables) where
     move-met : s .ok ≡ true → moveForm line ≡ met (rawMove (s .rate) (s .delay) (r .arcs)) (drop (s .next) line)
     move-met e = found-met (moveForm line) line (s .ok) (rawMove (s .rate) (s .delay) (r .arcs)) (s .next) (r .is) e
 
-    pub move-behind : (T′ : Tables) → placeForm line ≡ wrong → s .ok ≡ true → s .next < length line → LineTaken (insideOf p t T) line T′ (Fault 1)
+    pub move-behind : (T′ : Tables) → placeForm line ≡ wrong → s .ok ≡ true → s .next < length line → LineTaken (insideOf p t T) (netAt p t T) line T′ (Fault 1)
     move-behind T′ f e h = wrong-line T′ (move-more line (rawMove (s .rate) (s .delay) (r .arcs)) (s .next) h f (move-met e))
 
     abbrev ls : List Slot
@@ -252,11 +275,11 @@ module _ (line : Bytes) (p t : ℕ) (T : Tables) where
           ∙ ap (λ (b : Bool). unless (firstOf (moveTests p t (b || strange ls) u)) (afterMove n u)) (sym (r .strange))
           ∙ ap (λ (o : Option ℕ). unless o (afterMove n u)) (sym (taken .fault))
 
-      pub move-refused : (T′ : Tables) (k : ℕ) → v ≡ Refused k → LineTaken (insideOf p t T) line T′ (Fault k)
+      pub move-refused : (T′ : Tables) (k : ℕ) → v ≡ Refused k → LineTaken (insideOf p t T) (netAt p t T) line T′ (Fault k)
       move-refused T′ k e = refused-by T′ v k (afterMove n u) e move-judged
 
       pub move-accepted : (run : RunRecord) → v ≡ Accepted
-          → LineTaken (insideOf p t T) line (tables (T .initial) (T .capacity) x′ y′ a′ k′ p′ w′)
+          → LineTaken (insideOf p t T) (netAt p t T) line (tables (T .initial) (T .capacity) x′ y′ a′ k′ p′ w′)
           (GoOn (record { stage = Inside; places = p; transitions = t + 1; run = run }))
       move-accepted run e =
           let passes : meaning v ≡ none = ap meaning e in
@@ -268,6 +291,15 @@ module _ (line : Bytes) (p t : ℕ) (T : Tables) where
           let is-x : x′ ≡ set (T .rate) t (ofBits binary64 (s .rate)) = taken .stored-rate passes in
           let is-y : y′ ≡ set (T .delay) t (ofBits binary64 (s .delay)) = taken .stored-delay passes in
           let is-a : a′ ≡ set (T .arcs) t (s .count) = taken .stored-arcs passes in
+          let proper : any badArc xs ≡ false = sym (r .strange) ∙ move-proper p t (s .strange) (strange ls) u all in
+          let few-xs : length xs ≤ 16 = omega (arith, r .count) in
+          let is-n : s .count ≡ length (map arcSlot xs) = r .count ∙ sym (length-map xs arcSlot) in
+          let is-k : k′ ≡ kindSlots (16 * t) (map arcSlot xs) (T .kind) =
+          r .kind-filled ok few-xs ∙ ap (λ (l : List Slot). kindSlots base l (T .kind)) (sym (clean xs proper)) ∙ ap (λ (b : ℕ). kindSlots b (map arcSlot xs) (T .kind)) starts in
+          let is-p : p′ ≡ placeSlots (16 * t) (map arcSlot xs) (T .place) =
+          r .place-filled ok few-xs ∙ ap (λ (l : List Slot). placeSlots base l (T .place)) (sym (clean xs proper)) ∙ ap (λ (b : ℕ). placeSlots b (map arcSlot xs) (T .place)) starts in
+          let is-w : w′ ≡ weightSlots (16 * t) (map arcSlot xs) (T .weight) =
+          r .weight-filled ok few-xs ∙ ap (λ (l : List Slot). weightSlots base l (T .weight)) (sym (clean xs proper)) ∙ ap (λ (b : ℕ). weightSlots b (map arcSlot xs) (T .weight)) starts in
           let kinds : (a : ℕ) → a < 16 * t → getD k′ a 0 ≡ getD (T .kind) a 0 = λ a h. r .kind-before a (omega arith) in
           let places : (a : ℕ) → a < 16 * t → getD p′ a 0 ≡ getD (T .place) a 0 = λ a h. r .place-before a (omega arith) in
           let weights : (a : ℕ) → a < 16 * t → getD w′ a 0 ≡ getD (T .weight) a 0 = λ a h. r .weight-before a (omega arith) in
@@ -286,6 +318,9 @@ module _ (line : Bytes) (p t : ℕ) (T : Tables) where
                       (ofBits binary64 (s .rate)) (ofBits binary64 (s .delay)) kinds places weights last room small (r .kinds) (r .places) (r .weights) (move-clean p t (s .strange) (strange ls) u all));
                   at-stage = tt;
                 };
+            fills =
+                same-record p (t + 1) T is-x is-y (is-a ∙ ap (set (T .arcs) t) is-n) is-k is-p is-w
+                ∙ sym (ap (withLine (netAt p t T)) (move-whole line (rawMove (s .rate) (s .delay) xs) (s .next) whole no-place (move-met ok)));
           }
 
 -- the same floats

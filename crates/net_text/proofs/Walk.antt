@@ -8,7 +8,7 @@ use native.Mathlib.Omega.{arith}
 use native.Mathlib.Numerals.{add-one}
 use native.Mathlib.Nat.{add-zero}
 use lib.Dec.{ltb}
-use lib.ListN.{length, getD, set, drop, length-append, length-set, length-drop}
+use lib.ListN.{length, getD, set, drop, length-append, length-map, length-set, length-drop}
 use lib.Seq.{getD-set-same, getD-set-other}
 use borrow.Author.Tests.{lt-ltb, le-ltb}
 use Rattle.net.specs.Net.{pick}
@@ -17,6 +17,7 @@ use Rattle.net.specs.Readable.{Slot, slotAt, slots}
 use Rattle.text.specs.Text.{Bytes}
 use Rattle.net_text.specs.Forms.{Met, wrong, met, behind, many, RawArc, nextArc}
 use Rattle.net_text.specs.Reading.{badArc}
+use Rattle.net_text.specs.Filled.{filled, kindSlots, placeSlots, weightSlots}
 use Rattle.net_text.specs.Scanned.{through, SeenArc, slotOf, seenArc, arcIs, stored, ArcsRead}
 use Rattle.net_text.specs.declared.scan.ArcSeen.{ArcSeen}
 use Rattle.net_text.proofs.Forms.{found-yes, found-no}
@@ -91,6 +92,13 @@ map-last : (got : List RawArc) (a : RawArc) → map slotOf (got ++ (a ∷ [])) �
 map-last [] a = refl
 map-last (b ∷ got) a = ap (λ (ls : List Slot). slotOf b ∷ ls) (map-last got a)
 
+-- a table filled from one slot more
+filled-last : (f : Slot → ℕ) (a : ℕ) (ls : List Slot) (l : Slot) (xs : List ℕ) → filled f a (ls ++ (l ∷ [])) xs ≡ set (filled f a ls xs) (a + length ls) (f l)
+filled-last f a [] l xs = ap (λ (i : ℕ). set xs i (f l)) (sym (add-zero a))
+filled-last f a (b ∷ ls) l xs =
+    let same : suc a + length ls ≡ a + suc (length ls) = omega arith in
+    filled-last f (suc a) ls l (set xs a (f b)) ∙ ap (λ (i : ℕ). set (filled f (suc a) ls (set xs a (f b))) i (f l)) same
+
 or-assoc : (x y z : Bool) → (x || (y || z)) ≡ (x || y || z)
 or-assoc true y z = refl
 or-assoc false y z = refl
@@ -113,6 +121,9 @@ pub record Walk (l : Bytes) (at base : ℕ) (kind₀ place₀ weight₀ kind pla
   pub count-is : count ≡ length got
   pub strange-is : strange ≡ any badArc got
   pub slots-are : length got ≤ 16 → slots kind place weight base (length got) ≡ map slotOf got
+  pub kind-filled : length got ≤ 16 → kind ≡ kindSlots base (map slotOf got) kind₀
+  pub place-filled : length got ≤ 16 → place ≡ placeSlots base (map slotOf got) place₀
+  pub weight-filled : length got ≤ 16 → weight ≡ weightSlots base (map slotOf got) weight₀
   pub kind-before : (a : ℕ) → a < base → getD kind a 0 ≡ getD kind₀ a 0
   pub place-before : (a : ℕ) → a < base → getD place a 0 ≡ getD place₀ a 0
   pub weight-before : (a : ℕ) → a < base → getD weight a 0 ≡ getD weight₀ a 0
@@ -135,6 +146,9 @@ walk-none l at base kind place weight h k p w =
       count-is = refl;
       strange-is = refl;
       slots-are = λ s. refl;
+      kind-filled = λ s. refl;
+      place-filled = λ s. refl;
+      weight-filled = λ s. refl;
       kind-before = λ a b. refl;
       place-before = λ a b. refl;
       weight-before = λ a b. refl;
@@ -176,6 +190,19 @@ module _ (l : Bytes) (at base : ℕ) (kind₀ place₀ weight₀ kind place weig
         ∙ ap (λ (x : Slot). map slotOf (w .got) ++ (x ∷ [])) last
         ∙ sym (map-last (w .got) a))
 
+    filled-more : (f : Slot → ℕ) (v : ℕ) (xs₀ xs : List ℕ) (a : RawArc) → f (slotOf a) ≡ v
+        → (length (w .got) ≤ 16 → xs ≡ filled f base (map slotOf (w .got)) xs₀) → length (w .got ++ (a ∷ [])) ≤ 16
+        → stored base count v xs ≡ filled f base (map slotOf (w .got ++ (a ∷ []))) xs₀
+    filled-more f v xs₀ xs a s earlier h =
+        let long : length (w .got ++ (a ∷ [])) ≡ suc (length (w .got)) = length-append (w .got) (a ∷ []) ∙ add-one (length (w .got)) in
+        let there : base + count ≡ base + length (map slotOf (w .got)) = omega (arith, w .count-is, length-map (w .got) slotOf) in
+        sym (stored-yes base count v xs (omega (arith, w .count-is)))
+        ∙ ap (λ (ys : List ℕ). set ys (base + count) v) (earlier (omega arith))
+        ∙ ap (λ (i : ℕ). set (filled f base (map slotOf (w .got)) xs₀) i v) there
+        ∙ ap (λ (u : ℕ). set (filled f base (map slotOf (w .got)) xs₀) (base + length (map slotOf (w .got))) u) (sym s)
+        ∙ sym (filled-last f base (map slotOf (w .got)) (slotOf a) xs₀)
+        ∙ ap (λ (ls : List Slot). filled f base ls xs₀) (sym (map-last (w .got) a))
+
     more : r .ok ≡ true → r .next ≤ length l → base + 16 ≤ 1024
         → Walk l at base kind₀ place₀ weight₀ (stored base count (r .kind) kind) (stored base count (r .place) place) (stored base count (r .weight) weight) (count + 1)
         (strange || r .strange) (r .next)
@@ -190,6 +217,9 @@ module _ (l : Bytes) (at base : ℕ) (kind₀ place₀ weight₀ kind place weig
           count-is = omega (arith, w .count-is, length-append (w .got) (c .raw ∷ []));
           strange-is = rw (w .strange-is) (ap (λ (x : SeenArc). any badArc (w .got) || x .strange) (sym (c .seen-as)) ∙ sym (any-last (w .got) (c .raw)));
           slots-are = slots-more (c .raw) (c .seen-as) room;
+          kind-filled = filled-more (λ (x : Slot). x .kind) (r .kind) kind₀ kind (c .raw) (ap (λ (x : SeenArc). x .slot .kind) (c .seen-as)) (w .kind-filled);
+          place-filled = filled-more (λ (x : Slot). x .place) (r .place) place₀ place (c .raw) (ap (λ (x : SeenArc). x .slot .place) (c .seen-as)) (w .place-filled);
+          weight-filled = filled-more (λ (x : Slot). x .weight) (r .weight) weight₀ weight (c .raw) (ap (λ (x : SeenArc). x .slot .weight) (c .seen-as)) (w .weight-filled);
           kind-before = λ a b. stored-before base count (r .kind) kind a (omega arith) ∙ w .kind-before a b;
           place-before = λ a b. stored-before base count (r .place) place a (omega arith) ∙ w .place-before a b;
           weight-before = λ a b. stored-before base count (r .weight) weight a (omega arith) ∙ w .weight-before a b;
@@ -212,6 +242,9 @@ module _ (l : Bytes) (at base : ℕ) (kind₀ place₀ weight₀ kind place weig
           count = w .count-is;
           strange = w .strange-is;
           stored = w .slots-are;
+          kind-filled = w .kind-filled;
+          place-filled = w .place-filled;
+          weight-filled = w .weight-filled;
           kind-before = w .kind-before;
           place-before = w .place-before;
           weight-before = w .weight-before;

@@ -8,8 +8,9 @@ use Rattle.net.specs.Net.{pick}
 use Rattle.net.specs.Readable.{readable}
 use Rattle.text.specs.Text.{Bytes}
 use Rattle.net_text.specs.Reading.{refused, read}
-use Rattle.net_text.specs.Position.{Tables, netAt, runOf, answer, acceptedBy, linesRead, LinesRead}
-use Rattle.net_text.specs.Answered.{nothingBy, NetRead, TurnedDown}
+use Rattle.net_text.specs.Filled.{recordOf}
+use Rattle.net_text.specs.Position.{Tables, netAt, runOf, answer, acceptedBy, givenAs, linesRead, LinesRead}
+use Rattle.net_text.specs.Answered.{recordBy, NetRead, TurnedDown}
 use Rattle.net_text.specs.declared.Judged.{Judged}
 use Rattle.net_text.specs.declared.Judged.the-variants.{Given, Refused}
 use Rattle.net_text.specs.declared.NetText.{NetText}
@@ -26,7 +27,7 @@ turned-down : (t : Bytes) (c l : ℕ) (r : NetText) → TurnedDown c l r → ref
 turned-down t c l r d e =
     record {
       is = ap (λ (j : Judged). answer j (readable (r .net)) (runOf (r .run))) (d .judged) ∙ e;
-      nothing = subst (λ (j : Judged). nothingBy j r) (sym (d .judged)) (d .net, d .run);
+      slots = subst (λ (j : Judged). recordBy j t r) (sym (d .judged)) (d .net, d .run);
       passes = subst (λ (j : Judged). acceptedBy j (r .net)) (sym (d .judged)) tt;
     }
 
@@ -44,4 +45,8 @@ module _ (t : Bytes) (e : Ended) (T : Tables) (short : length t ≤ 8192) (all :
 
   pub whole-given : e .judged ≡ Given → NetRead t (record { judged = Given; net = netAt (e .places) (e .transitions) T; run = e .run })
   whole-given f =
-      record { is = ended Given f; nothing = tt; passes = subst (λ (j : Judged). acceptedBy j (netAt (e .places) (e .transitions) T)) f (all .passes) }
+      record {
+        is = ended Given f;
+        slots = subst (λ (j : Judged). givenAs j (netAt (e .places) (e .transitions) T) (recordOf t)) f (all .fills);
+        passes = subst (λ (j : Judged). acceptedBy j (netAt (e .places) (e .transitions) T)) f (all .passes);
+      }

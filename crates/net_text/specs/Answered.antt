@@ -1,11 +1,11 @@
 -- What the reader's answer says. Document 01, "Each operation's turn-downs: Net text": "A refusal gives number and line (from 1), no net".
 use Prim.Native.Nat.{ℕ}
 use mathlib.Core.Path.{_≡_}
-use Rattle.net.specs.Net.{Net}
 use Rattle.net.specs.Readable.{readable}
 use Rattle.net.specs.Record.{blank}
 use Rattle.text.specs.Text.{Bytes}
-use Rattle.net_text.specs.Reading.{Answer, given, read}
+use Rattle.net_text.specs.Reading.{Answer, read}
+use Rattle.net_text.specs.Filled.{recordOf}
 use Rattle.net_text.specs.Position.{runOf, noRun, answer, acceptedBy}
 use Rattle.net_text.specs.declared.Judged.{Judged}
 use Rattle.net_text.specs.declared.Judged.the-variants.{Given, Refused}
@@ -15,16 +15,16 @@ use Rattle.net_text.specs.declared.NetText.{NetText}
 abbrev pub meaning : NetText → Answer
 meaning r = answer (r .judged) (readable (r .net)) (runOf (r .run))
 
--- "no net": the net has no place and zeros in every slot, and the run line is zeros
-abbrev pub nothingBy : Judged → NetText → Type 0
-nothingBy Given r = Unit {0}
-nothingBy (Refused c l) r = (r .net ≡ blank) × (r .run ≡ noRun)
+-- the record, every slot of it: that which the text fills; or "no net", which has no place and zeros in every slot, and a run line of zeros
+abbrev pub recordBy : Judged → Bytes → NetText → Type 0
+recordBy Given t r = r .net ≡ recordOf t
+recordBy (Refused c l) t r = (r .net ≡ blank) × (r .run ≡ noRun)
 
--- the answer to a text is what the rules read in it; a refusal gives nothing else; and a net that is given is accepted, as data, by every other
+-- the answer to a text is what the rules read in it; its record is fixed whole; and a net that is given is accepted, as data, by every other
 -- operation: the tests 2 to 7 find no fault
 pub record NetRead (t : Bytes) (r : NetText) : Type 0 where
   pub is : meaning r ≡ read t
-  pub nothing : nothingBy (r .judged) r
+  pub slots : recordBy (r .judged) t r
   pub passes : acceptedBy (r .judged) (r .net)
 
 -- the answer that turns a text down

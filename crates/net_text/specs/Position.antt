@@ -2,7 +2,7 @@
 -- nothing here adds to them.
 use Prim.Native.Nat.{ℕ, _-_, _*_, _<_, _≤_}
 use mathlib.Core.Path.{_≡_}
-use mathlib.Core.Bool.{Bool, false, not, _||_}
+use mathlib.Core.Bool.{Bool, false, not}
 use mathlib.Core.List.{List, [], _∷_}
 use mathlib.Core.Option.{none}
 use lib.Dec.{eqb}
@@ -10,14 +10,16 @@ use lib.ListN.{length, getD, take, drop, set}
 use lib.Ieee.{Float, binary64, ofBits}
 use Rattle.refusals.specs as Refusal
 use Rattle.net.specs.Net.{Net}
-use Rattle.net.specs.Tests.{Test, firstOf, placeTests, moveTests}
-use Rattle.net.specs.Readable.{readable, transitionOf, slots, meaning, placesFault, movesFault}
+use Rattle.net.specs.Tests.{Test, firstOf, placeTests}
+use Rattle.net.specs.Readable.{readable, slots, slotsFault, meaning, placesFault, movesFault}
 use Rattle.net.specs.Readable as Readable
 use Rattle.net.specs.declared.Net.{Net as NetRecord}
 use Rattle.net.specs.declared.Verdict.{Verdict}
 use Rattle.text.specs.Text.{Bytes, newline}
 use Rattle.net_text.specs.Reading.{RunLine, Due, opening, inside, closing, nothing, Outcome, fault, goOn, lineRead, Answer, refused, given, readFrom, atEnd}
 use Rattle.net_text.specs.Lines.{lines}
+use Rattle.net_text.specs.Forms.{lineOf}
+use Rattle.net_text.specs.Filled.{withLine, recordOf}
 use Rattle.net_text.specs.declared.Judged.{Judged}
 use Rattle.net_text.specs.declared.Judged.the-variants.{Given, Refused}
 use Rattle.net_text.specs.declared.order.Ended.{Ended}
@@ -133,9 +135,16 @@ abbrev pub standing : Taken → Tables → Type 0
 standing (Fault c) t = Unit {0}
 standing (GoOn p) t = Standing p t
 
-pub record LineTaken (due : Due) (line : Bytes) (t : Tables) (r : Taken) : Type 0 where
+-- and else they hold this record
+abbrev pub holding : Taken → Tables → NetRecord → Type 0
+holding (Fault c) t n = Unit {0}
+holding (GoOn p) t n = netAt (p .places) (p .transitions) t ≡ n
+
+-- a line, with this due and the tables holding this record
+pub record LineTaken (due : Due) (n : NetRecord) (line : Bytes) (t : Tables) (r : Taken) : Type 0 where
   pub is : outcomeOf r t ≡ lineRead due line
   pub holds : standing r t
+  pub fills : holding r t (withLine n (lineOf line))
 
 -- a place line of the right form, by the values that 64 bits hold
 pub record PlaceTaken (places transitions : ℕ) (strange : Bool) (i c : ℕ) (initial₀ capacity₀ initial capacity : List ℕ) (r : Verdict) : Type 0 where
@@ -146,16 +155,14 @@ pub record PlaceTaken (places transitions : ℕ) (strange : Bool) (i c : ℕ) (i
 -- a move line of the right form, its arcs in the slots
 pub record MoveTaken (places transitions : ℕ) (strange : Bool) (rateBits delayBits count : ℕ) (kind place weight : List ℕ)
     (rate₀ delay₀ : List Float) (arcs₀ : List ℕ) (rate delay : List Float) (arcs : List ℕ) (r : Verdict) : Type 0 where
-  pub fault : meaning r ≡ firstOf (moveTests places transitions
-      (strange || Readable.strange (slots kind place weight (16 * transitions) count))
-      (transitionOf (ofBits binary64 rateBits) (ofBits binary64 delayBits) (slots kind place weight (16 * transitions) count)))
+  pub fault : meaning r ≡ slotsFault places transitions strange (ofBits binary64 rateBits) (ofBits binary64 delayBits) (slots kind place weight (16 * transitions) count)
   pub stored-rate : meaning r ≡ none → rate ≡ set rate₀ transitions (ofBits binary64 rateBits)
   pub stored-delay : meaning r ≡ none → delay ≡ set delay₀ transitions (ofBits binary64 delayBits)
   pub stored-arcs : meaning r ≡ none → arcs ≡ set arcs₀ transitions count
 
 -- a run line of the right form: "no place before the first … run line"; "Decimals … fit 64 bits, else 4"
 abbrev pub runTests : ℕ → Bool → List Test
-runTests places strange = (Refusal.wrongNumber, eqb places 0) ∷ (Refusal.outsideDomain, strange) ∷ []
+runTests places strange = (Refusal.badSize, eqb places 0) ∷ (Refusal.outsideDomain, strange) ∷ []
 
 -- ---- what the reading ends with
 
@@ -174,6 +181,14 @@ acceptedBy (Refused c l) n = Unit {0}
 abbrev pub accepted : Ended → Tables → Type 0
 accepted r t = acceptedBy (r .judged) (netAt (r .places) (r .transitions) t)
 
+-- a net that is given is this record
+abbrev pub givenAs : Judged → NetRecord → NetRecord → Type 0
+givenAs Given n m = n ≡ m
+givenAs (Refused c l) n m = Unit {0}
+
+abbrev pub recordIs : Ended → Tables → NetRecord → Type 0
+recordIs r t m = givenAs (r .judged) (netAt (r .places) (r .transitions) t) m
+
 -- all lines of a text
 abbrev pub linesRead : Bytes → Answer
 linesRead t = readFrom 1 opening (lines t .ended) (lines t .rest)
@@ -181,8 +196,10 @@ linesRead t = readFrom 1 opening (lines t .ended) (lines t .rest)
 pub record LinesRead (text : Bytes) (t : Tables) (r : Ended) : Type 0 where
   pub is : endOf r t ≡ linesRead text
   pub passes : accepted r t
+  pub fills : recordIs r t (recordOf text)
 
 -- the end of the text, at a position
 pub record AtEnd (number : ℕ) (p : Position) (t : Tables) (r : Ended) : Type 0 where
   pub is : endOf r t ≡ atEnd number (dueOf p t) []
   pub passes : Standing p t → accepted r t
+  pub fills : recordIs r t (netAt (p .places) (p .transitions) t)

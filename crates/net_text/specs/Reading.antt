@@ -101,7 +101,7 @@ insideLine n (some (rawMove rate delay arcs)) =
 insideLine n (some (rawRun s r seed horizon)) =
     let asked : RunLine = record { samples = s .value; realizations = r .value; seed = seed .value; horizon = horizon } in
     -- "no place before the first move or run line"
-    let tests : List Test = (Refusal.wrongNumber, empty (n .places)) ∷ (Refusal.outsideDomain, badly s || badly r || badly seed) ∷ [] in
+    let tests : List Test = (Refusal.badSize, empty (n .places)) ∷ (Refusal.outsideDomain, badly s || badly r || badly seed) ∷ [] in
     unless (firstOf tests) (closing n asked)
 
 abbrev pub noNet : Net
@@ -136,4 +136,4 @@ readFrom number d (l ∷ ls) rest = onward number (lineRead d l) (λ next. readF
 abbrev pub read : Bytes → Answer
 read t =
     let cut = lines t in
-    pick (tooLong t) (refused Refusal.wrongNumber 0) (readFrom 1 opening (cut .ended) (cut .rest))
+    pick (tooLong t) (refused Refusal.badSize 0) (readFrom 1 opening (cut .ended) (cut .rest))

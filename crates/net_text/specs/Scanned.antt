@@ -11,8 +11,9 @@ use Rattle.net.specs.Net.{pick}
 use Rattle.net.specs.Tests.{any}
 use Rattle.net.specs.Readable.{Slot, slots}
 use Rattle.text.specs.Text.{Bytes}
-use Rattle.net_text.specs.Forms.{Met, wrong, met, Form, say, _>>=_, _>>_, quoted, Decimal, RawArc, rawTake, rawPut, rawRead, rawBlock, decimal, nextArc, many}
+use Rattle.net_text.specs.Forms.{Met, wrong, met, Form, say, _>>=_, _>>_, quoted, Decimal, RawArc, decimal, nextArc, many}
 use Rattle.net_text.specs.Reading.{badly, badArc}
+use Rattle.net_text.specs.Filled.{arcSlot, kindSlots, placeSlots, weightSlots}
 use Rattle.net_text.specs.declared.scan.Number.{Number}
 use Rattle.net_text.specs.declared.scan.Pattern.{Pattern}
 use Rattle.net_text.specs.declared.scan.Pair.{Pair}
@@ -60,11 +61,11 @@ pub record SeenArc : Type 0 where
   pub slot : Slot
   pub strange : Bool
 
+-- its place and weight as 64 bits hold them
 abbrev pub slotOf : RawArc → Slot
-slotOf (rawTake p w k) = record { kind = pick (eqb (k .value) 1) 0 1; place = held (p .value); weight = held (w .value) }
-slotOf (rawPut p w) = record { kind = 2; place = held (p .value); weight = held (w .value) }
-slotOf (rawRead p w) = record { kind = 3; place = held (p .value); weight = held (w .value) }
-slotOf (rawBlock p w) = record { kind = 4; place = held (p .value); weight = held (w .value) }
+slotOf a =
+    let l = arcSlot a in
+    record { kind = l .kind; place = held (l .place); weight = held (l .weight) }
 
 abbrev pub seenArc : RawArc → SeenArc
 seenArc a = record { slot = slotOf a; strange = badArc a }
@@ -120,7 +121,7 @@ abbrev pub stored : ℕ → ℕ → ℕ → List ℕ → List ℕ
 stored base count v xs = pick (ltb count 16) (set xs (base + count) v) xs
 
 -- All arcs from a place of the line on: how many, whether one is badly written, and, where they are at most 16, that they stand in the slots from
--- base on. The slots before base are as they were.
+-- base on, and every other slot is as it was. The slots before base are as they were in any case.
 pub record ArcsRead (line : Bytes) (at base : ℕ) (kind₀ place₀ weight₀ kind place weight : List ℕ) (r : ArcsSeen) : Type 0 where
   pub arcs : List RawArc
   pub are : many nextArc (drop at line) ≡ met arcs (drop (r .next) line)
@@ -131,6 +132,9 @@ pub record ArcsRead (line : Bytes) (at base : ℕ) (kind₀ place₀ weight₀ k
   pub kind-before : (a : ℕ) → a < base → getD kind a 0 ≡ getD kind₀ a 0
   pub place-before : (a : ℕ) → a < base → getD place a 0 ≡ getD place₀ a 0
   pub weight-before : (a : ℕ) → a < base → getD weight a 0 ≡ getD weight₀ a 0
+  pub kind-filled : length arcs ≤ 16 → kind ≡ kindSlots base (map slotOf arcs) kind₀
+  pub place-filled : length arcs ≤ 16 → place ≡ placeSlots base (map slotOf arcs) place₀
+  pub weight-filled : length arcs ≤ 16 → weight ≡ weightSlots base (map slotOf arcs) weight₀
   pub kinds : length kind ≡ 1024
   pub places : length place ≡ 1024
   pub weights : length weight ≡ 1024

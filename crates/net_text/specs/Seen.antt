@@ -1,7 +1,7 @@
 -- What the answers of the lines' forms stand for. The rules are in Forms; nothing here adds to them.
 use Prim.Native.Nat.{ℕ, _<_, _≤_}
 use mathlib.Core.Path.{_≡_}
-use mathlib.Core.Bool.{false, _||_}
+use mathlib.Core.Bool.{true, false, _||_}
 use mathlib.Core.List.{List, map}
 use lib.ListN.{length, getD, drop}
 use Rattle.net.specs.Tests.{any}
@@ -9,6 +9,7 @@ use Rattle.net.specs.Readable.{slots}
 use Rattle.text.specs.Text.{Bytes}
 use Rattle.net_text.specs.Forms.{behind, Decimal, RawArc, rawPlace, rawMove, rawRun, exactly, decimal, float, placeForm, moveForm, runForm}
 use Rattle.net_text.specs.Reading.{badly, badArc}
+use Rattle.net_text.specs.Filled.{kindSlots, placeSlots, weightSlots}
 use Rattle.net_text.specs.Scanned.{through, found, held, seen, numberIs, patternIs, slotOf}
 use Rattle.net_text.specs.declared.scan.Number.{Number}
 use Rattle.net_text.specs.declared.scan.Pattern.{Pattern}
@@ -55,7 +56,7 @@ abbrev pub noRun : RunSeen
 noRun = record { ok = false; samples = 0; realizations = 0; seed = 0; horizon = 0; strange = false; next = 0 }
 
 -- A move line: its floats by their bits, how many arcs, whether one is badly written, and, where they are at most 16, that they stand in the
--- slots from base on. The slots before base are as they were.
+-- slots from base on, and every other slot is as it was. The slots before base are as they were even if the form is wrong or there are more arcs.
 pub record MoveRead (line : Bytes) (base : ℕ) (kind₀ place₀ weight₀ kind place weight : List ℕ) (r : MoveSeen) : Type 0 where
   pub arcs : List RawArc
   pub is : moveForm line ≡ found line (r .ok) (rawMove (r .rate) (r .delay) arcs) (r .next)
@@ -65,6 +66,9 @@ pub record MoveRead (line : Bytes) (base : ℕ) (kind₀ place₀ weight₀ kind
   pub kind-before : (a : ℕ) → a < base → getD kind a 0 ≡ getD kind₀ a 0
   pub place-before : (a : ℕ) → a < base → getD place a 0 ≡ getD place₀ a 0
   pub weight-before : (a : ℕ) → a < base → getD weight a 0 ≡ getD weight₀ a 0
+  pub kind-filled : r .ok ≡ true → length arcs ≤ 16 → kind ≡ kindSlots base (map slotOf arcs) kind₀
+  pub place-filled : r .ok ≡ true → length arcs ≤ 16 → place ≡ placeSlots base (map slotOf arcs) place₀
+  pub weight-filled : r .ok ≡ true → length arcs ≤ 16 → weight ≡ weightSlots base (map slotOf arcs) weight₀
   pub kinds : length kind ≡ 1024
   pub places : length place ≡ 1024
   pub weights : length weight ≡ 1024

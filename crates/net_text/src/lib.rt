@@ -1,4 +1,4 @@
-// Reads a net text. specs/Forms and specs/Reading say what a text means, specs/Answered what the answer says.
+// Reads a net text. specs/Forms and specs/Reading say what a text means, specs/Filled which record holds its net, specs/Answered what the answer says.
 ghost use Rattle.net_text.specs.Answered as Answered;
 
 mod form;
@@ -41,12 +41,12 @@ fn refused(number: u64, line: u64) -> NetText
     }
 }
 
-// Reads a text of any bytes and any length.
+// Reads a text of any bytes and any length. Every slot of the record is fixed: arcs stand in line order, and slots past the counts are 0.
 pub fn read_net(text: &[u8]) -> NetText
     ensures { λ r. ⌜ Answered.NetRead (now (text .entry)) r ⌝ }
 {
     if 8192 < text.len() {
-        return refused(refusals::WRONG_NUMBER, 0);
+        return refused(refusals::BAD_SIZE, 0);
     }
     let mut initial = [0u64; 32];
     let mut capacity = [0u64; 32];

@@ -1,15 +1,13 @@
 // The lines in their order, and what each adds to the net. The net's arrays are lent apart, since the scanner stores through three of them.
 ghost use mathlib.Core.Path.{_≡_};
-ghost use mathlib.Core.Bool.{false, not};
 ghost use Prim.Native.Nat.{_+_, _*_, _<_, _≤_};
 ghost use lib.ListN.{length};
 ghost use lib.Ieee as Ieee;
-ghost use Rattle.refusals.specs as Refusal;
 ghost use Rattle.net.specs.Tests as Tests;
 ghost use Rattle.net.specs.Readable as Readable;
+ghost use Rattle.net.specs.Record.{blank};
 ghost use Rattle.text.specs.Text as Text;
 ghost use Rattle.net_text.specs.Position as Spec;
-ghost use Rattle.net_text.specs.Reading as Reading;
 use super::Judged;
 use super::RunLine;
 use super::form;
@@ -167,7 +165,7 @@ fn run_fault(places: usize, strange: bool) -> net::Verdict
     ensures { λ r. ⌜ Readable.meaning r ≡ Tests.firstOf (Spec.runTests places strange) ⌝ }
 {
     if places == 0 {
-        return net::Verdict::Refused(refusals::WRONG_NUMBER);
+        return net::Verdict::Refused(refusals::BAD_SIZE);
     }
     if strange {
         return net::Verdict::Refused(refusals::OUTSIDE_DOMAIN);
@@ -199,10 +197,10 @@ fn inside_line(
     place: &mut [usize; 1024],
     weight: &mut [u64; 1024],
 ) -> Taken
-    requires { ⌜ Spec.Room (Spec.netAt places transitions (Spec.tables (now initial) (now capacity) (now rate) (now delay) (now arcs) (now kind) (now place) (now weight))) ⌝ }
-    ensures { λ r. ⌜ Spec.LineTaken
-        (Spec.insideOf places transitions (Spec.tables (now (initial .entry)) (now (capacity .entry)) (now (rate .entry)) (now (delay .entry)) (now (arcs .entry)) (now (kind .entry)) (now (place .entry)) (now (weight .entry))))
-        (now (line .entry))
+    ghost { Spec.Tables }
+    requires { λ before. ⌜ Spec.tables (now initial) (now capacity) (now rate) (now delay) (now arcs) (now kind) (now place) (now weight) ≡ before ⌝ }
+    requires { λ before. ⌜ Spec.Room (Spec.netAt places transitions before) ⌝ }
+    ensures { λ before r. ⌜ Spec.LineTaken (Spec.insideOf places transitions before) (Spec.netAt places transitions before) (now (line .entry))
         (Spec.tables (now (initial .exit)) (now (capacity .exit)) (now (rate .exit)) (now (delay .exit)) (now (arcs .exit)) (now (kind .exit)) (now (place .exit)) (now (weight .exit))) r ⌝ }
 {
     let p = form::place_form(line);
@@ -296,10 +294,10 @@ fn one_line(
     place: &mut [usize; 1024],
     weight: &mut [u64; 1024],
 ) -> Taken
-    requires { ⌜ Spec.Standing p (Spec.tables (now initial) (now capacity) (now rate) (now delay) (now arcs) (now kind) (now place) (now weight)) ⌝ }
-    ensures { λ r. ⌜ Spec.LineTaken
-        (Spec.dueOf p (Spec.tables (now (initial .entry)) (now (capacity .entry)) (now (rate .entry)) (now (delay .entry)) (now (arcs .entry)) (now (kind .entry)) (now (place .entry)) (now (weight .entry))))
-        (now (line .entry))
+    ghost { Spec.Tables }
+    requires { λ before. ⌜ Spec.tables (now initial) (now capacity) (now rate) (now delay) (now arcs) (now kind) (now place) (now weight) ≡ before ⌝ }
+    requires { λ before. ⌜ Spec.Standing p before ⌝ }
+    ensures { λ before r. ⌜ Spec.LineTaken (Spec.dueOf p before) (Spec.netAt (p .places) (p .transitions) before) (now (line .entry))
         (Spec.tables (now (initial .exit)) (now (capacity .exit)) (now (rate .exit)) (now (delay .exit)) (now (arcs .exit)) (now (kind .exit)) (now (place .exit)) (now (weight .exit))) r ⌝ }
 {
     let stage = p.stage;
@@ -376,7 +374,7 @@ fn after_last(p: Position, number: u64) -> Ended
     }
 }
 
-// Line by line; the first that is refused decides.
+// Line by line into tables of zeros; the first line that is refused decides.
 pub fn read_lines(
     text: &[u8],
     initial: &mut [u64; 32],
@@ -388,7 +386,7 @@ pub fn read_lines(
     place: &mut [usize; 1024],
     weight: &mut [u64; 1024],
 ) -> Ended
-    requires { ⌜ Spec.Room (Spec.netAt 0 0 (Spec.tables (now initial) (now capacity) (now rate) (now delay) (now arcs) (now kind) (now place) (now weight))) ⌝ }
+    requires { ⌜ Spec.netAt 0 0 (Spec.tables (now initial) (now capacity) (now rate) (now delay) (now arcs) (now kind) (now place) (now weight)) ≡ blank ⌝ }
     ensures { λ r. ⌜ Spec.LinesRead (now (text .entry)) (Spec.tables (now (initial .exit)) (now (capacity .exit)) (now (rate .exit)) (now (delay .exit)) (now (arcs .exit)) (now (kind .exit)) (now (place .exit)) (now (weight .exit))) r ⌝ }
 {
     let mut p = Position {

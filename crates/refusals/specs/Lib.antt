@@ -5,9 +5,9 @@ use Prim.Native.Nat.{ℕ}
 abbrev pub wrongForm : ℕ
 wrongForm = 1
 
--- too many places, transitions, arcs or bytes, or no place
-abbrev pub wrongNumber : ℕ
-wrongNumber = 2
+-- how large a net or its text is: too many places, transitions, arcs or bytes, or no place
+abbrev pub badSize : ℕ
+badSize = 2
 
 -- a place number not below the place count
 abbrev pub noSuchPlace : ℕ

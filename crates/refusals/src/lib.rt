@@ -2,7 +2,7 @@
 
 pub const WRONG_FORM: u64 = 1;
 
-pub const WRONG_NUMBER: u64 = 2;
+pub const BAD_SIZE: u64 = 2;
 
 pub const NO_SUCH_PLACE: u64 = 3;
 

@@ -1,6 +1,5 @@
 -- Over 8,192 bytes nothing is looked at; else what the lines give is the answer.
 use borrow.Author.Needs.{needs}
-use native.Mathlib.Omega.{arith}
 use mathlib.Core.Path.{refl}
 use Rattle.net_text.specs.Position.{tables}
 use Rattle.net_text.proofs.Whole.{too-long, whole-refused, whole-given}
@@ -14,22 +13,7 @@ returns : tie.Need-returns
 returns c = too-long (c .before .before .before .args .text .now) (c .refused .result) (c .refused .ensures) (c .before .if1 .taken)
 
 read-lines-requires : tie.Need-read-lines-requires
-read-lines-requires c κs =
-    record {
-      initials = search needs;
-      capacities = search needs;
-      rates = search needs;
-      delays = search needs;
-      counts = search needs;
-      kinds = search needs;
-      ends = search needs;
-      weights = search needs;
-      few-places = search needs;
-      few-transitions = search needs;
-      few-arcs = λ j h. absurd (omega arith);
-      fit-places = refl;
-      fit-transitions = refl;
-    }
+read-lines-requires c κs = refl
 
 enum-known-judged : tie.Need-enum-known-judged
 enum-known-judged c = search needs

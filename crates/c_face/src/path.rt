@@ -1,0 +1,64 @@
+// The path, its answer told in numbers.
+ghost use mathlib.Core.Path.{_≡_};
+ghost use Rattle.net.specs.Record.{lent};
+ghost use Rattle.rng.specs.State.{words};
+ghost use Rattle.ssa.specs.Path as Path;
+ghost use Rattle.c_face.specs.Played as Played;
+use net::Net;
+use rng::Xoshiro256;
+use ssa::PathEnd;
+
+// The number of an end: the refusal's own, or 100 for quiet, 101 for spent, 102 for reached.
+fn end_number(end: PathEnd) -> u64
+    ensures { λ r. ⌜ r ≡ Played.endNumber (Path.endOf end) ⌝ }
+{
+    match end {
+        PathEnd::Quiet => 100,
+        PathEnd::Spent => 101,
+        PathEnd::Reached => 102,
+        PathEnd::Refused(c) => c,
+    }
+}
+
+// A path of the net whose fields are lent, from the state, which is left as the path leaves it. The number of the end goes to told, with the
+// steps, the settled instants and the peak.
+#[no_mangle]
+pub extern "C" fn cild_path(
+    places: usize,
+    transitions: usize,
+    initial: &[u64; 32],
+    capacity: &[u64; 32],
+    rate: &[f64; 64],
+    delay: &[f64; 64],
+    arcs: &[usize; 64],
+    kind: &[u64; 1024],
+    place: &[usize; 1024],
+    weight: &[u64; 1024],
+    state: &mut [u64; 4],
+    instants: &[f64],
+    limit: u64,
+    table: &mut [f64],
+    told: &mut [u64; 4],
+)
+    ensures { λ _. ⌜ Played.Left (Path.called (lent places transitions (now (initial .entry)) (now (capacity .entry)) (now (rate .entry)) (now (delay .entry))
+        (now (arcs .entry)) (now (kind .entry)) (now (place .entry)) (now (weight .entry))) (words (now (state .entry))) (now (instants .entry)) limit (now (table .entry)))
+        (now (told .exit)) (words (now (state .exit))) (now (table .exit)) ⌝ }
+{
+    let net = Net {
+        places: places,
+        transitions: transitions,
+        initial: *initial,
+        capacity: *capacity,
+        rate: *rate,
+        delay: *delay,
+        arcs: *arcs,
+        kind: *kind,
+        place: *place,
+        weight: *weight,
+    };
+    let r = ssa::path(net, Xoshiro256::from_state(*state), instants, limit, table);
+    let end = r.end;
+    *told = [end_number(end), r.steps, r.settled, r.peak];
+    let generator = r.generator;
+    *state = generator.state();
+}
