@@ -16,3 +16,4 @@ pub mod Drawn
 pub mod Accepted
 pub mod Races
 pub mod Firings
+pub mod Shows

@@ -22,6 +22,7 @@ use Rattle.rules.specs.Demand3 as Rule
 use Rattle.rules.specs.Demand3.{instant, earlier, EachAllowed}
 use Rattle.rules.proofs.Demand3Held as Held
 use Rattle.rules.proofs.TakesOnce.{takes-once}
+use Rattle.rules.proofs.Shows.{shown-fits}
 use Rattle.ssa.specs.Cells.{rowsFrom, tableOf}
 use Rattle.ssa.specs.Path.{Call, turnedDown, played, tableFits, afterNet, unlessFault, called}
 use Rattle.ssa.specs.Demand3.{Answered, cell, Balanced, Demand3}
@@ -137,6 +138,7 @@ demand3 n g =
           let many = places-long (n .initial) (n .capacity) 0 (n .places) in
           record {
             count = Rule.count (v .answer) i p;
+            exact = shown-fits n (v .sound) g xs k (v .answer) (v .works) i p;
             shows = cell-is n g xs k t v p i q h;
             balance = rule v .counts xs k (v .answer) (v .works) i h p (omega arith);
           };
