@@ -17,3 +17,4 @@ pub mod Accepted
 pub mod Races
 pub mod Firings
 pub mod Shows
+pub mod Values

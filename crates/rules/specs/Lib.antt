@@ -6,5 +6,6 @@ pub mod Moves
 pub mod Step
 pub mod Run
 pub mod Gillespie
+pub mod Values
 pub mod Shown
 pub mod Demand3
