@@ -18,7 +18,7 @@ use Rattle.rules.specs.Timers.{Timer, first, others}
 use Rattle.rules.specs.Moves.{Entry, reading, started, completed, fired, move, after, initialCounts}
 use Rattle.rules.specs.Step.{State, state, Answer, refused, given, Starts, starts, waiting, drawnFor, Next, nothingLeft, race, completion, next, Event, countsFit, event, fire, Step, still, sets, setClock, goOn, afterStarts, step}
 use Rattle.rules.specs.Run.{ends, steps, reached, concluded, stepped, run, entries, beginning, trace}
-use Rattle.rules.specs.Shown.{before, shownAt, lastOf, Path, runOf, path}
+use Rattle.rules.specs.Shown.{before, shownAt, lastOf, Path, runOf, acceptedPath}
 use Rattle.rules.specs.Demand3.{count}
 use Rattle.rules.proofs.Allowing.{starts-lead}
 use Rattle.rules.proofs.Accepted.{accepted, fit-held, starts-fit}
@@ -153,7 +153,7 @@ each-fits f h [] i = refl
 each-fits f h (x ∷ xs) zero = h x
 each-fits f h (x ∷ xs) (suc i) = each-fits f h xs i
 
-pub shown-fits : (n : NetRecord) → fault n ≡ none → (g : Generator) (xs : List Float) (k : ℕ) (a : Path) → path (readable n) g xs k ≡ given a
+pub shown-fits : (n : NetRecord) → fault n ≡ none → (g : Generator) (xs : List Float) (k : ℕ) (a : Path) → acceptedPath (readable n) g xs k ≡ given a
     → (i p : ℕ) → count a i p ≤ 2 ^ 53
 shown-fits n e g xs k a q i p =
     fit-held (getD (a .shown) i [])

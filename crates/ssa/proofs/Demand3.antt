@@ -17,7 +17,7 @@ use Rattle.rules.specs.Propensity.{float}
 use Rattle.rules.specs.Moves.{Entry, initialCounts, putAt, takenAt}
 use Rattle.rules.specs.Step.{Answer, refused, given}
 use Rattle.rules.specs.Run.{End, quiet, spent, reached, trace}
-use Rattle.rules.specs.Shown.{Path, reaches, reachedFrom, settledOf, instantsFit, limitFits, worked, path, runOf}
+use Rattle.rules.specs.Shown.{Path, reaches, reachedFrom, settledOf, instantsFit, limitFits, worked, acceptedPath, runOf}
 use Rattle.rules.specs.Demand3 as Rule
 use Rattle.rules.specs.Demand3.{instant, earlier, EachAllowed}
 use Rattle.rules.proofs.Demand3Held as Held
@@ -32,7 +32,7 @@ use Rattle.ssa.proofs.Cells.{cell-in, rows-at, rows-long}
 record Whole (n : NetRecord) (g : Generator) (xs : List Float) (k : ℕ) (t : List Float) : Type 0 where
   sound : fault n ≡ none
   answer : Path
-  works : path (readable n) g xs k ≡ given answer
+  works : acceptedPath (readable n) g xs k ≡ given answer
   settles : called n g xs k t .settled ≡ answer .settled
   table : called n g xs k t .table ≡ tableOf (length (readable n .places)) (answer .shown) t
 
