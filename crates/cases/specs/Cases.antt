@@ -33,8 +33,8 @@ answer (refused c) = 1 ∷ c ∷ []
 
 -- ---- floats and a state for short
 
-abbrev float : ℕ → Float
-float b = ofBits binary64 b
+abbrev f64 : ℕ → Float
+f64 b = ofBits binary64 b
 
 abbrev start : State
 start = record { s0 = 1; s1 = 2; s2 = 3; s3 = 4 }
@@ -55,20 +55,20 @@ cases =
     ∷ case (output (step start) ∷ []) (0 ∷ [])
     ∷ case (output (step (step start)) ∷ []) (1509978240 ∷ [])
     -- frexp(1) = 0.5, 1
-    ∷ case (parts (frexp (float 0x3FF0_0000_0000_0000))) (0x3FE0_0000_0000_0000 ∷ 0 ∷ 1 ∷ [])
+    ∷ case (parts (frexp (f64 0x3FF0_0000_0000_0000))) (0x3FE0_0000_0000_0000 ∷ 0 ∷ 1 ∷ [])
     -- frexp(2^-1074) = 0.5, −1073
-    ∷ case (parts (frexp (float 0x0000_0000_0000_0001))) (0x3FE0_0000_0000_0000 ∷ 1 ∷ 1073 ∷ [])
+    ∷ case (parts (frexp (f64 0x0000_0000_0000_0001))) (0x3FE0_0000_0000_0000 ∷ 1 ∷ 1073 ∷ [])
     -- plog(1) = +0
-    ∷ case (bits (plog (float 0x3FF0_0000_0000_0000))) (0 ∷ [])
+    ∷ case (bits (plog (f64 0x3FF0_0000_0000_0000))) (0 ∷ [])
     -- combinations (5,2) = 10, (1,2) = 0, (1,−3) = 1
     ∷ case (answer (combinations (pos 5) (pos 2))) (0 ∷ 0x4024_0000_0000_0000 ∷ [])
     ∷ case (answer (combinations (pos 1) (pos 2))) (0 ∷ 0 ∷ [])
     ∷ case (answer (combinations (pos 1) (negsuc 2))) (0 ∷ 0x3FF0_0000_0000_0000 ∷ [])
     -- combinations_real(0.5, 2) = −0.125
-    ∷ case (answer (combinationsReal (float 0x3FE0_0000_0000_0000) (pos 2))) (0 ∷ 0xBFC0_0000_0000_0000 ∷ [])
+    ∷ case (answer (combinationsReal (f64 0x3FE0_0000_0000_0000) (pos 2))) (0 ∷ 0xBFC0_0000_0000_0000 ∷ [])
     -- the root of 4 is 2, of −0 is −0
-    ∷ case (bits (rootOf (float 0x4010_0000_0000_0000))) (0x4000_0000_0000_0000 ∷ [])
-    ∷ case (bits (rootOf (float 0x8000_0000_0000_0000))) (0x8000_0000_0000_0000 ∷ [])
+    ∷ case (bits (rootOf (f64 0x4010_0000_0000_0000))) (0x4000_0000_0000_0000 ∷ [])
+    ∷ case (bits (rootOf (f64 0x8000_0000_0000_0000))) (0x8000_0000_0000_0000 ∷ [])
     ∷ []
 
 abbrev same : List ℕ → List ℕ → Bool

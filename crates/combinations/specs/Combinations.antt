@@ -4,8 +4,10 @@ use Prim.Native.Nat.{ℕ, zero, suc, _+_, _^_}
 use mathlib.Core.Bool.{Bool, _||_, cond}
 use lib.IntN.{ℤ, pos, _-ℤ_, natAbs}
 use lib.Signed.{ltZ, leZ}
-use lib.Ieee.{Float, binary64, ofInt, ofBits, sub, mul, div}
+use lib.Ieee.{Float, binary64, ofInt, sub, mul, div}
 use Rattle.refusals.specs as Refusal
+use Rattle.floats.specs.{float}
+pub use Rattle.floats.specs.{zero64, one64}
 use Rattle.combinations.specs.declared.Ways.{Ways}
 use Rattle.combinations.specs.declared.Ways.the-variants.{Value, Refused}
 
@@ -23,19 +25,9 @@ meaning Refused = refused Refusal.outsideDomain
 
 -- ---- the product
 
--- a whole number as a float
-abbrev pub float : ℤ → Float
-float z = ofInt binary64 z
-
-abbrev pub one64 : Float
-one64 = ofBits binary64 0x3FF0_0000_0000_0000
-
-abbrev pub zero64 : Float
-zero64 = ofBits binary64 0x0000_0000_0000_0000
-
 -- "multiply and divide per factor": times factor i, then over i + 1
 abbrev pub withFactor : Float → Float → ℕ → Float
-withFactor r x i = div binary64 (mul binary64 r x) (float (pos (i + 1)))
+withFactor r x i = div binary64 (mul binary64 r x) (float (i + 1))
 
 -- from 1, with the first w factors
 abbrev pub product : (ℕ → Float) → ℕ → Float
@@ -44,11 +36,11 @@ product factor (suc i) = withFactor (product factor i) (factor i) i
 
 -- factor i of the integer form is m - i, a whole number as a float
 abbrev pub wholeFactor : ℤ → ℕ → Float
-wholeFactor m i = float (m -ℤ pos i)
+wholeFactor m i = ofInt binary64 (m -ℤ pos i)
 
 -- factor i of the real form is x less the float of i
 abbrev pub realFactor : Float → ℕ → Float
-realFactor x i = sub binary64 x (float (pos i))
+realFactor x i = sub binary64 x (float i)
 
 -- ---- the two forms
 

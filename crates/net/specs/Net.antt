@@ -4,7 +4,8 @@ use mathlib.Core.Bool.{Bool, true, false}
 use mathlib.Core.List.{List, [], _∷_}
 use lib.Dec.{eqb}
 use lib.ListN.{getD}
-use lib.Ieee.{Float, binary64, ofBits, lt, eq}
+use lib.Ieee.{Float, lt, eq}
+pub use Rattle.floats.specs.{zero64, one64}
 
 -- capacity 0: no bound
 pub record Place : Type 0 where
@@ -38,12 +39,6 @@ pub record Net : Type 0 where
 abbrev pub pick : {A : Type 0} → Bool → A → A → A
 pick true a b = a
 pick false a b = b
-
-abbrev pub zero64 : Float
-zero64 = ofBits binary64 0
-
-abbrev pub one64 : Float
-one64 = ofBits binary64 0x3FF0_0000_0000_0000
 
 -- "weight 0 means 1"
 abbrev pub amount : ℕ → ℕ

@@ -8,6 +8,7 @@ use lib.Bits.{bitAnd, bitOr}
 use lib.IntN.{ℤ, pos, _-ℤ_}
 use lib.ListN.{getD}
 use lib.Ieee.{Float, nan, inf, binary64, toBits, ofBits, ofInt, add, sub, mul, div, lt, eq, isNan}
+pub use Rattle.floats.specs.{zero64, one64}
 use Rattle.portable_log.specs.declared.Parts.{Parts}
 
 -- the binary64 of a bit pattern, and the operations on two of them
@@ -27,16 +28,10 @@ times x y = mul binary64 x y
 abbrev over : Float → Float → Float
 over x y = div binary64 x y
 
--- 0, 0.5, 1, 2, 2 ^ 52, sqrt(2) / 2, and the logarithm of 2 in a high and a low part
-
-abbrev pub zero64 : Float
-zero64 = f64 0x0000_0000_0000_0000
+-- beside 0 and 1: 0.5, 2, 2 ^ 52, sqrt(2) / 2, and the logarithm of 2 in a high and a low part
 
 abbrev pub half64 : Float
 half64 = f64 0x3FE0_0000_0000_0000
-
-abbrev pub one64 : Float
-one64 = f64 0x3FF0_0000_0000_0000
 
 abbrev pub two64 : Float
 two64 = f64 0x4000_0000_0000_0000

@@ -14,7 +14,7 @@ use Rattle.rng.specs.State.{State as Generator}
 use Rattle.rules.specs.Moves.{Entry, reading, after, initialCounts, takenAt, putAt, transition}
 use Rattle.rules.specs.Step.{Answer, refused, given}
 use Rattle.rules.specs.Run.{End, quiet, spent, reached, Run, beginning, run, Outcome, outcome, entries, trace}
-use Rattle.rules.specs.Shown.{before, reaches, shownAt, reachedFrom, settledOf, rising, instantsFit, limitFits, lastOf, Path, reported, runOf, path}
+use Rattle.rules.specs.Shown.{before, reaches, shownAt, reachedFrom, settledOf, rising, instantsFit, limitFits, lastOf, Path, reported, runOf, acceptedPath}
 use Rattle.rules.proofs.Order.{never, both, le-refl, le-trans, le-nan-r, eq-le}
 use Rattle.rules.specs.Demand3.{takesOnce, placesOnce, EachAllowed, instant, count, earlier, Demand3}
 use Rattle.rules.proofs.Counts.{counted, once-each, allowed-before}
@@ -55,7 +55,7 @@ pub record Answered (n : Net) (g : Generator) (xs : List Float) (k : ℕ) (a : P
   pub shows : a .shown ≡ map (shownAt n (trace (runOf n g xs k))) xs
   pub settles : a .settled ≡ settledOf (ending .end) (trace (runOf n g xs k)) xs
 
-pub answered : (n : Net) (g : Generator) (xs : List Float) (k : ℕ) (a : Path) → path n g xs k ≡ given a → Answered n g xs k a
+pub answered : (n : Net) (g : Generator) (xs : List Float) (k : ℕ) (a : Path) → acceptedPath n g xs k ≡ given a → Answered n g xs k a
 answered n g xs k a p = listed (instantsFit xs) refl p
   where
     ran : instantsFit xs ≡ true → (o : Answer Outcome) → outcome (runOf n g xs k) ≡ o → reported n xs (runOf n g xs k) o ≡ given a → Answered n g xs k a
@@ -110,13 +110,13 @@ settled-few reached es xs = omega arith
 
 module _ (n : Net) (g : Generator) where
   -- the counts that an answer shows, from the run
-  shown : (xs : List Float) (k : ℕ) (a : Path) → path n g xs k ≡ given a → (i : ℕ) → i < length xs
+  shown : (xs : List Float) (k : ℕ) (a : Path) → acceptedPath n g xs k ≡ given a → (i : ℕ) → i < length xs
       → (p : ℕ) → count a i p ≡ held (after n (initialCounts n) (earlier n g xs k i)) p
   shown xs k a h i l p =
       ap (λ (ms : List Marking). held (getD ms i []) p) (answered n g xs k a h .shows)
       ∙ ap (λ (m : Marking). held m p) (at-instant (shownAt n (trace (runOf n g xs k))) xs i l)
 
-  lists : (xs ys : List Float) (k : ℕ) (a b : Path) → path n g xs k ≡ given a → path n g ys k ≡ given b
+  lists : (xs ys : List Float) (k : ℕ) (a b : Path) → acceptedPath n g xs k ≡ given a → acceptedPath n g ys k ≡ given b
       → (i j : ℕ) → i < length xs → j < length ys → eq (instant xs i) (instant ys j) ≡ true
       → (p : ℕ) → count a i p ≡ count b j p
   lists xs ys k a b ha hb i j li lj e p =
@@ -146,7 +146,7 @@ module _ (n : Net) (g : Generator) where
               ap (λ (es : List Entry). reading zero64 ∷ es)
               (same n (instant xs i) (lastOf xs) (lastOf ys) (fx .0) (fx .1) (eq-le (instant xs i) (instant ys j) (lastOf ys) e ∙ fy .1) k (beginning n g) q)
 
-  limits : (xs : List Float) (k l : ℕ) (a b : Path) → path n g xs k ≡ given a → path n g xs l ≡ given b → k ≤ l
+  limits : (xs : List Float) (k l : ℕ) (a b : Path) → acceptedPath n g xs k ≡ given a → acceptedPath n g xs l ≡ given b → k ≤ l
       → (i : ℕ) → i < a .settled
       → (p : ℕ) → count a i p ≡ count b i p
   limits xs k l a b ha hb le i s p =

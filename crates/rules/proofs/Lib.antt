@@ -7,3 +7,14 @@ pub mod Demand3Held
 pub mod Play
 pub mod PlayLaws
 pub mod TakesOnce
+pub mod Rounded
+pub mod Sums
+pub mod Gillespie
+pub mod Within
+pub mod Bounded
+pub mod Drawn
+pub mod Accepted
+pub mod Races
+pub mod Firings
+pub mod Shows
+pub mod Values

@@ -5,5 +5,7 @@ pub mod Timers
 pub mod Moves
 pub mod Step
 pub mod Run
+pub mod Gillespie
+pub mod Values
 pub mod Shown
 pub mod Demand3

@@ -108,8 +108,9 @@ worked n g xs k =
     let r = runOf n g xs k in
     reported n xs r (outcome r)
 
--- 12, then 13, then the run's own refusals
-abbrev pub path : Net → Generator → List Float → ℕ → Answer Path
-path n g xs k =
+-- The answer of a path call on an accepted net, but for its table: 12, then 13, then the run's own refusals. The net's tests 2 to 7 and 11 are the call's
+-- (crate ssa, Path).
+abbrev pub acceptedPath : Net → Generator → List Float → ℕ → Answer Path
+acceptedPath n g xs k =
     let limited = pick (limitFits k) (worked n g xs k) (refused Refusal.badLimit) in
     pick (instantsFit xs) limited (refused Refusal.badInstants)

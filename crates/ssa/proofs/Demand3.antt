@@ -17,11 +17,12 @@ use Rattle.rules.specs.Propensity.{float}
 use Rattle.rules.specs.Moves.{Entry, initialCounts, putAt, takenAt}
 use Rattle.rules.specs.Step.{Answer, refused, given}
 use Rattle.rules.specs.Run.{End, quiet, spent, reached, trace}
-use Rattle.rules.specs.Shown.{Path, reaches, reachedFrom, settledOf, instantsFit, limitFits, worked, path, runOf}
+use Rattle.rules.specs.Shown.{Path, reaches, reachedFrom, settledOf, instantsFit, limitFits, worked, acceptedPath, runOf}
 use Rattle.rules.specs.Demand3 as Rule
 use Rattle.rules.specs.Demand3.{instant, earlier, EachAllowed}
 use Rattle.rules.proofs.Demand3Held as Held
 use Rattle.rules.proofs.TakesOnce.{takes-once}
+use Rattle.rules.proofs.Shows.{shown-fits}
 use Rattle.ssa.specs.Cells.{rowsFrom, tableOf}
 use Rattle.ssa.specs.Path.{Call, turnedDown, played, tableFits, afterNet, unlessFault, called}
 use Rattle.ssa.specs.Demand3.{Answered, cell, Balanced, Demand3}
@@ -31,7 +32,7 @@ use Rattle.ssa.proofs.Cells.{cell-in, rows-at, rows-long}
 record Whole (n : NetRecord) (g : Generator) (xs : List Float) (k : ℕ) (t : List Float) : Type 0 where
   sound : fault n ≡ none
   answer : Path
-  works : path (readable n) g xs k ≡ given answer
+  works : acceptedPath (readable n) g xs k ≡ given answer
   settles : called n g xs k t .settled ≡ answer .settled
   table : called n g xs k t .table ≡ tableOf (length (readable n .places)) (answer .shown) t
 
@@ -137,6 +138,7 @@ demand3 n g =
           let many = places-long (n .initial) (n .capacity) 0 (n .places) in
           record {
             count = Rule.count (v .answer) i p;
+            exact = shown-fits n (v .sound) g xs k (v .answer) (v .works) i p;
             shows = cell-is n g xs k t v p i q h;
             balance = rule v .counts xs k (v .answer) (v .works) i h p (omega arith);
           };

@@ -2,7 +2,7 @@
 -- It speaks of what path calls answer and leave in their tables: `path` (src/lib.rt) promises for every input that its answer and its table are
 -- those of `called` (Path). n is any net record, g any generator state, and a call that is not refused is one whose end is quiet, spent or reached.
 -- The theorem is proofs/Demand3, demand3.
-use Prim.Native.Nat.{ℕ, _+_, _*_, _≤_, _<_}
+use Prim.Native.Nat.{ℕ, _+_, _*_, _^_, _≤_, _<_}
 use mathlib.Core.Path.{_≡_}
 use mathlib.Core.Bool.{true}
 use mathlib.Core.List.{List}
@@ -33,6 +33,8 @@ cell n c p i = getD (c .table) (p * n + i) nan
 -- reached that instant, or in the whole run if it never did". It is said without a difference: initial plus put is count plus taken.
 pub record Balanced (n : NetRecord) (g : Generator) (xs : List Float) (k i p : ℕ) (shown : Float) : Type 0 where
   pub count : ℕ
+  -- at most 2^53, so that its float is the count itself
+  pub exact : count ≤ 2 ^ 53
   pub shows : shown ≡ float count
   pub balance : held (initialCounts (readable n)) p + putAt (readable n) p (earlier (readable n) g xs k i)
       ≡ count + takenAt (readable n) p (earlier (readable n) g xs k i)

@@ -1,0 +1,1 @@
+// Floats that several crates name, as definitions: specs/ has them, and there is no program.
