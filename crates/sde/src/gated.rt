@@ -308,7 +308,7 @@ pub fn gates_of<'a>(
 ) -> Gates
     requires { ⌜ Sound.Sound (lent places transitions (now initial) (now capacity) (now rate) (now delay) (now arcs) (now kind) (now place) (now weight)) ⌝ }
     ensures { λ r. ⌜ Spec.gatesOf r ≡ Spec.gates (Record.readable (lent places transitions (now (initial .entry)) (now (capacity .entry)) (now (rate .entry)) (now (delay .entry))
-        (now (arcs .entry)) (now (kind .entry)) (now (place .entry)) (now (weight .entry)))) × (r .bounded < 2 ^ 32) ⌝ }
+        (now (arcs .entry)) (now (kind .entry)) (now (place .entry)) (now (weight .entry)))) ⌝ }
 {
     let reads = count(
         Gate::Read,
@@ -384,7 +384,6 @@ pub fn gates_of<'a>(
 
 // Does anything gate it?
 pub fn is_gated(g: Gates) -> bool
-    requires { ⌜ g .bounded < 2 ^ 32 ⌝ }
     ensures { λ r. ⌜ r ≡ Spec.gated (Spec.gatesOf g) ⌝ }
 {
     if 0 < g.reads {
