@@ -14,9 +14,10 @@ use Rattle.net.specs.Sound.{Sound}
 use Rattle.net.specs.Tests.{rateFits}
 use Rattle.rules.specs.Step.{Answer, refused, given}
 use Rattle.averages.specs.Request.{Request, seedOf}
+use Rattle.averages.specs.Members.{unlessRefused}
 use Rattle.normals.specs.Normal.{Sampler, started, normal}
 use Rattle.sde.specs.Diffusion.{State, Going, andThen, kineticOf, factored, spread, pushed, pushedAll, begun, settled, substep, repeated, overInterval, further, firstState, stepOf, cellsOf}
-use Rattle.sde.specs.Call.{member, unlessRefused, membersFrom}
+use Rattle.sde.specs.Call.{member, membersFrom}
 use Rattle.sde.specs.Slots.{tidy, Tidied, Rated}
 use Rattle.sde.proofs.Arcs.{on-bool}
 

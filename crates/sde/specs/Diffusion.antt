@@ -2,7 +2,7 @@
 -- "`combinations_real`, 20 substeps an interval, negative states set to 0, polar normals with the spare kept". The order is the source's: a
 -- transition's noise is added to the state at once, the drift after all of them (docs/DECISIONS).
 use Prim.Native.Nat.{ℕ, zero, suc, _-_}
-use mathlib.Core.List.{List, [], _∷_, _++_, map}
+use mathlib.Core.List.{List, [], _∷_, map}
 use lib.Dec.{eqb}
 use lib.IntN.{pos}
 use lib.ListN.{getD}
@@ -14,6 +14,7 @@ use Rattle.rules.specs.Propensity.{float, asFloat}
 use Rattle.rules.specs.Step.{Answer, refused, given}
 use Rattle.averages.specs.Request.{Request, seedOf, instant}
 use Rattle.averages.specs.Request as Request
+use Rattle.averages.specs.Tables.{rowsFrom}
 use Rattle.normals.specs.Normal.{Sampler, started, normal}
 
 -- ---- answers
@@ -164,15 +165,6 @@ walked n dt samples seed =
 abbrev pub worked : Net → Request → ℕ → Answer (List (List Float))
 worked n q k = walked n (stepOf (q .samples) (q .horizon)) (q .samples) (seedOf (q .seed) k)
 
--- "place p, instant i at cell p × n + i": the row of place p is its value at each instant
-abbrev pub row : List (List Float) → ℕ → List Float
-row shown p = map (λ (x : List Float). at x p) shown
-
--- k rows from place p on
-abbrev pub rowsFrom : List (List Float) → ℕ → ℕ → List Float
-rowsFrom shown p zero = []
-rowsFrom shown p (suc k) = row shown p ++ rowsFrom shown (suc p) k
-
--- the cells of a path over so many places
+-- the cells of a path over so many places: "place p, instant i at cell p × n + i"
 abbrev pub cellsOf : ℕ → Answer (List (List Float)) → Answer (List Float)
-cellsOf places path = andThen path (λ (shown : List (List Float)). given (rowsFrom shown 0 places))
+cellsOf places path = andThen path (λ (shown : List (List Float)). given (rowsFrom at shown 0 places))
