@@ -65,7 +65,7 @@ fn clear(places: usize, drift: &mut [f64; 32])
 }
 
 // v with its drift. "Negative states set to 0."
-fn settled(v: f64, d: f64) -> f64
+fn after_drift(v: f64, d: f64) -> f64
     ensures { λ r. ⌜ r ≡ Diffusion.aboveZero (add binary64 v d) ⌝ }
 {
     let s = v + d;
@@ -76,13 +76,13 @@ fn settled(v: f64, d: f64) -> f64
 }
 
 // Adds the drift to the state.
-fn settle(places: usize, drift: &[f64; 32], x: &mut [f64; 32])
+fn add_drift(places: usize, drift: &[f64; 32], x: &mut [f64; 32])
     requires { ⌜ (places ≤ 32) × (length (now x) ≡ 32) ⌝ }
     ensures { λ _. ⌜ Engine.Mapped places (λ p v. Diffusion.aboveZero (add binary64 v (getD (now (drift .entry)) p nan))) (now (x .entry)) (now (x .exit)) ⌝ }
 {
     let mut p: usize = 0;
     while p < places {
-        let v = settled(x[p], drift[p]);
+        let v = after_drift(x[p], drift[p]);
         x[p] = v;
         p += 1;
     }
@@ -214,7 +214,7 @@ pub fn substep<'a>(
     if p.stopped {
         return p;
     }
-    settle(places, drift, x);
+    add_drift(places, drift, x);
     p
 }
 
