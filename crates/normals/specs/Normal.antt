@@ -66,8 +66,8 @@ pub record Sampler : Type 0 where
   pub waiting : Bool
 
 -- the sampler that a seed starts; its spare, which waits for nobody, is +0
-abbrev pub started : ℕ → Sampler
-started seed = record { generator = seeded seed; spare = zero64; waiting = false }
+abbrev pub seededSampler : ℕ → Sampler
+seededSampler seed = record { generator = seeded seed; spare = zero64; waiting = false }
 
 -- a value, or the number of a refusal; and the sampler after it
 pub record Drawn : Type 0 where

@@ -114,7 +114,7 @@ fn first_accepted(rng: Xoshiro256) -> Found
 impl GaussianSampler {
     // The sampler that a seed starts, with no spare.
     pub fn new(seed: u64) -> GaussianSampler
-        ensures { λ r. ⌜ Spec.samplerOf r ≡ Spec.started seed ⌝ }
+        ensures { λ r. ⌜ Spec.samplerOf r ≡ Spec.seededSampler seed ⌝ }
     {
         GaussianSampler {
             rng: Xoshiro256::new(seed),

@@ -21,7 +21,8 @@ use Rattle.net_text.specs.Position.{runOf}
 use Rattle.net_text.specs.declared.RunLine.{RunLine as RunRecord}
 use Rattle.result_text.specs.Lines.{refusedLine, printed}
 use Rattle.averages.specs.Request.{Request, requestFault, tablesFault, samplesFit, realizationsFit, horizonFits}
-use Rattle.ssa.specs.Ensemble.{Outcome, averaged, Tables, Call, callOf, called, callFault, unlessFault, tabulated, membersFrom}
+use Rattle.averages.specs.Tables.{Tables, callFault}
+use Rattle.ssa.specs.Ensemble.{Outcome, averaged, Call, callOf, called, unlessFault, tabulated, membersFrom}
 use Rattle.ssa.specs.declared.EnsembleAnswer.{EnsembleAnswer}
 use Rattle.ssa.specs.declared.EnsembleAnswer.the-variants.{Averaged, TurnedDown, Stopped}
 use Rattle.pathrun_text.specs.Printing.{inFront}

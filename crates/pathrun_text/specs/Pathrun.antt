@@ -14,7 +14,8 @@ use Rattle.text.specs.Buffer.{placed}
 use Rattle.net_text.specs.Reading.{RunLine, Answer, refused, given, read}
 use Rattle.result_text.specs.Lines.{refusedLine, printed}
 use Rattle.averages.specs.Request.{Request, requestFault, tablesFault}
-use Rattle.ssa.specs.Ensemble.{Outcome, averaged, turnedDown, stopped, Tables, Call, unlessFault, tabulated, membersFrom}
+use Rattle.averages.specs.Tables.{Tables}
+use Rattle.ssa.specs.Ensemble.{Outcome, averaged, turnedDown, stopped, Call, unlessFault, tabulated, membersFrom}
 
 -- ---- the call
 

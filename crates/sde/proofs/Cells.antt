@@ -14,7 +14,8 @@ use lib.ListN.{length, getD, drop, take, set, length-append, length-drop, length
 use lib.Seq.{getD-set-same, getD-set-other, getD-append-add, getD-drop, getD-take, length-take-le, ext-getD}
 use lib.Ieee.{Float, nan}
 use Rattle.rules.specs.Step.{Answer, refused, given}
-use Rattle.sde.specs.Diffusion.{State, andThen, at, row, rowsFrom, cellsOf, further}
+use Rattle.averages.specs.Tables.{row, rowsFrom}
+use Rattle.sde.specs.Diffusion.{State, andThen, at, cellsOf, further}
 use Rattle.sde.specs.Engine.{unless, preceded, Column, Beyond}
 use Rattle.sde.proofs.Substeps.{then-stop, then-go}
 
@@ -77,31 +78,31 @@ map-at f [] i d h = absurd (not-suc-le-zero h)
 map-at f (x ∷ xs) zero d h = refl
 map-at f (x ∷ xs) (suc i) d h = map-at f xs i d (le-of-suc-le-suc h)
 
-row-long : (shown : List (List Float)) (p : ℕ) → length (row shown p) ≡ length shown
+row-long : (shown : List (List Float)) (p : ℕ) → length (row at shown p) ≡ length shown
 row-long shown p = length-map shown (λ (x : List Float). at x p)
 
-row-at : (shown : List (List Float)) (p i : ℕ) → i < length shown → getD (row shown p) i nan ≡ at (getD shown i []) p
+row-at : (shown : List (List Float)) (p i : ℕ) → i < length shown → getD (row at shown p) i nan ≡ at (getD shown i []) p
 row-at shown p i h = map-at (λ (x : List Float). at x p) shown i [] h
 
-pub rows-long : (shown : List (List Float)) (p k : ℕ) → length (rowsFrom shown p k) ≡ k * length shown
+pub rows-long : (shown : List (List Float)) (p k : ℕ) → length (rowsFrom at shown p k) ≡ k * length shown
 rows-long shown p zero = sym (zero-mul (length shown))
 rows-long shown p (suc k) =
-    omega (arith, length-append (row shown p) (rowsFrom shown (suc p) k), row-long shown p, rows-long shown (suc p) k, suc-mul k (length shown))
+    omega (arith, length-append (row at shown p) (rowsFrom at shown (suc p) k), row-long shown p, rows-long shown (suc p) k, suc-mul k (length shown))
 
 rows-at : (shown : List (List Float)) (p k j i : ℕ) → j < k → i < length shown
-    → getD (rowsFrom shown p k) (j * length shown + i) nan ≡ at (getD shown i []) (p + j)
+    → getD (rowsFrom at shown p k) (j * length shown + i) nan ≡ at (getD shown i []) (p + j)
 rows-at shown p zero j i h l = absurd (not-suc-le-zero h)
 rows-at shown p (suc k) zero i h l =
     let e : zero * length shown + i ≡ i = omega (arith, zero-mul (length shown)) in
     let z : p ≡ p + zero = omega arith in
-    ap (λ (c : ℕ). getD (row shown p ++ rowsFrom shown (suc p) k) c nan) e
-    ∙ List·getD-append (row shown p) (rowsFrom shown (suc p) k) nan i (omega (arith, row-long shown p))
+    ap (λ (c : ℕ). getD (row at shown p ++ rowsFrom at shown (suc p) k) c nan) e
+    ∙ List·getD-append (row at shown p) (rowsFrom at shown (suc p) k) nan i (omega (arith, row-long shown p))
     ∙ row-at shown p i l ∙ ap (at (getD shown i [])) z
 rows-at shown p (suc k) (suc j) i h l =
-    let e : suc j * length shown + i ≡ length (row shown p) + (j * length shown + i) = omega (arith, suc-mul j (length shown), row-long shown p) in
+    let e : suc j * length shown + i ≡ length (row at shown p) + (j * length shown + i) = omega (arith, suc-mul j (length shown), row-long shown p) in
     let z : suc p + j ≡ p + suc j = omega arith in
-    ap (λ (c : ℕ). getD (row shown p ++ rowsFrom shown (suc p) k) c nan) e
-    ∙ getD-append-add (row shown p) (rowsFrom shown (suc p) k) (j * length shown + i) nan
+    ap (λ (c : ℕ). getD (row at shown p ++ rowsFrom at shown (suc p) k) c nan) e
+    ∙ getD-append-add (row at shown p) (rowsFrom at shown (suc p) k) (j * length shown + i) nan
     ∙ rows-at shown (suc p) k j i (le-of-suc-le-suc h) l ∙ ap (at (getD shown i [])) z
 
 positive : (places n c : ℕ) → c < places * n → 0 < n
@@ -109,29 +110,29 @@ positive places zero c h = absurd (omega (arith, mul-zero places))
 positive places (suc n) c h = omega arith
 
 module _ (places n : ℕ) (shown : List (List Float)) (t : List Float) (count : length shown ≡ n) (fits : places * n ≤ length t) (shows : Shows places n shown t) where
-  rows-size : length (rowsFrom shown 0 places) ≡ places * n
+  rows-size : length (rowsFrom at shown 0 places) ≡ places * n
   rows-size = rows-long shown 0 places ∙ ap (λ (k : ℕ). places * k) count
 
-  in-row : (p i : ℕ) → p < places → i < n → getD (rowsFrom shown 0 places) (p * n + i) nan ≡ at (getD shown i []) p
+  in-row : (p i : ℕ) → p < places → i < n → getD (rowsFrom at shown 0 places) (p * n + i) nan ≡ at (getD shown i []) p
   in-row p i h l =
       let z : 0 + p ≡ p = omega arith in
-      ap (λ (k : ℕ). getD (rowsFrom shown 0 places) (p * k + i) nan) (sym count)
+      ap (λ (k : ℕ). getD (rowsFrom at shown 0 places) (p * k + i) nan) (sym count)
       ∙ rows-at shown 0 places p i h (omega arith)
       ∙ ap (at (getD shown i [])) z
 
-  at-cell : (c p i : ℕ) → c ≡ p * n + i → i < n → c < places * n → getD t c nan ≡ getD (rowsFrom shown 0 places) c nan
+  at-cell : (c p i : ℕ) → c ≡ p * n + i → i < n → c < places * n → getD t c nan ≡ getD (rowsFrom at shown 0 places) c nan
   at-cell c p i e l h =
       let k : p < places = lt-of-mul-lt-mul-right n (omega arith) in
       ap (λ (x : ℕ). getD t x nan) e
       ∙ shows p i k (omega arith)
       ∙ sym (in-row p i k l)
-      ∙ sym (ap (λ (x : ℕ). getD (rowsFrom shown 0 places) x nan) e)
+      ∙ sym (ap (λ (x : ℕ). getD (rowsFrom at shown 0 places) x nan) e)
 
   -- a table whose cells show the list begins with the list's cells
-  shown-cells : take (places * n) t ≡ rowsFrom shown 0 places
+  shown-cells : take (places * n) t ≡ rowsFrom at shown 0 places
   shown-cells =
       let k = length-take-le (places * n) t fits in
-      ext-getD nan (take (places * n) t) (rowsFrom shown 0 places) (omega (arith, rows-size))
+      ext-getD nan (take (places * n) t) (rowsFrom at shown 0 places) (omega (arith, rows-size))
       (λ c h.
       let b : c < places * n = omega arith in
       getD-take (places * n) t c nan b
@@ -221,7 +222,7 @@ pub progress-end : (places n i : ℕ) (f : State → Answer State) (u : State) {
 progress-end places n i f u {whole} {t₀} {t} m a b fits =
     let d : n - i ≡ 0 = omega arith in
     ap given (shown-cells places n (m .done) t (omega (arith, m .count)) (omega (arith, m .beyond .long)) (m .shows)
-    ∙ ap (λ (l : List (List Float)). rowsFrom l 0 places) (sym (append-nil (m .done))))
+    ∙ ap (λ (l : List (List Float)). rowsFrom at l 0 places) (sym (append-nil (m .done))))
     ∙ ap (λ (k : ℕ). cellsOf places (preceded (m .done) (further k f u))) (sym d)
     ∙ ap (cellsOf places) (m .goes-on)
   where

@@ -137,7 +137,7 @@ module _ (n : NetRecord) where
         reads = (a ∙ reads-all n (n .transitions)) i;
         inhibitors = (b ∙ inhibitors-all n (n .transitions)) i;
         nonKinetic = (c ∙ non-kinetic-all n (n .transitions)) i;
-        bounded = (ap (bitsFrom 0 32) d ∙ mask-bits 0 (n .places) 32 h) i;
+        bounded = (ap (bitsFrom 0 64) d ∙ mask-bits 0 (n .places) 64 (omega arith)) i;
         delayed = e i;
       }
 
@@ -146,9 +146,9 @@ module _ (n : NetRecord) where
 or-last : (a b c d e : Bool) → a ≡ false → b ≡ false → c ≡ false → d ≡ false → e ≡ (a || b || c || d || e)
 or-last a b c d e p q r s = sym (λ i. p i || q i || r i || s i || e)
 
-module _ (g : GatesStruct) (small : g .bounded < 2 ^ 32) where
+module _ (g : GatesStruct) (small : g .bounded < 2 ^ 64) where
   abbrev bits : Bool
-  bits = not (empty (bitsFrom 0 32 (g .bounded)))
+  bits = not (empty (bitsFrom 0 64 (g .bounded)))
 
   pub gated-reads : 0 < g .reads → true ≡ gated (gatesOf g)
   gated-reads h = sym (ap (λ (b : Bool). b || ltb 0 (g .inhibitors) || ltb 0 (g .nonkinetic) || bits || g .delayed) (lt-ltb 0 (g .reads) h))
@@ -172,7 +172,7 @@ module _ (g : GatesStruct) (small : g .bounded < 2 ^ 32) where
         no-nonkinetic = le-ltb 0 (g .nonkinetic) c
 
         pub gated-bounded : 0 < g .bounded → true ≡ gated (gatesOf g)
-        gated-bounded h = sym (λ i. no-reads i || no-inhibitors i || no-nonkinetic i || (bits-any 0 32 (g .bounded) small ∙ lt-ltb 0 (g .bounded) h) i || g .delayed)
+        gated-bounded h = sym (λ i. no-reads i || no-inhibitors i || no-nonkinetic i || (bits-any 0 64 (g .bounded) small ∙ lt-ltb 0 (g .bounded) h) i || g .delayed)
 
         pub gated-delayed : g .bounded ≤ 0 → g .delayed ≡ gated (gatesOf g)
-        gated-delayed h = or-last (ltb 0 (g .reads)) (ltb 0 (g .inhibitors)) (ltb 0 (g .nonkinetic)) bits (g .delayed) no-reads no-inhibitors no-nonkinetic (bits-any 0 32 (g .bounded) small ∙ le-ltb 0 (g .bounded) h)
+        gated-delayed h = or-last (ltb 0 (g .reads)) (ltb 0 (g .inhibitors)) (ltb 0 (g .nonkinetic)) bits (g .delayed) no-reads no-inhibitors no-nonkinetic (bits-any 0 64 (g .bounded) small ∙ le-ltb 0 (g .bounded) h)

@@ -5,7 +5,6 @@ use mathlib.Core.Path.{_≡_, refl, sym, ap, _∙_}
 use mathlib.Core.Bool.{Bool, true, false, not}
 use mathlib.Core.List.{List, [], _∷_, _++_}
 use native.Mathlib.Omega.{arith}
-use native.Mathlib.Numerals.{add-one}
 use lib.Dec.{eqb}
 use lib.ListN.{length, take, drop, replicate, length-append, take-append-drop}
 use lib.Seq.{drop-at, length-take-le}
@@ -20,9 +19,12 @@ use Rattle.rules.specs.Step.{Answer}
 use Rattle.averages.specs.Request.{Request, seedOf}
 use Rattle.averages.specs.Front.{onFront, withFront}
 use Rattle.averages.specs.Moments.{plus, plusSquare, summedUp, meanOf, meanAt, deviationOf, deviationAt, cellsFrom, tableBy}
+use Rattle.averages.specs.Members.{Members, unlessRefused, lastOf}
+use Rattle.averages.specs.Tables.{Tables, cleared}
+use Rattle.averages.proofs.Members.{withAll, with-more, with-refused, with-none, one-more, last-more}
 use Rattle.averages.proofs.Sums.{cellsFrom-length, tableBy-length, onFront-const, sums-none, sums-more, means-made, deviations-made, deviations-none}
 use Rattle.sde.specs.Diffusion.{stepOf, walked, cellsOf}
-use Rattle.sde.specs.Call.{member, Members, refusedAt, members, with, unlessRefused, membersFrom, Outcome, averaged, stopped, Tables, Call, cleared, lastOf, tabulated}
+use Rattle.sde.specs.Call.{member, membersFrom, Outcome, averaged, stopped, Call, tabulated}
 use Rattle.sde.specs.Engine.{unless, Beyond}
 use Rattle.sde.specs.Summed.{SummedBy, all, halted}
 use Rattle.sde.proofs.Arcs.{on-bool}
@@ -38,29 +40,6 @@ pub member-is : (n : NetRecord) (q : Request) (k : ℕ) {dt : Float} {own : ℕ}
 member-is n q k {dt} {own} e d =
     ap (λ (m : ℕ). cellsOf m (walked (readable n) dt (q .samples) own)) (sym (places-long (n .initial) (n .capacity) 0 (n .places)))
     ∙ (λ i. cellsOf (length (readable n .places)) (walked (readable n) (e i) (q .samples) (d i)))
-
--- ---- paths in front of others
-
-abbrev pub withAll : List (List Float) → Members → Members
-withAll [] m = m
-withAll (a ∷ rest) m = with a (withAll rest m)
-
-with-refused : (done : List (List Float)) (c k : ℕ) → withAll done (refusedAt c k) ≡ refusedAt c k
-with-refused [] c k = refl
-with-refused (a ∷ rest) c k = ap (with a) (with-refused rest c k)
-
-with-none : (done : List (List Float)) → withAll done (members []) ≡ members done
-with-none [] = refl
-with-none (a ∷ rest) = ap (with a) (with-none rest)
-
-with-one : (done : List (List Float)) (a : List Float) (m : Members) → withAll (done ++ (a ∷ [])) m ≡ withAll done (with a m)
-with-one [] a m = refl
-with-one (b ∷ rest) a m = ap (with b) (with-one rest a m)
-
-last-one : (done : List (List Float)) (a : List Float) → lastOf (done ++ (a ∷ [])) ≡ a
-last-one [] a = refl
-last-one (b ∷ []) a = refl
-last-one (b ∷ (d ∷ rest)) a = last-one (d ∷ rest) a
 
 -- ---- the tables
 
@@ -115,7 +94,7 @@ sums-first n q cells m d p e f =
     }
 
 -- the tables before they were cleared
-pub summed-from : {cells realizations k : ℕ} {paths : Members} {a m b d p x y z : List Float} → Beyond cells a m → Beyond cells b d
+pub summed-from : {cells realizations k : ℕ} {paths : Members (List Float)} {a m b d p x y z : List Float} → Beyond cells a m → Beyond cells b d
     → SummedBy cells realizations paths (record { mean = m; deviation = d; path = p }) x y z k
     → SummedBy cells realizations paths (record { mean = a; deviation = b; path = p }) x y z k
 summed-from {cells} g h (all done r l e f s t) =
@@ -124,12 +103,6 @@ summed-from {cells} g h (all done r l e f s t) =
     (s ∙ ap (λ (r : List Float). cellsFrom (λ (c : ℕ). summedUp plusSquare c zero64 done) 0 cells ++ r) (h .stays)) t
 summed-from g h (halted r e f s t) =
     halted r e (record { long = f .long ∙ g .long; stays = f .stays ∙ g .stays }) (record { long = s .long ∙ h .long; stays = s .stays ∙ h .stays }) t
-
-members-step : (n : Net) (q : Request) (k : ℕ) → k < q .realizations
-    → membersFrom n q k (q .realizations - k) ≡ unlessRefused k (member n q k) (membersFrom n q (k + 1) (q .realizations - (k + 1)))
-members-step n q k h =
-    let d : q .realizations - k ≡ suc (q .realizations - (k + 1)) = omega arith in
-    ap (membersFrom n q k) d ∙ ap (λ (j : ℕ). unlessRefused k (member n q k) (membersFrom n q j (q .realizations - (k + 1)))) (sym (add-one k))
 
 -- one turn: path k is p′, or refused
 module _ (n : Net) (q : Request) (cells k : ℕ) {m₀ d₀ p₀ m d p : List Float} (u : Sums n q cells k m₀ d₀ p₀ m d p) (h : k < q .realizations)
@@ -143,7 +116,7 @@ module _ (n : Net) (q : Request) (cells k : ℕ) {m₀ d₀ p₀ m d p : List Fl
       halted h
       (sym (u .goes-on)
       ∙ ap (withAll (u .done))
-      (members-step n q k h ∙ ap (λ (a : Answer (List Float)). unlessRefused k a (membersFrom n q (k + 1) (q .realizations - (k + 1)))) (sym e ∙ ap (λ (t : Bool). unless t (take cells p′)) y))
+      (one-more (member n q) (q .realizations) k h ∙ ap (λ (a : Answer (List Float)). unlessRefused k a (membersFrom n q (k + 1) (q .realizations - (k + 1)))) (sym e ∙ ap (λ (t : Bool). unless t (take cells p′)) y))
       ∙ with-refused (u .done) Refusal.noNormal k)
       (table-beyond _ cells m₀ m hm (u .means))
       (table-beyond _ cells d₀ d hd (u .squares))
@@ -157,16 +130,16 @@ module _ (n : Net) (q : Request) (cells k : ℕ) {m₀ d₀ p₀ m d p : List Fl
       record {
         done = u .done ++ (a ∷ []);
         count = length-append (u .done) (a ∷ []) ∙ omega (arith, u .count);
-        goes-on = with-one (u .done) a (membersFrom n q (k + 1) (q .realizations - (k + 1)))
+        goes-on = with-more (u .done) a (membersFrom n q (k + 1) (q .realizations - (k + 1)))
             ∙ ap (withAll (u .done))
             (sym
-            (members-step n q k h
+            (one-more (member n q) (q .realizations) k h
             ∙ ap (λ (x : Answer (List Float)). unlessRefused k x (membersFrom n q (k + 1) (q .realizations - (k + 1)))) (sym e ∙ ap (λ (t : Bool). unless t a) y)))
             ∙ u .goes-on;
         means = f ∙ front-take plus cells p′ m ∙ ap (withFront plus cells a) (u .means) ∙ sums-more plus zero64 cells (u .done) a (drop cells m₀) l;
         squares = g ∙ front-take plusSquare cells p′ d ∙ ap (withFront plusSquare cells a) (u .squares) ∙ sums-more plusSquare zero64 cells (u .done) a (drop cells d₀) l;
         beyond = now-beyond;
-        last = λ z. sym (last-one (u .done) a);
+        last = λ z. sym (last-more (u .done) a);
       }
 
 pub sums-all : (n : Net) (q : Request) (cells k : ℕ) {m₀ d₀ p₀ m d p : List Float} → Sums n q cells k m₀ d₀ p₀ m d p → 1 ≤ q .realizations → k ≤ q .realizations
@@ -192,7 +165,7 @@ nought = refl
 
 -- ---- the answer
 
-module _ (cells realizations k : ℕ) (paths : Members) (t : Tables) (m d p : List Float) (e : SummedBy cells realizations paths t m d p k)
+module _ (cells realizations k : ℕ) (paths : Members (List Float)) (t : Tables) (m d p : List Float) (e : SummedBy cells realizations paths t m d p k)
     (hm : cells ≤ length (t .mean)) (hd : cells ≤ length (t .deviation)) (hp : cells ≤ length (t .path)) where
   -- a path was refused
   pub call-stopped : k < realizations → (m′ d′ p′ : List Float) → m′ ≡ onFront (λ (x : Float). zero64) cells m → d′ ≡ onFront (λ (x : Float). zero64) cells d

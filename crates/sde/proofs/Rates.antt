@@ -14,9 +14,10 @@ use Rattle.net.specs.Sound.{Sound}
 use Rattle.net.specs.Tests.{rateFits}
 use Rattle.rules.specs.Step.{Answer, refused, given}
 use Rattle.averages.specs.Request.{Request, seedOf}
-use Rattle.normals.specs.Normal.{Sampler, started, normal}
-use Rattle.sde.specs.Diffusion.{State, Going, andThen, kineticOf, factored, spread, pushed, pushedAll, begun, settled, substep, repeated, overInterval, further, firstState, stepOf, cellsOf}
-use Rattle.sde.specs.Call.{member, unlessRefused, membersFrom}
+use Rattle.averages.specs.Members.{unlessRefused}
+use Rattle.normals.specs.Normal.{Sampler, seededSampler, normal}
+use Rattle.sde.specs.Diffusion.{State, Going, andThen, kineticOf, factored, spread, pushed, pushedAll, begun, afterDrift, substep, repeated, overInterval, further, firstState, stepOf, cellsOf}
+use Rattle.sde.specs.Call.{member, membersFrom}
 use Rattle.sde.specs.Slots.{tidy, Tidied, Rated}
 use Rattle.sde.proofs.Arcs.{on-bool}
 
@@ -100,7 +101,7 @@ module _ (places transitions : ℕ) (initial capacity : List ℕ) (rate rates de
       λ i. andThen (pushed-same dt j (omega arith) g i) (λ (u : Going). all-same dt (suc j) k (omega arith) u i)
 
   substep-same : (dt : Float) → substep (readable tidied-net) dt ≡ substep (readable given-net) dt
-  substep-same dt = λ i s. andThen (all-same dt 0 transitions (omega arith) (begun s) i) (λ (g : Going). given (settled g))
+  substep-same dt = λ i s. andThen (all-same dt 0 transitions (omega arith) (begun s) i) (λ (g : Going). given (afterDrift g))
 
   interval-same : (dt : Float) → overInterval (readable tidied-net) dt ≡ overInterval (readable given-net) dt
   unfolding overInterval
@@ -109,8 +110,8 @@ module _ (places transitions : ℕ) (initial capacity : List ℕ) (rate rates de
   member-same : (q : Request) (k : ℕ) → member (readable tidied-net) q k ≡ member (readable given-net) q k
   member-same q k =
       ap (λ (f : State → Answer State). cellsOf (length (readable given-net .places))
-      (andThen (further (q .samples - 1) f (firstState (readable given-net) (started (seedOf (q .seed) k))))
-      (λ (rest : List (List Float)). given (firstState (readable given-net) (started (seedOf (q .seed) k)) .x ∷ rest))))
+      (andThen (further (q .samples - 1) f (firstState (readable given-net) (seededSampler (seedOf (q .seed) k))))
+      (λ (rest : List (List Float)). given (firstState (readable given-net) (seededSampler (seedOf (q .seed) k)) .x ∷ rest))))
       (interval-same (stepOf (q .samples) (q .horizon)))
 
   pub members-same : (q : Request) (k r : ℕ) → membersFrom (readable tidied-net) q k r ≡ membersFrom (readable given-net) q k r

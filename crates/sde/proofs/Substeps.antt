@@ -20,7 +20,7 @@ use Rattle.normals.specs.declared.Draw.{Draw}
 use Rattle.normals.specs.declared.Draw.the-variants.{Value, Refused}
 use Rattle.normals.specs.declared.Normal.{Normal}
 use Rattle.normals.specs.Normal.{Drawn, samplerOf, answerOf, drawnOf, normal}
-use Rattle.sde.specs.Diffusion.{State, Going, andThen, change, propensity, driftBy, noiseBy, drifted, noised, spread, pushed, pushedAll, begun, aboveZero, settled, substep, repeated, overInterval, at}
+use Rattle.sde.specs.Diffusion.{State, Going, andThen, change, propensity, driftBy, noiseBy, drifted, noised, spread, pushed, pushedAll, begun, aboveZero, afterDrift, substep, repeated, overInterval, at}
 use Rattle.sde.specs.Slots.{Changes}
 use Rattle.sde.specs.Engine.{stateOf, goingOf, unless, Mapped}
 use Rattle.sde.proofs.Each.{each-same, each-one}
@@ -133,9 +133,9 @@ module _ (places : ℕ) (small : places ≤ 32) (x drift : List Float) (lx : len
       ap (λ (d : List Float). record { x = take places x; drift = d; sampler = samplerOf s }) (m .each ∙ each-one zero64 0 (take places drift) (take places x) (omega arith))
 
   -- with its drift added
-  pub settled-is : (x′ : List Float) → Mapped places (λ (p : ℕ) (v : Float). aboveZero (add binary64 v (getD drift p nan))) x x′
-      → stateOf places x′ s ≡ settled (goingOf places x drift s)
-  settled-is x′ m =
+  pub after-drift-is : (x′ : List Float) → Mapped places (λ (p : ℕ) (v : Float). aboveZero (add binary64 v (getD drift p nan))) x x′
+      → stateOf places x′ s ≡ afterDrift (goingOf places x drift s)
+  after-drift-is x′ m =
       let a = length-take-le places x (omega arith) in
       ap (λ (y : List Float). record { x = y; sampler = samplerOf s })
       (m .each
@@ -189,8 +189,8 @@ module _ (n : Net) (dt : Float) (u : State) (g g′ : Going) (s : Bool) (b : g �
   pub substep-stop : s ≡ true → (v : State) → unless s v ≡ substep n dt u
   substep-stop t v =
       stop-any v t
-      (then-stop g′ s (y ∙ ap (pushedAll dt (n .transitions)) b) (λ (x : Going). given (settled x)) t v)
+      (then-stop g′ s (y ∙ ap (pushedAll dt (n .transitions)) b) (λ (x : Going). given (afterDrift x)) t v)
 
-  pub substep-go : s ≡ false → (u′ : State) → u′ ≡ settled g′ → unless s u′ ≡ substep n dt u
+  pub substep-go : s ≡ false → (u′ : State) → u′ ≡ afterDrift g′ → unless s u′ ≡ substep n dt u
   substep-go t u′ z =
-      ap (λ (x : Bool). unless x u′) t ∙ ap given z ∙ then-go g′ s (y ∙ ap (pushedAll dt (n .transitions)) b) (λ (x : Going). given (settled x)) t
+      ap (λ (x : Bool). unless x u′) t ∙ ap given z ∙ then-go g′ s (y ∙ ap (pushedAll dt (n .transitions)) b) (λ (x : Going). given (afterDrift x)) t

@@ -12,7 +12,7 @@ use Rattle.net.specs.Readable.{placesFrom, readable}
 use Rattle.rules.specs.Propensity.{float}
 use Rattle.rules.specs.Step.{Answer, refused, given}
 use Rattle.normals.specs.declared.GaussianSampler.{GaussianSampler}
-use Rattle.normals.specs.Normal.{samplerOf, started}
+use Rattle.normals.specs.Normal.{samplerOf, seededSampler}
 use Rattle.sde.specs.Diffusion.{State, andThen, eachFrom, further, overInterval, firstState, walked, cellsOf}
 use Rattle.sde.specs.Engine.{stateOf, preceded, Mapped, Beyond}
 
@@ -28,8 +28,8 @@ preceded-one a (refused c) = refl
 preceded-one a (given rest) = refl
 
 module _ (n : NetRecord) (x x′ : List Float) (long : length x ≡ 32) (small : n .places ≤ 32)
-    (m : Mapped (n .places) (λ (p : ℕ) (v : Float). float (getD (n .initial) p 0)) x x′) (seed : ℕ) (s : GaussianSampler) (y : samplerOf s ≡ started seed) where
-  first-is : stateOf (n .places) x′ s ≡ firstState (readable n) (started seed)
+    (m : Mapped (n .places) (λ (p : ℕ) (v : Float). float (getD (n .initial) p 0)) x x′) (seed : ℕ) (s : GaussianSampler) (y : samplerOf s ≡ seededSampler seed) where
+  first-is : stateOf (n .places) x′ s ≡ firstState (readable n) (seededSampler seed)
   first-is =
       let e : take (n .places) x′ ≡ map (λ (q : Place). float (q .initial)) (placesFrom (n .initial) (n .capacity) 0 (n .places)) =
       m .each ∙ counts-from (n .initial) (n .capacity) 0 (n .places) (take (n .places) x) (length-take-le (n .places) x (omega arith)) in

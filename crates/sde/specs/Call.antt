@@ -1,19 +1,19 @@
 -- The diffusion call: paths from consecutive seeds, their means and deviations, and what it leaves in its three tables. Document 01, "Ensemble", "001" and
 -- "Each operation's turn-downs: Ensemble, diffusion".
-use Prim.Native.Nat.{ℕ, zero, suc, _+_, _*_}
+use Prim.Native.Nat.{ℕ, _*_}
 use mathlib.Core.Bool.{Bool, true, false, not}
-use mathlib.Core.List.{List, [], _∷_, _++_}
+use mathlib.Core.List.{List, _++_}
 use mathlib.Core.Option.{Option, none, some}
 use lib.Dec.{eqb}
-use lib.ListN.{length, drop, replicate}
+use lib.ListN.{length, drop}
 use lib.Ieee.{Float}
 use Rattle.net.specs.declared.Net.{Net as NetRecord}
-use Rattle.net.specs.Net.{Net, zero64}
-use Rattle.net.specs.Tests.{orElse}
-use Rattle.net.specs.Readable.{readable, fault}
-use Rattle.rules.specs.Step.{Answer, refused, given}
-use Rattle.averages.specs.Request.{Request, requestFault, tablesFault}
-use Rattle.averages.specs.Moments.{meanAt, deviationAt, tableBy}
+use Rattle.net.specs.Net.{Net}
+use Rattle.net.specs.Readable.{readable}
+use Rattle.rules.specs.Step.{Answer}
+use Rattle.averages.specs.Request.{Request}
+use Rattle.averages.specs.Members.{Members, refusedAt, members, pathsFrom, lastOf}
+use Rattle.averages.specs.Tables.{Tables, allCleared, averagedOver, callFault}
 use Rattle.sde.specs.declared.DiffusionAnswer.{DiffusionAnswer}
 use Rattle.sde.specs.declared.DiffusionAnswer.the-variants.{Averaged, Gated, TurnedDown, Stopped}
 use Rattle.sde.specs.Gated.{Gates, gates, gated, gatesOf}
@@ -25,25 +25,9 @@ use Rattle.sde.specs.Diffusion.{worked, cellsOf}
 abbrev pub member : Net → Request → ℕ → Answer (List Float)
 member n q k = cellsOf (length (n .places)) (worked n q k)
 
--- the paths in order, or the first refusal and the number of its path
-pub data Members : Type 0 where
-  refusedAt : ℕ → ℕ → Members
-  members : List (List Float) → Members
-
-abbrev pub with : List Float → Members → Members
-with a (refusedAt c k) = refusedAt c k
-with a (members rest) = members (a ∷ rest)
-
-abbrev pub unlessRefused : ℕ → Answer (List Float) → Members → Members
-unlessRefused k (refused c) later = refusedAt c k
-unlessRefused k (given a) later = with a later
-
 -- so many from number k on
-abbrev pub membersFrom : Net → Request → ℕ → ℕ → Members
-membersFrom n q k zero = members []
-membersFrom n q k (suc r) =
-    let later = membersFrom n q (suc k) r in
-    unlessRefused k (member n q k) later
+abbrev pub membersFrom : Net → Request → ℕ → ℕ → Members (List Float)
+membersFrom n q k r = pathsFrom (member n q) k r
 
 -- ---- what the call answers and leaves in its tables
 
@@ -55,49 +39,17 @@ pub data Outcome : Type 0 where
   turnedDown : ℕ → Outcome
   stopped : ℕ → ℕ → Outcome
 
-pub record Tables : Type 0 where
-  pub mean : List Float
-  pub deviation : List Float
-  pub path : List Float
-
 pub record Call : Type 0 where
   pub outcome : Outcome
   pub tables : Tables
 
--- "the answer's cells … are +0"; "Further cells stay"
-abbrev pub cleared : ℕ → List Float → List Float
-cleared cells table = replicate cells zero64 ++ drop cells table
-
--- "An accepted call leaves the last path in the path table"
-abbrev pub lastOf : List (List Float) → List Float
-lastOf [] = []
-lastOf (a ∷ []) = a
-lastOf (a ∷ (b ∷ rest)) = lastOf (b ∷ rest)
-
 -- the first `cells` cells of each table are the answer's: means, deviations and the last path, or +0 where a path is refused
-abbrev pub tabulated : ℕ → Tables → Members → Call
-tabulated cells t (refusedAt c k) =
-    record {
-      outcome = stopped c k;
-      tables = record { mean = cleared cells (t .mean); deviation = cleared cells (t .deviation); path = cleared cells (t .path) };
-    }
+abbrev pub tabulated : ℕ → Tables → Members (List Float) → Call
+tabulated cells t (refusedAt c k) = record { outcome = stopped c k; tables = allCleared cells t }
 tabulated cells t (members ps) =
-    record {
-      outcome = averaged (not (eqb (length ps) 1));
-      tables = record {
-        mean = tableBy (meanAt ps) cells (t .mean);
-        deviation = tableBy (deviationAt ps) cells (t .deviation);
-        path = lastOf ps ++ drop cells (t .path);
-      };
-    }
+    record { outcome = averaged (not (eqb (length ps) 1)); tables = averagedOver cells ps (lastOf ps ++ drop cells (t .path)) t }
 
--- "8 samples, 9 realizations, 10 horizon, 11 any of the mean, deviation and path tables too short; nothing touched", after the net's own tests
-abbrev pub callFault : NetRecord → Request → Tables → Option ℕ
-callFault n q t =
-    orElse (fault n)
-    (orElse (requestFault q)
-    (tablesFault (n .places * q .samples) (length (t .mean)) (length (t .deviation)) (length (t .path))))
-
+-- a call that a test turns down touches nothing
 abbrev pub unlessFault : Option ℕ → Tables → Call → Call
 unlessFault none t call = call
 unlessFault (some c) t call = record { outcome = turnedDown c; tables = t }

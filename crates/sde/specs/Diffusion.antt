@@ -2,7 +2,7 @@
 -- "`combinations_real`, 20 substeps an interval, negative states set to 0, polar normals with the spare kept". The order is the source's: a
 -- transition's noise is added to the state at once, the drift after all of them (docs/DECISIONS).
 use Prim.Native.Nat.{ℕ, zero, suc, _-_}
-use mathlib.Core.List.{List, [], _∷_, _++_, map}
+use mathlib.Core.List.{List, [], _∷_, map}
 use lib.Dec.{eqb}
 use lib.IntN.{pos}
 use lib.ListN.{getD}
@@ -14,7 +14,8 @@ use Rattle.rules.specs.Propensity.{float, asFloat}
 use Rattle.rules.specs.Step.{Answer, refused, given}
 use Rattle.averages.specs.Request.{Request, seedOf, instant}
 use Rattle.averages.specs.Request as Request
-use Rattle.normals.specs.Normal.{Sampler, started, normal}
+use Rattle.averages.specs.Tables.{rowsFrom}
+use Rattle.normals.specs.Normal.{Sampler, seededSampler, normal}
 
 -- ---- answers
 
@@ -49,7 +50,8 @@ at x p = getD x p nan
 abbrev pub waysAt : Float → ℕ → Float
 waysAt v w = asFloat (combinationsReal v (pos w))
 
--- the rate times `combinations_real` over kinetic takes, take by take, on top of a; 0 as soon as the product is 0 or below
+-- `factored` and `propensity` are those of rules/specs/Propensity at a state of real numbers: the rate times `combinations_real` over kinetic takes, take
+-- by take, on top of a; 0 as soon as the product is 0 or below
 abbrev pub factored : List Float → Float → List Take → Float
 factored x a [] = a
 factored x a (k ∷ ks) =
@@ -119,11 +121,11 @@ begun s = record { x = s .x; drift = map (λ (v : Float). zero64) (s .x); sample
 abbrev pub aboveZero : Float → Float
 aboveZero v = pick (lt v zero64) zero64 v
 
-abbrev pub settled : Going → State
-settled g = record { x = eachFrom (λ (p : ℕ) (v : Float). aboveZero (add binary64 v (at (g .drift) p))) 0 (g .x); sampler = g .sampler }
+abbrev pub afterDrift : Going → State
+afterDrift g = record { x = eachFrom (λ (p : ℕ) (v : Float). aboveZero (add binary64 v (at (g .drift) p))) 0 (g .x); sampler = g .sampler }
 
 abbrev pub substep : Net → Float → State → Answer State
-substep n dt s = andThen (pushedAll dt (n .transitions) (begun s)) (λ (g : Going). given (settled g))
+substep n dt s = andThen (pushedAll dt (n .transitions) (begun s)) (λ (g : Going). given (afterDrift g))
 
 -- ---- an interval
 
@@ -141,8 +143,8 @@ overInterval n dt s = pick (lt zero64 dt) (repeated 20 (substep n dt) s) (given 
 abbrev pub stepOf : ℕ → Float → Float
 stepOf samples horizon =
     let width = Request.interval samples horizon in
-    let length = sub binary64 (instant width (samples - 1)) (instant width 0) in
-    div binary64 (div binary64 length (float (samples - 1))) (float 20)
+    let span = sub binary64 (instant width (samples - 1)) (instant width 0) in
+    div binary64 (div binary64 span (float (samples - 1))) (float 20)
 
 -- the states of the places at so many further instants, an interval after the other
 abbrev pub further : ℕ → (State → Answer State) → State → Answer (List (List Float))
@@ -157,22 +159,13 @@ firstState n s = record { x = map (λ (q : Place). float (q .initial)) (n .place
 -- the state at each of so many instants, from a seed
 abbrev pub walked : Net → Float → ℕ → ℕ → Answer (List (List Float))
 walked n dt samples seed =
-    let s = firstState n (started seed) in
+    let s = firstState n (seededSampler seed) in
     andThen (further (samples - 1) (overInterval n dt) s) (λ (rest : List (List Float)). given (s .x ∷ rest))
 
 -- path k of a request
 abbrev pub worked : Net → Request → ℕ → Answer (List (List Float))
 worked n q k = walked n (stepOf (q .samples) (q .horizon)) (q .samples) (seedOf (q .seed) k)
 
--- "place p, instant i at cell p × n + i": the row of place p is its value at each instant
-abbrev pub row : List (List Float) → ℕ → List Float
-row shown p = map (λ (x : List Float). at x p) shown
-
--- k rows from place p on
-abbrev pub rowsFrom : List (List Float) → ℕ → ℕ → List Float
-rowsFrom shown p zero = []
-rowsFrom shown p (suc k) = row shown p ++ rowsFrom shown (suc p) k
-
--- the cells of a path over so many places
+-- the cells of a path over so many places: "place p, instant i at cell p × n + i"
 abbrev pub cellsOf : ℕ → Answer (List (List Float)) → Answer (List Float)
-cellsOf places path = andThen path (λ (shown : List (List Float)). given (rowsFrom shown 0 places))
+cellsOf places path = andThen path (λ (shown : List (List Float)). given (rowsFrom at shown 0 places))

@@ -78,7 +78,7 @@ bitsFrom p (suc k) x =
     let further = bitsFrom (suc p) k (x / 2) in
     pick (eqb (x % 2) 1) (p ∷ further) further
 
--- the bounded places are the bits set in a mask of 32
+-- the bounded places are the bits set in the mask, of all its 64
 abbrev pub gatesOf : GatesStruct → Gates
 gatesOf g =
-    record { reads = g .reads; inhibitors = g .inhibitors; nonKinetic = g .nonkinetic; bounded = bitsFrom 0 32 (g .bounded); delayed = g .delayed }
+    record { reads = g .reads; inhibitors = g .inhibitors; nonKinetic = g .nonkinetic; bounded = bitsFrom 0 64 (g .bounded); delayed = g .delayed }

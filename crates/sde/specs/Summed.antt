@@ -7,11 +7,12 @@ use lib.Ieee.{Float}
 use Rattle.refusals.specs as Refusal
 use Rattle.net.specs.Net.{zero64}
 use Rattle.averages.specs.Moments.{plus, plusSquare, summedUp, tableBy}
-use Rattle.sde.specs.Call.{Members, refusedAt, members, Tables, lastOf}
+use Rattle.averages.specs.Members.{Members, refusedAt, members, lastOf}
+use Rattle.averages.specs.Tables.{Tables}
 use Rattle.sde.specs.Engine.{Beyond}
 
 -- so many paths were walked: all, with their sums and the last of them in the tables; or those before the first that was refused
-pub data SummedBy (cells realizations : ℕ) (paths : Members) (before : Tables) (mean deviation path : List Float) (walked : ℕ) : Type 0 where
+pub data SummedBy (cells realizations : ℕ) (paths : Members (List Float)) (before : Tables) (mean deviation path : List Float) (walked : ℕ) : Type 0 where
   all : (done : List (List Float)) → walked ≡ realizations → length done ≡ realizations → paths ≡ members done
       → mean ≡ tableBy (λ (c : ℕ). summedUp plus c zero64 done) cells (before .mean)
       → deviation ≡ tableBy (λ (c : ℕ). summedUp plusSquare c zero64 done) cells (before .deviation)

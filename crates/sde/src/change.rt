@@ -5,6 +5,7 @@ ghost use lib.Ieee.{binary64, add, sub};
 ghost use lib.Dec.{eqb, leb};
 ghost use lib.ListN.{length};
 ghost use Rattle.net.specs.Net as Reader;
+ghost use Rattle.net.specs.declared.Net.{Net as NetRecord};
 ghost use Rattle.net.specs.Readable as Record;
 ghost use Rattle.net.specs.Record.{lent};
 ghost use Rattle.net.specs.Sound as Sound;
@@ -96,9 +97,10 @@ fn change_of<'a>(
     weight: &'a [u64; 1024],
     c: usize,
 ) -> f64
-    requires { ⌜ (c < 32 * transitions) × Sound.Sound (lent places transitions (now initial) (now capacity) (now rate) (now delay) (now arcs) (now kind) (now place) (now weight)) ⌝ }
-    ensures { λ r. ⌜ r ≡ Slots.changeOf (lent places transitions (now (initial .entry)) (now (capacity .entry)) (now (rate .entry)) (now (delay .entry))
-        (now (arcs .entry)) (now (kind .entry)) (now (place .entry)) (now (weight .entry))) c ⌝ }
+    ghost { NetRecord }
+    requires { λ net. ⌜ lent places transitions (now initial) (now capacity) (now rate) (now delay) (now arcs) (now kind) (now place) (now weight) ≡ net ⌝ }
+    requires { λ net. ⌜ (c < 32 * transitions) × Sound.Sound net ⌝ }
+    ensures { λ net r. ⌜ r ≡ Slots.changeOf net c ⌝ }
 {
     let j = c / 32;
     let p = c % 32;
@@ -122,9 +124,10 @@ pub fn fill_changes<'a>(
     weight: &'a [u64; 1024],
     changes: &mut [f64; 2048],
 )
-    requires { ⌜ Sound.Sound (lent places transitions (now initial) (now capacity) (now rate) (now delay) (now arcs) (now kind) (now place) (now weight)) × (length (now changes) ≡ 2048) ⌝ }
-    ensures { λ _. ⌜ Slots.Changes (lent places transitions (now (initial .entry)) (now (capacity .entry)) (now (rate .entry)) (now (delay .entry))
-        (now (arcs .entry)) (now (kind .entry)) (now (place .entry)) (now (weight .entry))) (now (changes .exit)) ⌝ }
+    ghost { NetRecord }
+    requires { λ net. ⌜ lent places transitions (now initial) (now capacity) (now rate) (now delay) (now arcs) (now kind) (now place) (now weight) ≡ net ⌝ }
+    requires { λ net. ⌜ Sound.Sound net × (length (now changes) ≡ 2048) ⌝ }
+    ensures { λ net _. ⌜ Slots.Changes net (now (changes .exit)) ⌝ }
 {
     let end = 32 * transitions;
     let mut c: usize = 0;

@@ -4,6 +4,7 @@ ghost use Prim.Native.Nat.{ℕ, _+_, _-_, _*_, _^_, _<_, _≤_};
 ghost use lib.ListN.{getD};
 ghost use Rattle.net.specs.Net as Reader;
 ghost use Rattle.net.specs.Tests as Tests;
+ghost use Rattle.net.specs.declared.Net.{Net as NetRecord};
 ghost use Rattle.net.specs.Readable as Record;
 ghost use Rattle.net.specs.Record.{lent};
 ghost use Rattle.net.specs.Sound as Sound;
@@ -80,9 +81,10 @@ fn count<'a>(
     place: &'a [usize; 1024],
     weight: &'a [u64; 1024],
 ) -> u64
-    requires { ⌜ Sound.Sound (lent places transitions (now initial) (now capacity) (now rate) (now delay) (now arcs) (now kind) (now place) (now weight)) ⌝ }
-    ensures { λ r. ⌜ r ≡ Slots.countFrom (Slots.sortOf gate) (lent places transitions (now (initial .entry)) (now (capacity .entry)) (now (rate .entry)) (now (delay .entry))
-        (now (arcs .entry)) (now (kind .entry)) (now (place .entry)) (now (weight .entry))) 0 transitions ⌝ }
+    ghost { NetRecord }
+    requires { λ net. ⌜ lent places transitions (now initial) (now capacity) (now rate) (now delay) (now arcs) (now kind) (now place) (now weight) ≡ net ⌝ }
+    requires { λ net. ⌜ Sound.Sound net ⌝ }
+    ensures { λ net r. ⌜ r ≡ Slots.countFrom (Slots.sortOf gate) net 0 transitions ⌝ }
 {
     let mut n: u64 = 0;
     let mut j: usize = 0;
@@ -170,9 +172,10 @@ fn raised<'a>(
     weight: &'a [u64; 1024],
     p: usize,
 ) -> bool
-    requires { ⌜ Sound.Sound (lent places transitions (now initial) (now capacity) (now rate) (now delay) (now arcs) (now kind) (now place) (now weight)) ⌝ }
-    ensures { λ r. ⌜ r ≡ Tests.any (Spec.raises p) (Record.transitionsFrom (lent places transitions (now (initial .entry)) (now (capacity .entry)) (now (rate .entry)) (now (delay .entry))
-        (now (arcs .entry)) (now (kind .entry)) (now (place .entry)) (now (weight .entry))) 0 transitions) ⌝ }
+    ghost { NetRecord }
+    requires { λ net. ⌜ lent places transitions (now initial) (now capacity) (now rate) (now delay) (now arcs) (now kind) (now place) (now weight) ≡ net ⌝ }
+    requires { λ net. ⌜ Sound.Sound net ⌝ }
+    ensures { λ net r. ⌜ r ≡ Tests.any (Spec.raises p) (Record.transitionsFrom net 0 transitions) ⌝ }
 {
     let mut j: usize = 0;
     while j < transitions {
@@ -200,9 +203,10 @@ fn delayed<'a>(
     place: &'a [usize; 1024],
     weight: &'a [u64; 1024],
 ) -> bool
-    requires { ⌜ transitions ≤ 64 ⌝ }
-    ensures { λ r. ⌜ r ≡ Tests.any Reader.timed (Record.transitionsFrom (lent places transitions (now (initial .entry)) (now (capacity .entry)) (now (rate .entry)) (now (delay .entry))
-        (now (arcs .entry)) (now (kind .entry)) (now (place .entry)) (now (weight .entry))) 0 transitions) ⌝ }
+    ghost { NetRecord }
+    requires { λ net. ⌜ lent places transitions (now initial) (now capacity) (now rate) (now delay) (now arcs) (now kind) (now place) (now weight) ≡ net ⌝ }
+    requires { λ net. ⌜ transitions ≤ 64 ⌝ }
+    ensures { λ net r. ⌜ r ≡ Tests.any Reader.timed (Record.transitionsFrom net 0 transitions) ⌝ }
 {
     let mut j: usize = 0;
     while j < transitions {
@@ -228,9 +232,10 @@ fn bounded_at<'a>(
     weight: &'a [u64; 1024],
     p: usize,
 ) -> u64
-    requires { ⌜ (p < 32) × Sound.Sound (lent places transitions (now initial) (now capacity) (now rate) (now delay) (now arcs) (now kind) (now place) (now weight)) ⌝ }
-    ensures { λ r. ⌜ r ≡ Slots.oneIf (Slots.boundedAt (lent places transitions (now (initial .entry)) (now (capacity .entry)) (now (rate .entry)) (now (delay .entry))
-        (now (arcs .entry)) (now (kind .entry)) (now (place .entry)) (now (weight .entry))) p) ⌝ }
+    ghost { NetRecord }
+    requires { λ net. ⌜ lent places transitions (now initial) (now capacity) (now rate) (now delay) (now arcs) (now kind) (now place) (now weight) ≡ net ⌝ }
+    requires { λ net. ⌜ (p < 32) × Sound.Sound net ⌝ }
+    ensures { λ net r. ⌜ r ≡ Slots.oneIf (Slots.boundedAt net p) ⌝ }
 {
     if capacity[p] == 0 {
         return 0;
@@ -266,9 +271,10 @@ fn bounded_mask<'a>(
     place: &'a [usize; 1024],
     weight: &'a [u64; 1024],
 ) -> u64
-    requires { ⌜ Sound.Sound (lent places transitions (now initial) (now capacity) (now rate) (now delay) (now arcs) (now kind) (now place) (now weight)) ⌝ }
-    ensures { λ r. ⌜ r ≡ Slots.maskFrom (lent places transitions (now (initial .entry)) (now (capacity .entry)) (now (rate .entry)) (now (delay .entry))
-        (now (arcs .entry)) (now (kind .entry)) (now (place .entry)) (now (weight .entry))) 0 places ⌝ }
+    ghost { NetRecord }
+    requires { λ net. ⌜ lent places transitions (now initial) (now capacity) (now rate) (now delay) (now arcs) (now kind) (now place) (now weight) ≡ net ⌝ }
+    requires { λ net. ⌜ Sound.Sound net ⌝ }
+    ensures { λ net r. ⌜ r ≡ Slots.maskFrom net 0 places ⌝ }
 {
     let mut mask: u64 = 0;
     let mut p = places;
@@ -306,9 +312,10 @@ pub fn gates_of<'a>(
     place: &'a [usize; 1024],
     weight: &'a [u64; 1024],
 ) -> Gates
-    requires { ⌜ Sound.Sound (lent places transitions (now initial) (now capacity) (now rate) (now delay) (now arcs) (now kind) (now place) (now weight)) ⌝ }
-    ensures { λ r. ⌜ Spec.gatesOf r ≡ Spec.gates (Record.readable (lent places transitions (now (initial .entry)) (now (capacity .entry)) (now (rate .entry)) (now (delay .entry))
-        (now (arcs .entry)) (now (kind .entry)) (now (place .entry)) (now (weight .entry)))) × (r .bounded < 2 ^ 32) ⌝ }
+    ghost { NetRecord }
+    requires { λ net. ⌜ lent places transitions (now initial) (now capacity) (now rate) (now delay) (now arcs) (now kind) (now place) (now weight) ≡ net ⌝ }
+    requires { λ net. ⌜ Sound.Sound net ⌝ }
+    ensures { λ net r. ⌜ Spec.gatesOf r ≡ Spec.gates (Record.readable net) ⌝ }
 {
     let reads = count(
         Gate::Read,
@@ -384,7 +391,6 @@ pub fn gates_of<'a>(
 
 // Does anything gate it?
 pub fn is_gated(g: Gates) -> bool
-    requires { ⌜ g .bounded < 2 ^ 32 ⌝ }
     ensures { λ r. ⌜ r ≡ Spec.gated (Spec.gatesOf g) ⌝ }
 {
     if 0 < g.reads {

@@ -1,4 +1,5 @@
-// Diffusion over a net: paths of the chemical Langevin equation, their means and deviations; and the normal draws that they use.
+// Diffusion over a net: paths of the chemical Langevin equation, their means and deviations. In the contracts of the private functions, `net` is the
+// record whose fields are lent.
 mod change;
 mod gated;
 mod paths;

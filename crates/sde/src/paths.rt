@@ -7,6 +7,7 @@ ghost use lib.Dec.{eqb};
 ghost use lib.Ieee.{Float};
 ghost use lib.ListN.{length};
 ghost use Rattle.net.specs.Net as Reader;
+ghost use Rattle.net.specs.declared.Net.{Net as NetRecord};
 ghost use Rattle.net.specs.Readable as Record;
 ghost use Rattle.net.specs.Record.{lent};
 ghost use Rattle.net.specs.Sound as Sound;
@@ -63,14 +64,14 @@ fn sum_paths<'a>(
     deviation: &mut [f64],
     path: &mut [f64],
 ) -> u64
-    requires { ⌜ Sound.Sound (lent places transitions (now initial) (now capacity) (now rate) (now delay) (now arcs) (now kind) (now place) (now weight))
-        × Slots.Tables (lent places transitions (now initial) (now capacity) (now rate) (now delay) (now arcs) (now kind) (now place) (now weight)) (now changes) (now skips) (now ends)
+    ghost { NetRecord }
+    requires { λ net. ⌜ lent places transitions (now initial) (now capacity) (now rate) (now delay) (now arcs) (now kind) (now place) (now weight) ≡ net ⌝ }
+    requires { λ net. ⌜ Sound.Sound net × Slots.Tables net (now changes) (now skips) (now ends)
         × (dt ≡ Diffusion.stepOf n horizon) × (root ≡ rootOf dt)
         × (1 ≤ n) × (n ≤ 1024) × (1 ≤ realizations)
         × (places * n ≤ length (now mean)) × (places * n ≤ length (now deviation)) × (places * n ≤ length (now path)) ⌝ }
-    ensures { λ r. ⌜ Summed.SummedBy (places * n) realizations
-        (Call.membersFrom (Record.readable (lent places transitions (now (initial .entry)) (now (capacity .entry)) (now (rate .entry)) (now (delay .entry))
-        (now (arcs .entry)) (now (kind .entry)) (now (place .entry)) (now (weight .entry)))) (record { samples = n; realizations = realizations; seed = seed; horizon = horizon }) 0 realizations)
+    ensures { λ net r. ⌜ Summed.SummedBy (places * n) realizations
+        (Call.membersFrom (Record.readable net) (record { samples = n; realizations = realizations; seed = seed; horizon = horizon }) 0 realizations)
         (record { mean = now (mean .entry); deviation = now (deviation .entry); path = now (path .entry) })
         (now (mean .exit)) (now (deviation .exit)) (now (path .exit)) r ⌝ }
 {
@@ -163,15 +164,15 @@ fn averaged<'a>(
     deviation: &mut [f64],
     path: &mut [f64],
 ) -> DiffusionAnswer
-    requires { ⌜ Sound.Sound (lent places transitions (now initial) (now capacity) (now rate) (now delay) (now arcs) (now kind) (now place) (now weight))
-        × Slots.Tables (lent places transitions (now initial) (now capacity) (now rate) (now delay) (now arcs) (now kind) (now place) (now weight)) (now changes) (now skips) (now ends)
+    ghost { NetRecord }
+    requires { λ net. ⌜ lent places transitions (now initial) (now capacity) (now rate) (now delay) (now arcs) (now kind) (now place) (now weight) ≡ net ⌝ }
+    requires { λ net. ⌜ Sound.Sound net × Slots.Tables net (now changes) (now skips) (now ends)
         × (dt ≡ Diffusion.stepOf n horizon) × (root ≡ rootOf dt)
         × (1 ≤ n) × (n ≤ 1024) × (1 ≤ realizations) × (realizations ≤ 65_535)
         × (places * n ≤ length (now mean)) × (places * n ≤ length (now deviation)) × (places * n ≤ length (now path)) ⌝ }
-    ensures { λ r. ⌜ Call.callOf r (now (mean .exit)) (now (deviation .exit)) (now (path .exit))
+    ensures { λ net r. ⌜ Call.callOf r (now (mean .exit)) (now (deviation .exit)) (now (path .exit))
         ≡ Call.tabulated (places * n) (record { mean = now (mean .entry); deviation = now (deviation .entry); path = now (path .entry) })
-        (Call.membersFrom (Record.readable (lent places transitions (now (initial .entry)) (now (capacity .entry)) (now (rate .entry)) (now (delay .entry))
-        (now (arcs .entry)) (now (kind .entry)) (now (place .entry)) (now (weight .entry)))) (record { samples = n; realizations = realizations; seed = seed; horizon = horizon }) 0 realizations) ⌝ }
+        (Call.membersFrom (Record.readable net) (record { samples = n; realizations = realizations; seed = seed; horizon = horizon }) 0 realizations) ⌝ }
 {
     let cells = places * n;
     let k = sum_paths(
@@ -227,17 +228,16 @@ pub fn lent_run<'a>(
     deviation: &mut [f64],
     path: &mut [f64],
 ) -> DiffusionAnswer
-    requires { ⌜ Sound.Sound (lent places transitions (now initial) (now capacity) (now rate) (now delay) (now arcs) (now kind) (now place) (now weight))
+    ghost { NetRecord }
+    requires { λ net. ⌜ lent places transitions (now initial) (now capacity) (now rate) (now delay) (now arcs) (now kind) (now place) (now weight) ≡ net ⌝ }
+    requires { λ net. ⌜ Sound.Sound net
         × (2 ≤ samples) × (samples ≤ 1024) × (1 ≤ realizations) × (realizations ≤ 65_535)
         × (places * samples ≤ length (now mean)) × (places * samples ≤ length (now deviation)) × (places * samples ≤ length (now path)) ⌝ }
-    ensures { λ r. ⌜ Call.callOf r (now (mean .exit)) (now (deviation .exit)) (now (path .exit))
-        ≡ Call.unlessGated (Gated.gated (Gated.gates (Record.readable (lent places transitions (now (initial .entry)) (now (capacity .entry)) (now (rate .entry)) (now (delay .entry))
-        (now (arcs .entry)) (now (kind .entry)) (now (place .entry)) (now (weight .entry)))))) (Gated.gates (Record.readable (lent places transitions (now (initial .entry)) (now (capacity .entry)) (now (rate .entry)) (now (delay .entry))
-        (now (arcs .entry)) (now (kind .entry)) (now (place .entry)) (now (weight .entry)))))
+    ensures { λ net r. ⌜ Call.callOf r (now (mean .exit)) (now (deviation .exit)) (now (path .exit))
+        ≡ Call.unlessGated (Gated.gated (Gated.gates (Record.readable net))) (Gated.gates (Record.readable net))
         (record { mean = now (mean .entry); deviation = now (deviation .entry); path = now (path .entry) })
         (Call.tabulated (places * samples) (record { mean = now (mean .entry); deviation = now (deviation .entry); path = now (path .entry) })
-        (Call.membersFrom (Record.readable (lent places transitions (now (initial .entry)) (now (capacity .entry)) (now (rate .entry)) (now (delay .entry))
-        (now (arcs .entry)) (now (kind .entry)) (now (place .entry)) (now (weight .entry)))) (record { samples = samples; realizations = realizations; seed = seed; horizon = horizon }) 0 realizations)) ⌝ }
+        (Call.membersFrom (Record.readable net) (record { samples = samples; realizations = realizations; seed = seed; horizon = horizon }) 0 realizations)) ⌝ }
 {
     let g = gated::gates_of(
         places,

@@ -6,6 +6,7 @@ ghost use lib.Ieee.{le};
 ghost use lib.Dec.{eqb};
 ghost use lib.ListN as ListN;
 ghost use Rattle.net.specs.Net as Reader;
+ghost use Rattle.net.specs.declared.Net.{Net as NetRecord};
 ghost use Rattle.net.specs.Readable as Record;
 ghost use Rattle.net.specs.Record.{lent};
 ghost use Rattle.net.specs.Sound as Sound;
@@ -163,11 +164,10 @@ pub fn propensity<'a>(
     x: &[f64; 32],
     j: usize,
 ) -> f64
-    requires { ⌜ (j < transitions) × Sound.Sound (lent places transitions (now initial) (now capacity) (now rate) (now delay) (now arcs) (now kind) (now place) (now weight))
-        × Slots.Rated (lent places transitions (now initial) (now capacity) (now rate) (now delay) (now arcs) (now kind) (now place) (now weight))
-        × Slots.Ends (lent places transitions (now initial) (now capacity) (now rate) (now delay) (now arcs) (now kind) (now place) (now weight)) (now ends) ⌝ }
-    ensures { λ r. ⌜ r ≡ Diffusion.propensity (ListN.take places (now (x .entry))) (Record.transition (lent places transitions (now (initial .entry)) (now (capacity .entry)) (now (rate .entry)) (now (delay .entry))
-        (now (arcs .entry)) (now (kind .entry)) (now (place .entry)) (now (weight .entry))) j) ⌝ }
+    ghost { NetRecord }
+    requires { λ net. ⌜ lent places transitions (now initial) (now capacity) (now rate) (now delay) (now arcs) (now kind) (now place) (now weight) ≡ net ⌝ }
+    requires { λ net. ⌜ (j < transitions) × Sound.Sound net × Slots.Rated net × Slots.Ends net (now ends) ⌝ }
+    ensures { λ net r. ⌜ r ≡ Diffusion.propensity (ListN.take places (now (x .entry))) (Record.transition net j) ⌝ }
 {
     product(kind, place, weight, places, x, 16 * j, ends[j], rate[j])
 }

@@ -5,6 +5,7 @@ ghost use Prim.Native.Nat.{ℕ, _-_, _*_, _+_, _<_, _≤_};
 ghost use lib.Ieee.{Float, binary64, add, nan};
 ghost use lib.ListN.{length, getD};
 ghost use Rattle.net.specs.Net as Reader;
+ghost use Rattle.net.specs.declared.Net.{Net as NetRecord};
 ghost use Rattle.net.specs.Readable as Record;
 ghost use Rattle.net.specs.Record.{lent};
 ghost use Rattle.net.specs.Sound as Sound;
@@ -65,7 +66,7 @@ fn clear(places: usize, drift: &mut [f64; 32])
 }
 
 // v with its drift. "Negative states set to 0."
-fn settled(v: f64, d: f64) -> f64
+fn after_drift(v: f64, d: f64) -> f64
     ensures { λ r. ⌜ r ≡ Diffusion.aboveZero (add binary64 v d) ⌝ }
 {
     let s = v + d;
@@ -76,13 +77,13 @@ fn settled(v: f64, d: f64) -> f64
 }
 
 // Adds the drift to the state.
-fn settle(places: usize, drift: &[f64; 32], x: &mut [f64; 32])
+fn add_drift(places: usize, drift: &[f64; 32], x: &mut [f64; 32])
     requires { ⌜ (places ≤ 32) × (length (now x) ≡ 32) ⌝ }
     ensures { λ _. ⌜ Engine.Mapped places (λ p v. Diffusion.aboveZero (add binary64 v (getD (now (drift .entry)) p nan))) (now (x .entry)) (now (x .exit)) ⌝ }
 {
     let mut p: usize = 0;
     while p < places {
-        let v = settled(x[p], drift[p]);
+        let v = after_drift(x[p], drift[p]);
         x[p] = v;
         p += 1;
     }
@@ -109,12 +110,12 @@ fn push_all<'a>(
     drift: &mut [f64; 32],
     sampler: GaussianSampler,
 ) -> Pushed
-    requires { ⌜ Sound.Sound (lent places transitions (now initial) (now capacity) (now rate) (now delay) (now arcs) (now kind) (now place) (now weight))
-        × Slots.Tables (lent places transitions (now initial) (now capacity) (now rate) (now delay) (now arcs) (now kind) (now place) (now weight)) (now changes) (now skips) (now ends)
+    ghost { NetRecord }
+    requires { λ net. ⌜ lent places transitions (now initial) (now capacity) (now rate) (now delay) (now arcs) (now kind) (now place) (now weight) ≡ net ⌝ }
+    requires { λ net. ⌜ Sound.Sound net × Slots.Tables net (now changes) (now skips) (now ends)
         × (root ≡ rootOf dt) × Engine.Lengths (now x) (now drift) ⌝ }
-    ensures { λ r. ⌜ (Engine.unless (r .stopped) (Engine.goingOf places (now (x .exit)) (now (drift .exit)) (r .sampler))
-        ≡ Diffusion.pushedAll dt (Record.transitionsFrom (lent places transitions (now (initial .entry)) (now (capacity .entry)) (now (rate .entry)) (now (delay .entry))
-        (now (arcs .entry)) (now (kind .entry)) (now (place .entry)) (now (weight .entry))) 0 transitions) (Engine.goingOf places (now (x .entry)) (now (drift .entry)) sampler))
+    ensures { λ net r. ⌜ (Engine.unless (r .stopped) (Engine.goingOf places (now (x .exit)) (now (drift .exit)) (r .sampler))
+        ≡ Diffusion.pushedAll dt (Record.transitionsFrom net 0 transitions) (Engine.goingOf places (now (x .entry)) (now (drift .entry)) sampler))
         × Engine.Lengths (now (x .exit)) (now (drift .exit)) ⌝ }
 {
     let mut s = sampler;
@@ -182,12 +183,12 @@ pub fn substep<'a>(
     drift: &mut [f64; 32],
     sampler: GaussianSampler,
 ) -> Pushed
-    requires { ⌜ Sound.Sound (lent places transitions (now initial) (now capacity) (now rate) (now delay) (now arcs) (now kind) (now place) (now weight))
-        × Slots.Tables (lent places transitions (now initial) (now capacity) (now rate) (now delay) (now arcs) (now kind) (now place) (now weight)) (now changes) (now skips) (now ends)
+    ghost { NetRecord }
+    requires { λ net. ⌜ lent places transitions (now initial) (now capacity) (now rate) (now delay) (now arcs) (now kind) (now place) (now weight) ≡ net ⌝ }
+    requires { λ net. ⌜ Sound.Sound net × Slots.Tables net (now changes) (now skips) (now ends)
         × (root ≡ rootOf dt) × Engine.Lengths (now x) (now drift) ⌝ }
-    ensures { λ r. ⌜ (Engine.unless (r .stopped) (Engine.stateOf places (now (x .exit)) (r .sampler))
-        ≡ Diffusion.substep (Record.readable (lent places transitions (now (initial .entry)) (now (capacity .entry)) (now (rate .entry)) (now (delay .entry))
-        (now (arcs .entry)) (now (kind .entry)) (now (place .entry)) (now (weight .entry)))) dt (Engine.stateOf places (now (x .entry)) sampler))
+    ensures { λ net r. ⌜ (Engine.unless (r .stopped) (Engine.stateOf places (now (x .exit)) (r .sampler))
+        ≡ Diffusion.substep (Record.readable net) dt (Engine.stateOf places (now (x .entry)) sampler))
         × Engine.Lengths (now (x .exit)) (now (drift .exit)) ⌝ }
 {
     clear(places, drift);
@@ -214,7 +215,7 @@ pub fn substep<'a>(
     if p.stopped {
         return p;
     }
-    settle(places, drift, x);
+    add_drift(places, drift, x);
     p
 }
 
@@ -241,12 +242,12 @@ pub fn over_interval<'a>(
     drift: &mut [f64; 32],
     sampler: GaussianSampler,
 ) -> Pushed
-    requires { ⌜ Sound.Sound (lent places transitions (now initial) (now capacity) (now rate) (now delay) (now arcs) (now kind) (now place) (now weight))
-        × Slots.Tables (lent places transitions (now initial) (now capacity) (now rate) (now delay) (now arcs) (now kind) (now place) (now weight)) (now changes) (now skips) (now ends)
+    ghost { NetRecord }
+    requires { λ net. ⌜ lent places transitions (now initial) (now capacity) (now rate) (now delay) (now arcs) (now kind) (now place) (now weight) ≡ net ⌝ }
+    requires { λ net. ⌜ Sound.Sound net × Slots.Tables net (now changes) (now skips) (now ends)
         × (root ≡ rootOf dt) × Engine.Lengths (now x) (now drift) ⌝ }
-    ensures { λ r. ⌜ (Engine.unless (r .stopped) (Engine.stateOf places (now (x .exit)) (r .sampler))
-        ≡ Diffusion.overInterval (Record.readable (lent places transitions (now (initial .entry)) (now (capacity .entry)) (now (rate .entry)) (now (delay .entry))
-        (now (arcs .entry)) (now (kind .entry)) (now (place .entry)) (now (weight .entry)))) dt (Engine.stateOf places (now (x .entry)) sampler))
+    ensures { λ net r. ⌜ (Engine.unless (r .stopped) (Engine.stateOf places (now (x .exit)) (r .sampler))
+        ≡ Diffusion.overInterval (Record.readable net) dt (Engine.stateOf places (now (x .entry)) sampler))
         × Engine.Lengths (now (x .exit)) (now (drift .exit)) ⌝ }
 {
     let mut s = sampler;

@@ -5,6 +5,7 @@ ghost use Prim.Native.Nat.{ℕ, _-_, _*_, _+_, _^_, _<_, _≤_};
 ghost use lib.Ieee.{Float, nan};
 ghost use lib.ListN.{length, getD};
 ghost use lib.ListN as ListN;
+ghost use Rattle.net.specs.declared.Net.{Net as NetRecord};
 ghost use Rattle.net.specs.Readable as Record;
 ghost use Rattle.net.specs.Record.{lent};
 ghost use Rattle.net.specs.Sound as Sound;
@@ -65,14 +66,14 @@ fn walk_on<'a>(
     sampler: GaussianSampler,
     table: &mut [f64],
 ) -> bool
-    requires { ⌜ Sound.Sound (lent places transitions (now initial) (now capacity) (now rate) (now delay) (now arcs) (now kind) (now place) (now weight))
-        × Slots.Tables (lent places transitions (now initial) (now capacity) (now rate) (now delay) (now arcs) (now kind) (now place) (now weight)) (now changes) (now skips) (now ends)
+    ghost { NetRecord }
+    requires { λ net. ⌜ lent places transitions (now initial) (now capacity) (now rate) (now delay) (now arcs) (now kind) (now place) (now weight) ≡ net ⌝ }
+    requires { λ net. ⌜ Sound.Sound net × Slots.Tables net (now changes) (now skips) (now ends)
         × (root ≡ rootOf dt) × Engine.Lengths (now x) (now drift)
         × (1 ≤ n) × (n ≤ 1024) × (places * n ≤ length (now table))
         × ((p : ℕ) → p < places → getD (now table) (p * n + 0) nan ≡ getD (now x) p nan) ⌝ }
-    ensures { λ r. ⌜ (Engine.unless r (ListN.take (places * n) (now (table .exit)))
-        ≡ Diffusion.cellsOf places (Engine.preceded (ListN.take places (now (x .entry)) ∷ []) (Diffusion.further (n - 1) (Diffusion.overInterval (Record.readable (lent places transitions (now (initial .entry)) (now (capacity .entry)) (now (rate .entry)) (now (delay .entry))
-        (now (arcs .entry)) (now (kind .entry)) (now (place .entry)) (now (weight .entry)))) dt) (Engine.stateOf places (now (x .entry)) sampler))))
+    ensures { λ net r. ⌜ (Engine.unless r (ListN.take (places * n) (now (table .exit)))
+        ≡ Diffusion.cellsOf places (Engine.preceded (ListN.take places (now (x .entry)) ∷ []) (Diffusion.further (n - 1) (Diffusion.overInterval (Record.readable net) dt) (Engine.stateOf places (now (x .entry)) sampler))))
         × Engine.Beyond (places * n) (now (table .entry)) (now (table .exit))
         × Engine.Lengths (now (x .exit)) (now (drift .exit)) ⌝ }
 {
@@ -133,13 +134,13 @@ pub fn walk<'a>(
     drift: &mut [f64; 32],
     table: &mut [f64],
 ) -> bool
-    requires { ⌜ Sound.Sound (lent places transitions (now initial) (now capacity) (now rate) (now delay) (now arcs) (now kind) (now place) (now weight))
-        × Slots.Tables (lent places transitions (now initial) (now capacity) (now rate) (now delay) (now arcs) (now kind) (now place) (now weight)) (now changes) (now skips) (now ends)
+    ghost { NetRecord }
+    requires { λ net. ⌜ lent places transitions (now initial) (now capacity) (now rate) (now delay) (now arcs) (now kind) (now place) (now weight) ≡ net ⌝ }
+    requires { λ net. ⌜ Sound.Sound net × Slots.Tables net (now changes) (now skips) (now ends)
         × (root ≡ rootOf dt) × Engine.Lengths (now x) (now drift)
         × (1 ≤ n) × (n ≤ 1024) × (places * n ≤ length (now table)) ⌝ }
-    ensures { λ r. ⌜ (Engine.unless r (ListN.take (places * n) (now (table .exit)))
-        ≡ Diffusion.cellsOf places (Diffusion.walked (Record.readable (lent places transitions (now (initial .entry)) (now (capacity .entry)) (now (rate .entry)) (now (delay .entry))
-        (now (arcs .entry)) (now (kind .entry)) (now (place .entry)) (now (weight .entry)))) dt n seed))
+    ensures { λ net r. ⌜ (Engine.unless r (ListN.take (places * n) (now (table .exit)))
+        ≡ Diffusion.cellsOf places (Diffusion.walked (Record.readable net) dt n seed))
         × Engine.Beyond (places * n) (now (table .entry)) (now (table .exit))
         × Engine.Lengths (now (x .exit)) (now (drift .exit)) ⌝ }
 {

@@ -3,67 +3,26 @@
 -- Assumes nothing.
 use Prim.Native.Nat.{ℕ, zero, suc, _*_, _≤_}
 use mathlib.Core.Path.{_≡_, refl, ap, _∙_}
-use mathlib.Core.Bool.{Bool, true, false, _&&_, not}
-use mathlib.Core.List.{List, [], _∷_}
-use mathlib.Core.Option.{Option, none}
+use mathlib.Core.Bool.{true}
+use mathlib.Core.List.{List}
+use mathlib.Core.Option.{Option}
 use native.Mathlib.Omega.{arith}
-use lib.Dec.{leb}
 use lib.ListN.{length, take}
 use lib.Ieee.{Float}
-use borrow.Author.Tests.{leb-true}
-use Rattle.refusals.specs as Refusal
 use Rattle.net.specs.declared.Net.{Net as NetRecord}
 use Rattle.net.specs.Net.{Net}
-use Rattle.net.specs.Tests.{orElse, firstOf}
+use Rattle.net.specs.Tests.{orElse}
 use Rattle.net.specs.Readable.{readable, fault}
 use Rattle.rules.specs.Shown.{instantsFit}
-use Rattle.rules.proofs.Order.{both}
 use Rattle.averages.specs.Front.{byNumber}
-use Rattle.averages.specs.Request.{Request, samplesFit, realizationsFit, horizonFits, requestFault, tablesFault, interval, instant, instantsFrom, grid}
+use Rattle.averages.specs.Request.{Request, requestFault, tablesFault, interval, instant, instantsFrom, grid}
+use Rattle.averages.specs.Members.{unlessRefused, pathsFrom}
+use Rattle.averages.specs.Tables.{Tables}
 use Rattle.averages.proofs.Fronts.{byNumber-length}
 use Rattle.averages.proofs.Grid.{take-instants, grid-length, grid-fits}
-use Rattle.ssa.specs.Ensemble.{Tables, Call, unlessRefused, membersFrom, tabulated, unlessFault, called}
-use Rattle.ssa.specs.Summing.{drawn, pathsFrom}
-
--- ---- a request that passes
-
-pub record Passing (q : Request) : Type 0 where
-  pub sampled : samplesFit (q .samples) ≡ true
-  pub timely : horizonFits (q .horizon) ≡ true
-  pub few : q .samples ≤ 1024
-  pub repeated : q .realizations ≤ 65_535
-
-pub passing : (q : Request) → requestFault q ≡ none → Passing q
-passing q e = go (samplesFit (q .samples)) (realizationsFit (q .realizations)) (horizonFits (q .horizon)) refl refl refl e
-  where
-    go : (a b c : Bool) → samplesFit (q .samples) ≡ a → realizationsFit (q .realizations) ≡ b → horizonFits (q .horizon) ≡ c
-        → firstOf ((Refusal.badSamples, not a) ∷ (Refusal.badRealizations, not b) ∷ (Refusal.badHorizon, not c) ∷ []) ≡ none → Passing q
-    go true true true e₁ e₂ e₃ h =
-        record {
-          sampled = e₁;
-          timely = e₃;
-          few = leb-true (q .samples) 1024 (both (leb 2 (q .samples)) (leb (q .samples) 1024) e₁ .1);
-          repeated = leb-true (q .realizations) 65_535 (both (leb 1 (q .realizations)) (leb (q .realizations) 65_535) e₂ .1);
-        }
-    go true true false e₁ e₂ e₃ h = let z : _≡_ {A = ℕ} 0 1 = cc in absurd (omega arith)
-    go true false c e₁ e₂ e₃ h = let z : _≡_ {A = ℕ} 0 1 = cc in absurd (omega arith)
-    go false b c e₁ e₂ e₃ h = let z : _≡_ {A = ℕ} 0 1 = cc in absurd (omega arith)
-
--- tables that are long enough
-pub record Room (cells mean deviation path : ℕ) : Type 0 where
-  pub in-mean : cells ≤ mean
-  pub in-deviation : cells ≤ deviation
-  pub in-path : cells ≤ path
-
-pub room : (cells m d p : ℕ) → tablesFault cells m d p ≡ none → Room cells m d p
-room cells m d p e = go (leb cells m && leb cells d && leb cells p) refl e
-  where
-    go : (b : Bool) → (leb cells m && leb cells d && leb cells p) ≡ b → firstOf ((Refusal.shortTable, not b) ∷ []) ≡ none → Room cells m d p
-    go false f h = let z : _≡_ {A = ℕ} 0 1 = cc in absurd (omega arith)
-    go true f h =
-        let outer = both (leb cells m && leb cells d) (leb cells p) f in
-        let inner = both (leb cells m) (leb cells d) (outer .0) in
-        record { in-mean = leb-true cells m (inner .0); in-deviation = leb-true cells d (inner .1); in-path = leb-true cells p (outer .1) }
+use Rattle.averages.proofs.Passes.{Passing}
+use Rattle.ssa.specs.Ensemble.{Call, membersFrom, tabulated, unlessFault, called}
+use Rattle.ssa.specs.Summing.{drawn}
 
 -- ---- its instants and paths
 

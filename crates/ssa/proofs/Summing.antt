@@ -10,7 +10,6 @@ use mathlib.Core.Logic.{⊎-elim}
 use mathlib.Core.List.{List, [], _∷_, _++_, map, map-append}
 use native.Mathlib.Omega.{arith}
 use native.Mathlib.Nat.{mul-zero, le-of-suc-le-suc, not-suc-le-zero}
-use native.Mathlib.Numerals.{add-one}
 use borrow.Author.Tests.{eqb-true, eqb-false}
 use lib.Dec.{eqb}
 use lib.ListN.{length, drop, replicate, length-append, length-drop, length-map, length-replicate}
@@ -26,7 +25,10 @@ use Rattle.rules.specs.Shown.{Path, worked, reported, runOf}
 use Rattle.averages.specs.Front.{onFront, withFront}
 use Rattle.averages.specs.Moments.{plus, plusSquare, summedUp, meanOf, meanAt, deviationOf, deviationAt, cellsFrom, tableBy}
 use Rattle.averages.specs.Request.{seedOf}
+use Rattle.averages.specs.Members.{Members, unlessRefused, pathsFrom, lastOf}
+use Rattle.averages.specs.Tables.{Tables}
 use Rattle.averages.proofs.Fronts.{withFront-length}
+use Rattle.averages.proofs.Members.{withAll, with-more, with-refused, with-none, one-more, last-more}
 use Rattle.averages.proofs.Sums as Sums
 use Rattle.ssa.specs.declared.EnsembleAnswer.the-variants.{Averaged, Stopped}
 use Rattle.ssa.specs.declared.PathEnd.{PathEnd}
@@ -40,9 +42,9 @@ use Rattle.ssa.specs.Cells.{rowsFrom, tableOf, cleared}
 use Rattle.ssa.specs.Path as Path
 use Rattle.ssa.specs.Path.{endOf, callOf, played}
 use Rattle.ssa.specs.Ensemble as Ensemble
-use Rattle.ssa.specs.Ensemble.{Members, refusedAt, members, with, unlessRefused, oneIfSpent, spentOf, cellsOf, lastShown, tabulated}
+use Rattle.ssa.specs.Ensemble.{oneIfSpent, spentOf, cellsOf, lastShown, tabulated}
 use Rattle.ssa.specs.Summing as Summing
-use Rattle.ssa.specs.Summing.{drawn, pathsFrom, oneBySpent, TurnBy, sumAt, SummedBy}
+use Rattle.ssa.specs.Summing.{drawn, oneBySpent, TurnBy, sumAt, SummedBy}
 use Rattle.ssa.proofs.Cells.{rows-long}
 use Rattle.ssa.proofs.PathEnd.{the-type}
 use Rattle.ssa.proofs.Playing.{NotRefused}
@@ -195,33 +197,10 @@ spent-more : (ps : List Path) (a : Path) → spentOf ps + oneIfSpent (a .end) �
 spent-more [] a = omega arith
 spent-more (b ∷ ps) a = let e = spent-more ps a in omega arith
 
-last-more : (ps : List Path) (a : Path) → lastShown (ps ++ (a ∷ [])) ≡ a .shown
-last-more [] a = refl
-last-more (b ∷ []) a = refl
-last-more (b ∷ (d ∷ ps)) a = last-more (d ∷ ps) a
+last-shown : (ps : List Path) (a : Path) → lastShown (ps ++ (a ∷ [])) ≡ a .shown
+last-shown ps a = ap lastOf (map-append (λ (b : Path). b .shown) ps (a ∷ [])) ∙ last-more (map (λ (b : Path). b .shown) ps) (a .shown)
 
 -- ---- the paths as they are worked off
-
-abbrev withAll : List Path → Members → Members
-withAll [] rest = rest
-withAll (a ∷ ps) rest = with a (withAll ps rest)
-
-with-more : (ps : List Path) (a : Path) (rest : Members) → withAll (ps ++ (a ∷ [])) rest ≡ withAll ps (with a rest)
-with-more [] a rest = refl
-with-more (b ∷ ps) a rest = ap (with b) (with-more ps a rest)
-
-with-refused : (ps : List Path) (c k : ℕ) → withAll ps (refusedAt c k) ≡ refusedAt c k
-with-refused [] c k = refl
-with-refused (b ∷ ps) c k = ap (with b) (with-refused ps c k)
-
-with-none : (ps : List Path) → withAll ps (members []) ≡ members ps
-with-none [] = refl
-with-none (b ∷ ps) = ap (with b) (with-none ps)
-
-one-more : (w : ℕ → Answer Path) (r k : ℕ) → k < r → pathsFrom w k (r - k) ≡ unlessRefused k (w k) (pathsFrom w (k + 1) (r - (k + 1)))
-one-more w r k h =
-    let d : r - k ≡ suc (r - (k + 1)) = omega arith in
-    ap (pathsFrom w k) d ∙ ap (λ (j : ℕ). unlessRefused k (w k) (pathsFrom w j (r - (k + 1)))) (sym (add-one k))
 
 -- the first k of r paths are added
 pub record SumsAt (w : ℕ → Answer Path) (places n r k many : ℕ) (mean mean′ deviation deviation′ path path′ : List Float) : Type 0 where
@@ -290,7 +269,7 @@ module _ (w : ℕ → Answer Path) (places n r : ℕ) (mean deviation path : Lis
           sums = record {
             sum = more a count plus mean mean′ mean″ (s .sums .sum) (sum ∙ ap (λ (l : List Float). withFront plus cells l mean′) last);
             squares = more a count plusSquare deviation deviation′ deviation″ (s .sums .squares) (squares ∙ ap (λ (l : List Float). withFront plusSquare cells l deviation′) last);
-            last = last ∙ shown-alike places n (a .shown) count path path′ (s .sums .further) ∙ sym (ap (λ (m : List Marking). tableOf places m path) (last-more ps a));
+            last = last ∙ shown-alike places n (a .shown) count path path′ (s .sums .further) ∙ sym (ap (λ (m : List Marking). tableOf places m path) (last-shown ps a));
             further = ap (drop cells) last ∙ shown-further places n (a .shown) count path′ ∙ s .sums .further;
           };
           long-mean = ap length sum ∙ withFront-length plus cells path″ mean′ ∙ s .long-mean;
@@ -340,9 +319,9 @@ same-call : {o o′ : Ensemble.Outcome} {m m′ d d′ p p′ : List Float} → 
 same-call e f g h = λ i. record { outcome = e i; tables = record { mean = f i; deviation = g i; path = h i } }
 
 -- mean and deviation as they were lent, then cleared, then with the sums; path as it was lent, then after the paths
-module _ (whole : Members) (places n r : ℕ) (mean deviation path : List Float) (mean₁ deviation₁ mean₂ deviation₂ path₂ : List Float)
+module _ (whole : Members Path) (places n r : ℕ) (mean deviation path : List Float) (mean₁ deviation₁ mean₂ deviation₂ path₂ : List Float)
     (m₁ : mean₁ ≡ cleared (places * n) mean) (d₁ : deviation₁ ≡ cleared (places * n) deviation) where
-  abbrev lent : Ensemble.Tables
+  abbrev lent : Tables
   lent = record { mean = mean; deviation = deviation; path = path }
 
   abbrev cells : ℕ

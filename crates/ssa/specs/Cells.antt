@@ -1,30 +1,31 @@
 -- The lent table. Document 01: "Vec<Vec<f64>> becomes a lent table: place p, instant i at cell p × n + i, n instants. Further cells stay."
-use Prim.Native.Nat.{ℕ, zero, suc, _+_, _*_, _≤_, _<_}
+use Prim.Native.Nat.{ℕ, suc, _+_, _*_, _≤_, _<_}
 use mathlib.Core.Path.{_≡_}
 use mathlib.Core.Bool.{Bool, true, false}
 use mathlib.Core.Logic.{_⊎_}
-use mathlib.Core.List.{List, [], _∷_, _++_, map}
-use lib.ListN.{length, getD, drop, replicate}
+use mathlib.Core.List.{List, [], _∷_, _++_}
+use lib.ListN.{length, getD, drop}
 use lib.Ieee.{Float, nan, le}
-use Rattle.net.specs.Net.{Marking, pick, zero64, held}
+use Rattle.net.specs.Net.{Marking, pick, held}
 use Rattle.rules.specs.Propensity.{float}
+use Rattle.averages.specs.Tables as Tables
+pub use Rattle.averages.specs.Tables.{cleared}
 
--- the row of place p: its count at each instant, as a float
+-- the count of place p, as a float
+abbrev pub countAt : Marking → ℕ → Float
+countAt m p = float (held m p)
+
+-- the row of place p: its count at each instant
 abbrev pub row : List Marking → ℕ → List Float
-row shown p = map (λ (m : Marking). float (held m p)) shown
+row shown p = Tables.row countAt shown p
 
 -- k rows from place p on
 abbrev pub rowsFrom : List Marking → ℕ → ℕ → List Float
-rowsFrom shown p zero = []
-rowsFrom shown p (suc k) = row shown p ++ rowsFrom shown (suc p) k
+rowsFrom shown p k = Tables.rowsFrom countAt shown p k
 
 -- the table that shows these counts at its instants; "Further cells stay"
 abbrev pub tableOf : ℕ → List Marking → List Float → List Float
 tableOf places shown table = rowsFrom shown 0 places ++ drop (places * length shown) table
-
--- "the answer's cells are then +0"
-abbrev pub cleared : ℕ → List Float → List Float
-cleared cells table = replicate cells zero64 ++ drop cells table
 
 -- "Further cells stay": those from places × n on
 abbrev pub Stay : ℕ → ℕ → List Float → List Float → Type 0

@@ -1,8 +1,8 @@
 -- What the loop over an ensemble's paths leaves, in the words of Ensemble. Nothing here adds to the rules.
-use Prim.Native.Nat.{ℕ, zero, suc, _+_, _*_, _^_, _≤_, _<_}
+use Prim.Native.Nat.{ℕ, _+_, _*_, _^_, _≤_, _<_}
 use mathlib.Core.Path.{_≡_}
 use mathlib.Core.Bool.{Bool, true}
-use mathlib.Core.List.{List, [], map}
+use mathlib.Core.List.{List, map}
 use lib.ListN.{length, getD, drop}
 use lib.Ieee.{Float}
 use Rattle.net.specs.declared.Net.{Net as NetRecord}
@@ -13,6 +13,8 @@ use Rattle.rules.specs.Shown.{Path, instantsFit, worked}
 use Rattle.averages.specs.Front.{withFront}
 use Rattle.averages.specs.Moments.{plus, plusSquare, summedUp, tableBy}
 use Rattle.averages.specs.Request.{seedOf}
+use Rattle.averages.specs.Members.{Members, refusedAt, members}
+pub use Rattle.averages.specs.Members.{pathsFrom}
 use Rattle.ssa.specs.declared.PathEnd.{PathEnd}
 use Rattle.ssa.specs.declared.PathEnd.the-variants.{Quiet, Spent, Reached, Refused}
 use Rattle.ssa.specs.declared.members.Turn.{Turn}
@@ -22,7 +24,7 @@ use Rattle.ssa.specs.declared.members.Summed.the-variants as Summed
 use Rattle.ssa.specs.Engine.{Tidy, anyTimed}
 use Rattle.ssa.specs.Limits.{Limits}
 use Rattle.ssa.specs.Cells.{tableOf, cleared}
-use Rattle.ssa.specs.Ensemble.{Members, refusedAt, members, unlessRefused, oneIfSpent, spentOf, cellsOf, lastShown}
+use Rattle.ssa.specs.Ensemble.{oneIfSpent, spentOf, cellsOf, lastShown}
 
 -- what every path is lent: a tidy net with small initial counts, its limits, whether it has timers, and instants that fit
 pub record Lent (n : NetRecord) (limit : List ℕ) (timed : Bool) (xs : List Float) : Type 0 where
@@ -35,13 +37,6 @@ pub record Lent (n : NetRecord) (limit : List ℕ) (timed : Bool) (xs : List Flo
 -- path k, from the seed, the instants and the step limit that the program has at hand
 unfoldable pub drawn : Net → ℕ → List Float → ℕ → ℕ → Answer Path
 drawn n seed xs steps k = worked n (seeded (seedOf seed k)) xs steps
-
--- so many paths from number k on, each of them by w
-abbrev pub pathsFrom : (ℕ → Answer Path) → ℕ → ℕ → Members
-pathsFrom w k zero = members []
-pathsFrom w k (suc r) =
-    let later = pathsFrom w (suc k) r in
-    unlessRefused k (w k) later
 
 abbrev pub oneBySpent : PathEnd → ℕ
 oneBySpent Quiet = 0
@@ -69,7 +64,7 @@ pub record Sums (places n : ℕ) (ps : List Path) (mean mean′ deviation deviat
   pub further : drop (places * n) path′ ≡ drop (places * n) path
 
 -- all r paths: one was refused, and only the answer's cells differ; or these were added
-pub data SummedBy (whole : Members) (places n r : ℕ) (mean mean′ deviation deviation′ path path′ : List Float) : Summed → Type 0 where
+pub data SummedBy (whole : Members Path) (places n r : ℕ) (mean mean′ deviation deviation′ path path′ : List Float) : Summed → Type 0 where
   stops : (c k : ℕ) → whole ≡ refusedAt c k → drop (places * n) mean′ ≡ drop (places * n) mean → drop (places * n) deviation′ ≡ drop (places * n) deviation
       → path′ ≡ cleared (places * n) path → SummedBy whole places n r mean mean′ deviation deviation′ path path′ (Summed.Stopped c k)
   done : (ps : List Path) (s : ℕ) → whole ≡ members ps → length ps ≡ r → s ≡ spentOf ps → Sums places n ps mean mean′ deviation deviation′ path path′

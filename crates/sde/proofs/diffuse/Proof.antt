@@ -5,8 +5,9 @@ use mathlib.Core.Option.{none}
 use Rattle.net.specs.Readable.{fault, meaning}
 use Rattle.net.proofs.Sound.{sound}
 use Rattle.averages.specs.Request.{Request, requestFault}
-use Rattle.sde.specs.Call.{Tables}
-use Rattle.sde.proofs.Tested.{cells-fit, passing, room, by-tests}
+use Rattle.averages.specs.Tables.{Tables}
+use Rattle.averages.proofs.Passes.{passing, room}
+use Rattle.sde.proofs.Tested.{cells-fit, by-tests}
 use borrow.Author.Needs.{needs}
 use Rattle.sde.proofs.diffuse.Statement.{statement}
 use Rattle.sde.proofs.diffuse.Tie as tie
@@ -56,7 +57,7 @@ enum-told-2 c = search needs
 mul-cells : tie.Need-mul-cells
 mul-cells c =
     let s = c .before .before .before .before .before .before .before .before .before in
-    record { fits = cells-fit _ _ (sound (s .args .net) (sound-net (c .before .before .before)) .places) (passing (wanted s) (passed c) .few-samples) }
+    record { fits = cells-fit _ _ (sound (s .args .net) (sound-net (c .before .before .before)) .places) (passing (wanted s) (passed c) .few) }
 
 tables-fault-requires : tie.Need-tables-fault-requires
 tables-fault-requires c κs = search needs
@@ -76,7 +77,7 @@ accepted-requires : tie.Need-accepted-requires
 accepted-requires c κs =
     let r = room _ _ _ _ (sym (c .before .before .before .before .before .tables-fault .ensures) ∙ ap meaning (c .before .before .before .enum-told3 .given .1)) in
     let p = passing (wanted (c .before .before .before .before .before .before .before .before .before .before .before .before .before .before .before)) (passed (c .before .before .before .before .before .before)) in
-    (sound-net (c .before .before .before .before .before .before .before .before .before), p .some-samples, p .few-samples, p .some-paths, p .few-paths, r .in-mean, r .in-deviation, r .in-path)
+    (sound-net (c .before .before .before .before .before .before .before .before .before), p .two, p .few, p .one, p .repeated, r .in-mean, r .in-deviation, r .in-path)
 
 same-length : tie.Need-same-length
 same-length c = search needs

@@ -6,9 +6,10 @@ use mathlib.Core.Option.{none}
 use Rattle.net.specs.Readable.{fault, meaning}
 use Rattle.net.proofs.Sound.{sound}
 use Rattle.averages.specs.Request.{Request, requestFault}
-use Rattle.ssa.specs.Ensemble.{Tables}
+use Rattle.averages.specs.Tables.{Tables}
+use Rattle.averages.proofs.Passes.{passing, room}
 use Rattle.ssa.proofs.Accepted.{cells-fit}
-use Rattle.ssa.proofs.Requested.{passing, room, by-tests}
+use Rattle.ssa.proofs.Requested.{by-tests}
 use Rattle.ssa.proofs.ensemble.Statement.{statement}
 use Rattle.ssa.proofs.ensemble.Tie as tie
 

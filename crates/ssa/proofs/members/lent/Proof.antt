@@ -10,8 +10,9 @@ use lib.Ieee.{Float}
 use Rattle.net.specs.Net.{zero64}
 use Rattle.net.specs.Readable.{readable}
 use Rattle.averages.specs.Request.{Request}
+use Rattle.averages.proofs.Passes.{passing}
 use Rattle.ssa.specs.Engine.{netOf}
-use Rattle.ssa.proofs.Requested.{passing, grid-room, grid-is, grid-many, grid-passes, asked}
+use Rattle.ssa.proofs.Requested.{grid-room, grid-is, grid-many, grid-passes, asked}
 use Rattle.ssa.proofs.members.lent.Statement.{statement}
 use Rattle.ssa.proofs.members.lent.Tie as tie
 
