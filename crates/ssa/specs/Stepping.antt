@@ -22,8 +22,9 @@ use Rattle.ssa.specs.declared.step.Ending.the-variants.{GoesOn, Quiet, R
 use Rattle.ssa.specs.declared.step.Advanced.{Advanced}
 use Rattle.ssa.specs.declared.step.Due.{Due}
 use Rattle.ssa.specs.declared.step.Due.the-variants.{Nothing, Race, Completion, Full}
-use Rattle.ssa.specs.Engine.{Tidy, Counts, marking, timers}
-use Rattle.ssa.specs.Limits.{Limits}
+use Rattle.engine.specs.Engine.{Tidy, Counts, marking}
+use Rattle.ssa.specs.TimerArrays.{timers}
+use Rattle.engine.specs.Limits.{Limits}
 use Rattle.ssa.specs.Cells.{reachedBy, Filled}
 
 -- the arrays of a run are as long as they should be, and hold what they should

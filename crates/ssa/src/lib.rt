@@ -1,12 +1,9 @@
 // A path of a stochastic Petri net, drawn from a generator's state.
 mod accept;
-mod event;
 mod firing;
-mod marking;
 mod members;
 mod record;
 mod run;
-mod slots;
 mod starts;
 mod step;
 mod timers;

@@ -4,8 +4,8 @@ ghost use Prim.Native.Nat.{ℕ, _+_, _*_, _^_, _<_, _≤_};
 ghost use lib.ListN.{length};
 ghost use lib.ListN as ListN;
 ghost use Rattle.rules.specs.Shown as Shown;
+ghost use Rattle.engine.specs.Engine as Engine;
 ghost use Rattle.ssa.specs.Cells as Cells;
-ghost use Rattle.ssa.specs.Engine as Engine;
 
 // The number of the first instant from next on that the clock has not reached.
 pub fn reached(instants: &[f64], clock: f64, next: usize) -> usize

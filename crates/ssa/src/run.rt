@@ -6,13 +6,14 @@ ghost use lib.ListN.{length};
 ghost use lib.ListN as ListN;
 ghost use Rattle.net.specs.Net as Net;
 ghost use Rattle.net.specs.Readable as Record;
+ghost use Rattle.net.specs.Record.{lent};
 ghost use Rattle.rng.specs.State as Random;
 ghost use Rattle.rules.specs.Moves as Moves;
 ghost use Rattle.rules.specs.Shown as Shown;
 ghost use Rattle.rules.proofs.Play as Play;
+ghost use Rattle.engine.specs.Engine as Engine;
+ghost use Rattle.engine.specs.Limits as Limits;
 ghost use Rattle.ssa.specs.Cells as Cells;
-ghost use Rattle.ssa.specs.Engine as Engine;
-ghost use Rattle.ssa.specs.Limits as Limits;
 ghost use Rattle.ssa.specs.Stepping as Stepping;
 ghost use Rattle.ssa.specs.Playing as Playing;
 ghost use Rattle.ssa.specs.Path as Path;
@@ -57,12 +58,12 @@ fn take_steps<'a>(
     steps: u64,
     s: Now,
 ) -> Walked
-    requires { ⌜ (Stepping.Ready (Engine.netOf places transitions (now initial) (now capacity) (now rate) (now delay) (now arcs) (now kind) (now place) (now weight)) (now limit) (now counts) (now ats) (now whos) (s .timers)) × (timed ≡ Engine.anyTimed transitions (now delay)) × (length (now props) ≡ 64)
+    requires { ⌜ (Stepping.Ready (lent places transitions (now initial) (now capacity) (now rate) (now delay) (now arcs) (now kind) (now place) (now weight)) (now limit) (now counts) (now ats) (now whos) (s .timers)) × (timed ≡ Engine.anyTimed transitions (now delay)) × (length (now props) ≡ 64)
         × (s .next ≤ length (now instants)) × (length (now instants) ≤ 1024) × (places * length (now instants) ≤ length (now table)) ⌝ }
     ensures is { λ r. ⌜ Playing.WalkBy
-        (Play.play (Record.readable (Engine.netOf places transitions (now (initial .entry)) (now (capacity .entry)) (now (rate .entry)) (now (delay .entry))
+        (Play.play (Record.readable (lent places transitions (now (initial .entry)) (now (capacity .entry)) (now (rate .entry)) (now (delay .entry))
         (now (arcs .entry)) (now (kind .entry)) (now (place .entry)) (now (weight .entry)))) last steps (ListN.drop (s .next) (now (instants .entry)))
-        (Stepping.stateOf (Engine.netOf places transitions (now (initial .entry)) (now (capacity .entry)) (now (rate .entry)) (now (delay .entry))
+        (Stepping.stateOf (lent places transitions (now (initial .entry)) (now (capacity .entry)) (now (rate .entry)) (now (delay .entry))
         (now (arcs .entry)) (now (kind .entry)) (now (place .entry)) (now (weight .entry))) (now (counts .entry)) (now (ats .entry)) (now (whos .entry)) (s .timers) (s .clock) (s .rng .s)))
         (now (instants .entry))
         (Engine.marking places (now (counts .exit)))
@@ -189,12 +190,12 @@ pub fn play<'a>(
     rng: Xoshiro256,
     table: &mut [f64],
 ) -> PathAnswer
-    requires { ⌜ (Engine.Tidy (Engine.netOf places transitions (now initial) (now capacity) (now rate) (now delay) (now arcs) (now kind) (now place) (now weight))) × (Limits.Limits (Engine.netOf places transitions (now initial) (now capacity) (now rate) (now delay) (now arcs) (now kind) (now place) (now weight)) (now limit)) × (Engine.Counts (now counts))
-        × (Engine.marking places (now counts) ≡ Moves.initialCounts (Record.readable (Engine.netOf places transitions (now initial) (now capacity) (now rate) (now delay) (now arcs) (now kind) (now place) (now weight))))
+    requires { ⌜ (Engine.Tidy (lent places transitions (now initial) (now capacity) (now rate) (now delay) (now arcs) (now kind) (now place) (now weight))) × (Limits.Limits (lent places transitions (now initial) (now capacity) (now rate) (now delay) (now arcs) (now kind) (now place) (now weight)) (now limit)) × (Engine.Counts (now counts))
+        × (Engine.marking places (now counts) ≡ Moves.initialCounts (Record.readable (lent places transitions (now initial) (now capacity) (now rate) (now delay) (now arcs) (now kind) (now place) (now weight))))
         × (timed ≡ Engine.anyTimed transitions (now delay)) × (0 < length (now instants)) × (length (now instants) ≤ 1024)
         × (Shown.rising Net.zero64 (now instants) ≡ true) × (places * length (now instants) ≤ length (now table)) ⌝ }
     ensures { λ r. ⌜ Path.callOf r (now (table .exit)) ≡ Path.played places (length (now (instants .entry))) (Random.words (rng .s)) (now (table .entry))
-        (Shown.worked (Record.readable (Engine.netOf places transitions (now (initial .entry)) (now (capacity .entry)) (now (rate .entry)) (now (delay .entry))
+        (Shown.worked (Record.readable (lent places transitions (now (initial .entry)) (now (capacity .entry)) (now (rate .entry)) (now (delay .entry))
         (now (arcs .entry)) (now (kind .entry)) (now (place .entry)) (now (weight .entry)))) (Random.words (rng .s)) (now (instants .entry)) steps) ⌝ }
 {
     let mut ats = [0.0; 256];

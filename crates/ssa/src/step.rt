@@ -3,16 +3,16 @@ ghost use mathlib.Core.Path.{_≡_};
 ghost use Prim.Native.Nat.{_*_, _≤_};
 ghost use lib.ListN.{length};
 ghost use Rattle.net.specs.Readable as Record;
+ghost use Rattle.net.specs.Record.{lent};
 ghost use Rattle.rules.specs.Step as Rule;
+ghost use Rattle.engine.specs.Engine as Engine;
 ghost use Rattle.ssa.specs.Cells as Cells;
-ghost use Rattle.ssa.specs.Engine as Engine;
 ghost use Rattle.ssa.specs.Stepping as Stepping;
-use crate::event;
-use crate::event::Next;
 use crate::firing;
-use crate::marking;
 use crate::record;
 use crate::starts;
+use engine::marking;
+use jump::Next;
 use rng::Xoshiro256;
 
 // What a step begins with and leaves, beside the counts and the timers themselves: how many timers run, how many instants have been shown,
@@ -77,18 +77,18 @@ fn advance<'a>(
     t: f64,
     rng: Xoshiro256,
 ) -> Advanced
-    requires { ⌜ (Stepping.Ready (Engine.netOf places transitions (now initial) (now capacity) (now rate) (now delay) (now arcs) (now kind) (now place) (now weight)) (now limit) (now counts) (now ats) (now whos) running) × (timed ≡ Engine.anyTimed transitions (now delay)) × (length (now props) ≡ 64) ⌝ }
-    ensures is { λ r. ⌜ Stepping.AdvancedBy (Engine.netOf places transitions (now (initial .entry)) (now (capacity .entry)) (now (rate .entry)) (now (delay .entry))
+    requires { ⌜ (Stepping.Ready (lent places transitions (now initial) (now capacity) (now rate) (now delay) (now arcs) (now kind) (now place) (now weight)) (now limit) (now counts) (now ats) (now whos) running) × (timed ≡ Engine.anyTimed transitions (now delay)) × (length (now props) ≡ 64) ⌝ }
+    ensures is { λ r. ⌜ Stepping.AdvancedBy (lent places transitions (now (initial .entry)) (now (capacity .entry)) (now (rate .entry)) (now (delay .entry))
         (now (arcs .entry)) (now (kind .entry)) (now (place .entry)) (now (weight .entry)))
-        (Rule.step (Record.readable (Engine.netOf places transitions (now (initial .entry)) (now (capacity .entry)) (now (rate .entry)) (now (delay .entry))
-        (now (arcs .entry)) (now (kind .entry)) (now (place .entry)) (now (weight .entry)))) (Stepping.stateOf (Engine.netOf places transitions (now (initial .entry)) (now (capacity .entry)) (now (rate .entry)) (now (delay .entry))
+        (Rule.step (Record.readable (lent places transitions (now (initial .entry)) (now (capacity .entry)) (now (rate .entry)) (now (delay .entry))
+        (now (arcs .entry)) (now (kind .entry)) (now (place .entry)) (now (weight .entry)))) (Stepping.stateOf (lent places transitions (now (initial .entry)) (now (capacity .entry)) (now (rate .entry)) (now (delay .entry))
         (now (arcs .entry)) (now (kind .entry)) (now (place .entry)) (now (weight .entry))) (now (counts .entry)) (now (ats .entry)) (now (whos .entry)) running t (rng .s)))
-        (Stepping.stateOf (Engine.netOf places transitions (now (initial .entry)) (now (capacity .entry)) (now (rate .entry)) (now (delay .entry))
+        (Stepping.stateOf (lent places transitions (now (initial .entry)) (now (capacity .entry)) (now (rate .entry)) (now (delay .entry))
         (now (arcs .entry)) (now (kind .entry)) (now (place .entry)) (now (weight .entry))) (now (counts .entry)) (now (ats .entry)) (now (whos .entry)) running t (rng .s))
-        (Stepping.stateOf (Engine.netOf places transitions (now (initial .entry)) (now (capacity .entry)) (now (rate .entry)) (now (delay .entry))
+        (Stepping.stateOf (lent places transitions (now (initial .entry)) (now (capacity .entry)) (now (rate .entry)) (now (delay .entry))
         (now (arcs .entry)) (now (kind .entry)) (now (place .entry)) (now (weight .entry))) (now (counts .exit)) (now (ats .exit)) (now (whos .exit)) (r .timers) (r .clock) (r .rng .s))
         (now (props .exit)) (r .a0) (r .due) ⌝ }
-    ensures ready { λ r. ⌜ (Stepping.Ready (Engine.netOf places transitions (now (initial .entry)) (now (capacity .entry)) (now (rate .entry)) (now (delay .entry))
+    ensures ready { λ r. ⌜ (Stepping.Ready (lent places transitions (now (initial .entry)) (now (capacity .entry)) (now (rate .entry)) (now (delay .entry))
         (now (arcs .entry)) (now (kind .entry)) (now (place .entry)) (now (weight .entry))) (now (limit .entry)) (now (counts .exit)) (now (ats .exit)) (now (whos .exit)) (r .timers)) × (length (now (props .exit)) ≡ 64) ⌝ }
 {
     let s = starts::start_all(
@@ -135,10 +135,10 @@ fn advance<'a>(
         counts,
         props,
     );
-    let w = event::waiting(a0, rng);
+    let w = jump::waiting(a0, rng);
     let dt = w.dt;
     let g = w.rng;
-    let what = event::next_event(a0, t, dt, ats, whos, n);
+    let what = jump::next_event(a0, t, dt, n, ats[0]);
     match what {
         Next::Nothing => Advanced {
             due: Due::Nothing,
@@ -238,21 +238,21 @@ pub fn one_step<'a>(
     table: &mut [f64],
     s: Now,
 ) -> Stepped
-    requires { ⌜ (Stepping.Ready (Engine.netOf places transitions (now initial) (now capacity) (now rate) (now delay) (now arcs) (now kind) (now place) (now weight)) (now limit) (now counts) (now ats) (now whos) (s .timers)) × (timed ≡ Engine.anyTimed transitions (now delay)) × (length (now props) ≡ 64)
+    requires { ⌜ (Stepping.Ready (lent places transitions (now initial) (now capacity) (now rate) (now delay) (now arcs) (now kind) (now place) (now weight)) (now limit) (now counts) (now ats) (now whos) (s .timers)) × (timed ≡ Engine.anyTimed transitions (now delay)) × (length (now props) ≡ 64)
         × (s .next ≤ length (now instants)) × (length (now instants) ≤ 1024) × (places * length (now instants) ≤ length (now table)) ⌝ }
     ensures is { λ r. ⌜ Stepping.StepBy
-        (Rule.step (Record.readable (Engine.netOf places transitions (now (initial .entry)) (now (capacity .entry)) (now (rate .entry)) (now (delay .entry))
-        (now (arcs .entry)) (now (kind .entry)) (now (place .entry)) (now (weight .entry)))) (Stepping.stateOf (Engine.netOf places transitions (now (initial .entry)) (now (capacity .entry)) (now (rate .entry)) (now (delay .entry))
+        (Rule.step (Record.readable (lent places transitions (now (initial .entry)) (now (capacity .entry)) (now (rate .entry)) (now (delay .entry))
+        (now (arcs .entry)) (now (kind .entry)) (now (place .entry)) (now (weight .entry)))) (Stepping.stateOf (lent places transitions (now (initial .entry)) (now (capacity .entry)) (now (rate .entry)) (now (delay .entry))
         (now (arcs .entry)) (now (kind .entry)) (now (place .entry)) (now (weight .entry))) (now (counts .entry)) (now (ats .entry)) (now (whos .entry)) (s .timers) (s .clock) (s .rng .s)))
-        (Stepping.stateOf (Engine.netOf places transitions (now (initial .entry)) (now (capacity .entry)) (now (rate .entry)) (now (delay .entry))
+        (Stepping.stateOf (lent places transitions (now (initial .entry)) (now (capacity .entry)) (now (rate .entry)) (now (delay .entry))
         (now (arcs .entry)) (now (kind .entry)) (now (place .entry)) (now (weight .entry))) (now (counts .entry)) (now (ats .entry)) (now (whos .entry)) (s .timers) (s .clock) (s .rng .s))
         last
         (λ u. Stepping.ShownBy places (now (instants .entry)) (u .clock) (u .counts) (s .next) (r .now .next) (s .peak) (r .now .peak) (now (table .entry)) (now (table .exit)))
         (Stepping.NotShown (s .next) (r .now .next) (s .peak) (r .now .peak) (now (table .entry)) (now (table .exit)))
-        (Stepping.stateOf (Engine.netOf places transitions (now (initial .entry)) (now (capacity .entry)) (now (rate .entry)) (now (delay .entry))
+        (Stepping.stateOf (lent places transitions (now (initial .entry)) (now (capacity .entry)) (now (rate .entry)) (now (delay .entry))
         (now (arcs .entry)) (now (kind .entry)) (now (place .entry)) (now (weight .entry))) (now (counts .exit)) (now (ats .exit)) (now (whos .exit)) (r .now .timers) (r .now .clock) (r .now .rng .s))
         (r .ending) ⌝ }
-    ensures ready { λ r. ⌜ (Stepping.Ready (Engine.netOf places transitions (now (initial .entry)) (now (capacity .entry)) (now (rate .entry)) (now (delay .entry))
+    ensures ready { λ r. ⌜ (Stepping.Ready (lent places transitions (now (initial .entry)) (now (capacity .entry)) (now (rate .entry)) (now (delay .entry))
         (now (arcs .entry)) (now (kind .entry)) (now (place .entry)) (now (weight .entry))) (now (limit .entry)) (now (counts .exit)) (now (ats .exit)) (now (whos .exit)) (r .now .timers)) × (length (now (props .exit)) ≡ 64) × (length (now (table .exit)) ≡ length (now (table .entry)))
         × Cells.Stay places (length (now (instants .entry))) (now (table .entry)) (now (table .exit)) ⌝ }
 {
