@@ -7,6 +7,7 @@ ghost use lib.ListN.{length, getD};
 ghost use Rattle.net.specs.Net as Reader;
 ghost use Rattle.net.specs.Readable as Record;
 ghost use Rattle.net.specs.Record.{lent};
+ghost use Rattle.net.specs.declared.Net.{Net as NetRecord};
 ghost use Rattle.rules.specs.Enabled as Enabled;
 ghost use Rattle.rules.specs.Propensity as Propensity;
 ghost use Rattle.rules.specs.Moves as Moves;
@@ -42,14 +43,10 @@ pub fn enabled<'a>(
     counts: &[u64; 32],
     j: usize,
 ) -> bool
-    requires { ⌜ (j < transitions) × Engine.Tidy (lent places transitions (now initial) (now capacity) (now rate) (now delay) (now arcs) (now kind) (now place) (now weight))
-        × Limits.Limits (lent places transitions (now initial) (now capacity) (now rate) (now delay) (now arcs) (now kind) (now place) (now weight)) (now limit)
-        × Engine.Counts (now counts) ⌝ }
-    ensures { λ r. ⌜ r ≡ Enabled.enabled (Record.readable (lent places transitions (now (initial .entry)) (now (capacity .entry)) (now (rate .entry)) (now (delay .entry))
-        (now (arcs .entry)) (now (kind .entry)) (now (place .entry)) (now (weight .entry))))
-        (Engine.marking places (now (counts .entry)))
-        (Record.transition (lent places transitions (now (initial .entry)) (now (capacity .entry)) (now (rate .entry)) (now (delay .entry))
-        (now (arcs .entry)) (now (kind .entry)) (now (place .entry)) (now (weight .entry))) j) ⌝ }
+    ghost { NetRecord }
+    requires { λ net. ⌜ lent places transitions (now initial) (now capacity) (now rate) (now delay) (now arcs) (now kind) (now place) (now weight) ≡ net ⌝ }
+    requires { λ net. ⌜ (j < transitions) × Engine.Tidy net × Limits.Limits net (now limit) × Engine.Counts (now counts) ⌝ }
+    ensures { λ net r. ⌜ r ≡ Enabled.enabled (Record.readable net) (Engine.marking places (now (counts .entry))) (Record.transition net j) ⌝ }
 {
     let from = 16 * j;
     let end = from + arcs[j];
@@ -120,14 +117,10 @@ fn propensity<'a>(
     counts: &[u64; 32],
     j: usize,
 ) -> f64
-    requires { ⌜ (j < transitions) × Engine.Tidy (lent places transitions (now initial) (now capacity) (now rate) (now delay) (now arcs) (now kind) (now place) (now weight))
-        × Limits.Limits (lent places transitions (now initial) (now capacity) (now rate) (now delay) (now arcs) (now kind) (now place) (now weight)) (now limit)
-        × Engine.Counts (now counts) ⌝ }
-    ensures { λ r. ⌜ r ≡ Propensity.propensity (Record.readable (lent places transitions (now (initial .entry)) (now (capacity .entry)) (now (rate .entry)) (now (delay .entry))
-        (now (arcs .entry)) (now (kind .entry)) (now (place .entry)) (now (weight .entry))))
-        (Engine.marking places (now (counts .entry)))
-        (Record.transition (lent places transitions (now (initial .entry)) (now (capacity .entry)) (now (rate .entry)) (now (delay .entry))
-        (now (arcs .entry)) (now (kind .entry)) (now (place .entry)) (now (weight .entry))) j) ⌝ }
+    ghost { NetRecord }
+    requires { λ net. ⌜ lent places transitions (now initial) (now capacity) (now rate) (now delay) (now arcs) (now kind) (now place) (now weight) ≡ net ⌝ }
+    requires { λ net. ⌜ (j < transitions) × Engine.Tidy net × Limits.Limits net (now limit) × Engine.Counts (now counts) ⌝ }
+    ensures { λ net r. ⌜ r ≡ Propensity.propensity (Record.readable net) (Engine.marking places (now (counts .entry))) (Record.transition net j) ⌝ }
 {
     let from = 16 * j;
     let end = from + arcs[j];
@@ -165,11 +158,10 @@ pub fn propensities<'a>(
     counts: &[u64; 32],
     props: &mut [f64; 64],
 ) -> f64
-    requires { ⌜ Engine.Tidy (lent places transitions (now initial) (now capacity) (now rate) (now delay) (now arcs) (now kind) (now place) (now weight))
-        × Limits.Limits (lent places transitions (now initial) (now capacity) (now rate) (now delay) (now arcs) (now kind) (now place) (now weight)) (now limit)
-        × Engine.Counts (now counts) × (length (now props) ≡ 64) ⌝ }
-    ensures { λ r. ⌜ Engine.Totalled (lent places transitions (now (initial .entry)) (now (capacity .entry)) (now (rate .entry)) (now (delay .entry))
-        (now (arcs .entry)) (now (kind .entry)) (now (place .entry)) (now (weight .entry))) (now (counts .entry)) (now (props .exit)) r ⌝ }
+    ghost { NetRecord }
+    requires { λ net. ⌜ lent places transitions (now initial) (now capacity) (now rate) (now delay) (now arcs) (now kind) (now place) (now weight) ≡ net ⌝ }
+    requires { λ net. ⌜ Engine.Tidy net × Limits.Limits net (now limit) × Engine.Counts (now counts) × (length (now props) ≡ 64) ⌝ }
+    ensures { λ net r. ⌜ Engine.Totalled net (now (counts .entry)) (now (props .exit)) r ⌝ }
 {
     let mut sum = 0.0;
     let mut j: usize = 0;

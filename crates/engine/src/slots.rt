@@ -8,6 +8,7 @@ ghost use mathlib.Core.Bool.{true};
 ghost use Rattle.net.specs.Net as Reader;
 ghost use Rattle.net.specs.Readable as Record;
 ghost use Rattle.net.specs.Record.{lent};
+ghost use Rattle.net.specs.declared.Net.{Net as NetRecord};
 ghost use Rattle.engine.specs.Engine as Engine;
 ghost use Rattle.engine.specs.Limits as Limits;
 ghost use Rattle.engine.specs.Arcs as Arcs;
@@ -258,9 +259,10 @@ fn slot_limit<'a>(
     weight: &'a [u64; 1024],
     a: usize,
 ) -> u64
-    requires { ⌜ (a < 1024) × Engine.Tidy (lent places transitions (now initial) (now capacity) (now rate) (now delay) (now arcs) (now kind) (now place) (now weight)) ⌝ }
-    ensures { λ r. ⌜ r ≡ Limits.limitAt (lent places transitions (now (initial .entry)) (now (capacity .entry)) (now (rate .entry)) (now (delay .entry))
-        (now (arcs .entry)) (now (kind .entry)) (now (place .entry)) (now (weight .entry))) a ⌝ }
+    ghost { NetRecord }
+    requires { λ net. ⌜ lent places transitions (now initial) (now capacity) (now rate) (now delay) (now arcs) (now kind) (now place) (now weight) ≡ net ⌝ }
+    requires { λ net. ⌜ (a < 1024) × Engine.Tidy net ⌝ }
+    ensures { λ net r. ⌜ r ≡ Limits.limitAt net a ⌝ }
 {
     let k = kind[a];
     if k != net::PUT {
@@ -289,10 +291,10 @@ fn fill_slots<'a>(
     weight: &'a [u64; 1024],
     limit: &mut [u64; 1024],
 )
-    requires { ⌜ Engine.Tidy (lent places transitions (now initial) (now capacity) (now rate) (now delay) (now arcs) (now kind) (now place) (now weight)) × (length (now limit) ≡ 1024) ⌝ }
-    ensures { λ _. ⌜ (length (now (limit .exit)) ≡ 1024) × ((a : ℕ) → a < 16 * transitions → getD (now (limit .exit)) a 0 ≡ Limits.limitAt
-        (lent places transitions (now (initial .entry)) (now (capacity .entry)) (now (rate .entry)) (now (delay .entry))
-        (now (arcs .entry)) (now (kind .entry)) (now (place .entry)) (now (weight .entry))) a) ⌝ }
+    ghost { NetRecord }
+    requires { λ net. ⌜ lent places transitions (now initial) (now capacity) (now rate) (now delay) (now arcs) (now kind) (now place) (now weight) ≡ net ⌝ }
+    requires { λ net. ⌜ Engine.Tidy net × (length (now limit) ≡ 1024) ⌝ }
+    ensures { λ net _. ⌜ (length (now (limit .exit)) ≡ 1024) × ((a : ℕ) → a < 16 * transitions → getD (now (limit .exit)) a 0 ≡ Limits.limitAt net a) ⌝ }
 {
     let end = 16 * transitions;
     let mut a: usize = 0;
@@ -362,9 +364,10 @@ pub fn fill_limits<'a>(
     weight: &'a [u64; 1024],
     limit: &mut [u64; 1024],
 )
-    requires { ⌜ Engine.Tidy (lent places transitions (now initial) (now capacity) (now rate) (now delay) (now arcs) (now kind) (now place) (now weight)) × (length (now limit) ≡ 1024) ⌝ }
-    ensures { λ _. ⌜ Limits.Limits (lent places transitions (now (initial .entry)) (now (capacity .entry)) (now (rate .entry)) (now (delay .entry))
-        (now (arcs .entry)) (now (kind .entry)) (now (place .entry)) (now (weight .entry))) (now (limit .exit)) ⌝ }
+    ghost { NetRecord }
+    requires { λ net. ⌜ lent places transitions (now initial) (now capacity) (now rate) (now delay) (now arcs) (now kind) (now place) (now weight) ≡ net ⌝ }
+    requires { λ net. ⌜ Engine.Tidy net × (length (now limit) ≡ 1024) ⌝ }
+    ensures { λ net _. ⌜ Limits.Limits net (now (limit .exit)) ⌝ }
 {
     fill_slots(
         places,

@@ -1,7 +1,6 @@
 -- The lent table. Document 01: "Vec<Vec<f64>> becomes a lent table: place p, instant i at cell p × n + i, n instants. Further cells stay."
 use Prim.Native.Nat.{ℕ, zero, suc, _+_, _*_, _≤_, _<_}
 use mathlib.Core.Path.{_≡_}
-use mathlib.Core.Bool.{Bool, true, false}
 use mathlib.Core.Logic.{_⊎_}
 use mathlib.Core.List.{List, [], _∷_, _++_, map}
 use lib.ListN.{length, getD, drop, replicate}

@@ -1,8 +1,8 @@
 -- What a step of the program is, in the rules' words. The rules of a step are in the crate rules (Step, Run); nothing here adds to them.
-use Prim.Native.Nat.{ℕ, zero, suc, _+_, _≤_, _<_, max}
+use Prim.Native.Nat.{ℕ, _+_, _≤_, _<_, max}
 use mathlib.Core.Path.{_≡_}
 use mathlib.Core.Bool.{Bool, true, false}
-use mathlib.Core.List.{List, [], _∷_}
+use mathlib.Core.List.{List}
 use lib.Dec.{eqb}
 use lib.ListN.{length, drop, take}
 use lib.Ieee.{Float, lt}
@@ -10,13 +10,11 @@ use Rattle.refusals.specs as Refusal
 use Rattle.net.specs.declared.Net.{Net as NetRecord}
 use Rattle.net.specs.Net.{Marking, pick}
 use Rattle.net.specs.Readable.{readable}
-use Rattle.rng.specs.State.{State as Generator, words}
-use Rattle.rules.specs.Propensity.{propensities, total}
+use Rattle.rng.specs.State.{words}
 use Rattle.rules.specs.Timers.{Timer}
 use Rattle.rules.specs.Step as Rule
 use Rattle.rules.specs.Step.{State, state, Answer, refused, given, Event, Step, still, sets}
 use Rattle.rules.specs.Shown.{sumOf}
-use Rattle.ssa.specs.declared.step.Now.{Now}
 use Rattle.ssa.specs.declared.step.Ending.{Ending}
 use Rattle.ssa.specs.declared.step.Ending.the-variants.{GoesOn, Quiet, Reached, Refused}
 use Rattle.ssa.specs.declared.step.Advanced.{Advanced}

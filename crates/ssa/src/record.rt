@@ -1,6 +1,6 @@
 // What a run shows: the counts at the instants, cell by cell.
 ghost use mathlib.Core.Path.{_≡_};
-ghost use Prim.Native.Nat.{ℕ, _+_, _*_, _^_, _<_, _≤_};
+ghost use Prim.Native.Nat.{_+_, _*_, _^_, _<_, _≤_};
 ghost use lib.ListN.{length};
 ghost use lib.ListN as ListN;
 ghost use Rattle.rules.specs.Shown as Shown;

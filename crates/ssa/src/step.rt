@@ -4,6 +4,7 @@ ghost use Prim.Native.Nat.{_*_, _≤_};
 ghost use lib.ListN.{length};
 ghost use Rattle.net.specs.Readable as Record;
 ghost use Rattle.net.specs.Record.{lent};
+ghost use Rattle.net.specs.declared.Net.{Net as NetRecord};
 ghost use Rattle.rules.specs.Step as Rule;
 ghost use Rattle.engine.specs.Engine as Engine;
 ghost use Rattle.ssa.specs.Cells as Cells;
@@ -77,19 +78,16 @@ fn advance<'a>(
     t: f64,
     rng: Xoshiro256,
 ) -> Advanced
-    requires { ⌜ (Stepping.Ready (lent places transitions (now initial) (now capacity) (now rate) (now delay) (now arcs) (now kind) (now place) (now weight)) (now limit) (now counts) (now ats) (now whos) running) × (timed ≡ Engine.anyTimed transitions (now delay)) × (length (now props) ≡ 64) ⌝ }
-    ensures is { λ r. ⌜ Stepping.AdvancedBy (lent places transitions (now (initial .entry)) (now (capacity .entry)) (now (rate .entry)) (now (delay .entry))
-        (now (arcs .entry)) (now (kind .entry)) (now (place .entry)) (now (weight .entry)))
-        (Rule.step (Record.readable (lent places transitions (now (initial .entry)) (now (capacity .entry)) (now (rate .entry)) (now (delay .entry))
-        (now (arcs .entry)) (now (kind .entry)) (now (place .entry)) (now (weight .entry)))) (Stepping.stateOf (lent places transitions (now (initial .entry)) (now (capacity .entry)) (now (rate .entry)) (now (delay .entry))
-        (now (arcs .entry)) (now (kind .entry)) (now (place .entry)) (now (weight .entry))) (now (counts .entry)) (now (ats .entry)) (now (whos .entry)) running t (rng .s)))
-        (Stepping.stateOf (lent places transitions (now (initial .entry)) (now (capacity .entry)) (now (rate .entry)) (now (delay .entry))
-        (now (arcs .entry)) (now (kind .entry)) (now (place .entry)) (now (weight .entry))) (now (counts .entry)) (now (ats .entry)) (now (whos .entry)) running t (rng .s))
-        (Stepping.stateOf (lent places transitions (now (initial .entry)) (now (capacity .entry)) (now (rate .entry)) (now (delay .entry))
-        (now (arcs .entry)) (now (kind .entry)) (now (place .entry)) (now (weight .entry))) (now (counts .exit)) (now (ats .exit)) (now (whos .exit)) (r .timers) (r .clock) (r .rng .s))
+    ghost { NetRecord }
+    requires { λ net. ⌜ lent places transitions (now initial) (now capacity) (now rate) (now delay) (now arcs) (now kind) (now place) (now weight) ≡ net ⌝ }
+    requires { λ net. ⌜ Stepping.Ready net (now limit) (now counts) (now ats) (now whos) running × (timed ≡ Engine.anyTimed transitions (now delay))
+        × (length (now props) ≡ 64) ⌝ }
+    ensures is { λ net r. let before = Stepping.stateOf net (now (counts .entry)) (now (ats .entry)) (now (whos .entry)) running t (rng .s) in
+        ⌜ Stepping.AdvancedBy net (Rule.step (Record.readable net) before) before
+        (Stepping.stateOf net (now (counts .exit)) (now (ats .exit)) (now (whos .exit)) (r .timers) (r .clock) (r .rng .s))
         (now (props .exit)) (r .a0) (r .due) ⌝ }
-    ensures ready { λ r. ⌜ (Stepping.Ready (lent places transitions (now (initial .entry)) (now (capacity .entry)) (now (rate .entry)) (now (delay .entry))
-        (now (arcs .entry)) (now (kind .entry)) (now (place .entry)) (now (weight .entry))) (now (limit .entry)) (now (counts .exit)) (now (ats .exit)) (now (whos .exit)) (r .timers)) × (length (now (props .exit)) ≡ 64) ⌝ }
+    ensures ready { λ net r. ⌜ Stepping.Ready net (now (limit .entry)) (now (counts .exit)) (now (ats .exit)) (now (whos .exit)) (r .timers)
+        × (length (now (props .exit)) ≡ 64) ⌝ }
 {
     let s = starts::start_all(
         places,
@@ -238,22 +236,20 @@ pub fn one_step<'a>(
     table: &mut [f64],
     s: Now,
 ) -> Stepped
-    requires { ⌜ (Stepping.Ready (lent places transitions (now initial) (now capacity) (now rate) (now delay) (now arcs) (now kind) (now place) (now weight)) (now limit) (now counts) (now ats) (now whos) (s .timers)) × (timed ≡ Engine.anyTimed transitions (now delay)) × (length (now props) ≡ 64)
-        × (s .next ≤ length (now instants)) × (length (now instants) ≤ 1024) × (places * length (now instants) ≤ length (now table)) ⌝ }
-    ensures is { λ r. ⌜ Stepping.StepBy
-        (Rule.step (Record.readable (lent places transitions (now (initial .entry)) (now (capacity .entry)) (now (rate .entry)) (now (delay .entry))
-        (now (arcs .entry)) (now (kind .entry)) (now (place .entry)) (now (weight .entry)))) (Stepping.stateOf (lent places transitions (now (initial .entry)) (now (capacity .entry)) (now (rate .entry)) (now (delay .entry))
-        (now (arcs .entry)) (now (kind .entry)) (now (place .entry)) (now (weight .entry))) (now (counts .entry)) (now (ats .entry)) (now (whos .entry)) (s .timers) (s .clock) (s .rng .s)))
-        (Stepping.stateOf (lent places transitions (now (initial .entry)) (now (capacity .entry)) (now (rate .entry)) (now (delay .entry))
-        (now (arcs .entry)) (now (kind .entry)) (now (place .entry)) (now (weight .entry))) (now (counts .entry)) (now (ats .entry)) (now (whos .entry)) (s .timers) (s .clock) (s .rng .s))
-        last
-        (λ u. Stepping.ShownBy places (now (instants .entry)) (u .clock) (u .counts) (s .next) (r .now .next) (s .peak) (r .now .peak) (now (table .entry)) (now (table .exit)))
+    ghost { NetRecord }
+    requires { λ net. ⌜ lent places transitions (now initial) (now capacity) (now rate) (now delay) (now arcs) (now kind) (now place) (now weight) ≡ net ⌝ }
+    requires { λ net. ⌜ Stepping.Ready net (now limit) (now counts) (now ats) (now whos) (s .timers) × (timed ≡ Engine.anyTimed transitions (now delay))
+        × (length (now props) ≡ 64) × (s .next ≤ length (now instants)) × (length (now instants) ≤ 1024)
+        × (places * length (now instants) ≤ length (now table)) ⌝ }
+    ensures is { λ net r. let before = Stepping.stateOf net (now (counts .entry)) (now (ats .entry)) (now (whos .entry)) (s .timers) (s .clock) (s .rng .s) in
+        ⌜ Stepping.StepBy (Rule.step (Record.readable net) before) before last
+        (λ u. Stepping.ShownBy places (now (instants .entry)) (u .clock) (u .counts) (s .next) (r .now .next) (s .peak) (r .now .peak)
+        (now (table .entry)) (now (table .exit)))
         (Stepping.NotShown (s .next) (r .now .next) (s .peak) (r .now .peak) (now (table .entry)) (now (table .exit)))
-        (Stepping.stateOf (lent places transitions (now (initial .entry)) (now (capacity .entry)) (now (rate .entry)) (now (delay .entry))
-        (now (arcs .entry)) (now (kind .entry)) (now (place .entry)) (now (weight .entry))) (now (counts .exit)) (now (ats .exit)) (now (whos .exit)) (r .now .timers) (r .now .clock) (r .now .rng .s))
+        (Stepping.stateOf net (now (counts .exit)) (now (ats .exit)) (now (whos .exit)) (r .now .timers) (r .now .clock) (r .now .rng .s))
         (r .ending) ⌝ }
-    ensures ready { λ r. ⌜ (Stepping.Ready (lent places transitions (now (initial .entry)) (now (capacity .entry)) (now (rate .entry)) (now (delay .entry))
-        (now (arcs .entry)) (now (kind .entry)) (now (place .entry)) (now (weight .entry))) (now (limit .entry)) (now (counts .exit)) (now (ats .exit)) (now (whos .exit)) (r .now .timers)) × (length (now (props .exit)) ≡ 64) × (length (now (table .exit)) ≡ length (now (table .entry)))
+    ensures ready { λ net r. ⌜ Stepping.Ready net (now (limit .entry)) (now (counts .exit)) (now (ats .exit)) (now (whos .exit)) (r .now .timers)
+        × (length (now (props .exit)) ≡ 64) × (length (now (table .exit)) ≡ length (now (table .entry)))
         × Cells.Stay places (length (now (instants .entry))) (now (table .entry)) (now (table .exit)) ⌝ }
 {
     let t = s.clock;

@@ -1,12 +1,12 @@
 -- Where no timer runs the definition goes by the total, and otherwise by the first timer.
-use Prim.Native.Nat.{ℕ, zero, suc, _<_}
+use Prim.Native.Nat.{ℕ, zero}
 use native.Mathlib.Omega.{arith}
-use mathlib.Core.Path.{_≡_, refl, sym, ap, _∙_}
+use mathlib.Core.Path.{_≡_, refl, sym, ap}
 use mathlib.Core.List.{List, [], _∷_}
 use lib.Ieee.{Float, binary64, add, le}
 use Rattle.net.specs.Net.{pick, zero64}
 use Rattle.rules.specs.Timers.{Timer}
-use Rattle.rules.specs.Step.{Next, next, nothingLeft, race, completion}
+use Rattle.rules.specs.Step.{next, nothingLeft, race, completion}
 use Rattle.jump.specs.Answers.{Told}
 use Rattle.jump.proofs.next_event.Statement.{statement}
 use Rattle.jump.proofs.next_event.Tie as tie

@@ -1,5 +1,4 @@
 -- What has started stands in front of the part of the pass from transition j on; a turn adds what transition j starts.
-use borrow.Author.Needs.{needs}
 use denote.Ref.{now}
 use native.Mathlib.Omega.{arith}
 use mathlib.Core.Path.{refl}

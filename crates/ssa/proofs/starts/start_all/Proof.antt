@@ -1,5 +1,4 @@
 -- What has started stands in front of the passes that are left; a turn adds what one pass starts. Where no transition is delayed, a pass starts nobody.
-use borrow.Author.Needs.{needs}
 use borrow.Author.Tests.{not-true, not-false}
 use denote.Ref.{now}
 use native.Mathlib.Omega.{arith}
