@@ -22,8 +22,8 @@ ghost use Rattle.ssa.specs.Summing as Summing;
 use crate::EnsembleAnswer;
 use crate::PathAnswer;
 use crate::PathEnd;
-use crate::record;
 use crate::run;
+use crate::shown;
 use averages::moments;
 use averages::request;
 use engine::slots;
@@ -241,7 +241,7 @@ fn finish(cells: usize, realizations: u64, mean: &mut [f64], deviation: &mut [f6
     let n = realizations as f64;
     moments::to_means(cells, n, mean);
     if realizations == 1 {
-        record::clear(deviation, cells);
+        shown::clear(deviation, cells);
         return false;
     }
     moments::to_deviations(cells, n, mean, deviation);
@@ -281,8 +281,8 @@ fn averaged<'a>(
         (Summing.pathsFrom (Summing.drawn (Record.readable net) seed (now (instants .entry)) steps) 0 realizations) ⌝ }
 {
     let cells = places * instants.len();
-    record::clear(mean, cells);
-    record::clear(deviation, cells);
+    shown::clear(mean, cells);
+    shown::clear(deviation, cells);
     let s = sum_paths(
         places,
         transitions,
@@ -306,8 +306,8 @@ fn averaged<'a>(
     );
     match s {
         Summed::Stopped(c, k) => {
-            record::clear(mean, cells);
-            record::clear(deviation, cells);
+            shown::clear(mean, cells);
+            shown::clear(deviation, cells);
             EnsembleAnswer::Stopped(c, k)
         }
         Summed::Done(spent) => {

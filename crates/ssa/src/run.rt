@@ -20,7 +20,7 @@ ghost use Rattle.ssa.specs.Playing as Playing;
 ghost use Rattle.ssa.specs.Path as Path;
 use crate::PathAnswer;
 use crate::PathEnd;
-use crate::record;
+use crate::shown;
 use crate::step;
 use crate::step::Ending;
 use crate::step::Now;
@@ -205,7 +205,7 @@ pub fn play<'a>(
     let mut props = [0.0; 64];
     let n = instants.len();
     let last = instants[n - 1];
-    let seen = step::show(instants, table, counts, places, 0.0, 0, 0);
+    let seen = shown::show(instants, table, counts, places, 0.0, 0, 0);
     let s = Now {
         clock: 0.0,
         timers: 0,
@@ -238,7 +238,7 @@ pub fn play<'a>(
     );
     let end = w.end;
     if let PathEnd::Refused(c) = end {
-        record::clear(table, places * n);
+        shown::clear(table, places * n);
         return PathAnswer {
             end: PathEnd::Refused(c),
             steps: 0,
@@ -249,7 +249,7 @@ pub fn play<'a>(
     }
     let next = w.next;
     let g = w.rng;
-    let peak = step::show_until(table, counts, places, n, next, n, w.peak);
+    let peak = shown::show_until(table, counts, places, n, next, n, w.peak);
     PathAnswer {
         end: end,
         steps: w.steps,

@@ -10,7 +10,7 @@ ghost use Rattle.engine.specs.Engine as Engine;
 ghost use Rattle.ssa.specs.Cells as Cells;
 ghost use Rattle.ssa.specs.Stepping as Stepping;
 use crate::firing;
-use crate::record;
+use crate::shown;
 use crate::starts;
 use engine::marking;
 use jump::Next;
@@ -162,57 +162,6 @@ fn advance<'a>(
     }
 }
 
-// Shows the counts at the instants from next to before `to`, and answers with the largest sum so far.
-pub fn show_until(
-    table: &mut [f64],
-    counts: &[u64; 32],
-    places: usize,
-    n: usize,
-    next: usize,
-    to: usize,
-    peak: u64,
-) -> u64
-    requires { ⌜ (places ≤ 32) × (next ≤ to) × (to ≤ n) × (n ≤ 1024) × (places * n ≤ length (now table)) × Engine.Counts (now counts) ⌝ }
-    ensures { λ r. ⌜ Stepping.ShownUntil places n (Engine.marking places (now (counts .entry))) next to peak r (now (table .entry)) (now (table .exit)) ⌝ }
-{
-    if to == next {
-        return peak;
-    }
-    record::fill(table, counts, places, n, next, to);
-    let sum = record::sum(counts, places);
-    if peak < sum {
-        return sum;
-    }
-    peak
-}
-
-pub struct Seen {
-    pub next: usize,
-    pub peak: u64,
-}
-
-// Shows the counts at every instant that the clock has reached and that has not been shown.
-pub fn show(
-    instants: &[f64],
-    table: &mut [f64],
-    counts: &[u64; 32],
-    places: usize,
-    clock: f64,
-    next: usize,
-    peak: u64,
-) -> Seen
-    requires { ⌜ (places ≤ 32) × (next ≤ length (now instants)) × (length (now instants) ≤ 1024) × (places * length (now instants) ≤ length (now table)) × Engine.Counts (now counts) ⌝ }
-    ensures { λ r. ⌜ Stepping.ShownBy places (now (instants .entry)) clock (Engine.marking places (now (counts .entry))) next (r .next) peak (r .peak) (now (table .entry)) (now (table .exit)) ⌝ }
-{
-    let to = record::reached(instants, clock, next);
-    let n = instants.len();
-    let most = show_until(table, counts, places, n, next, to, peak);
-    Seen {
-        next: to,
-        peak: most,
-    }
-}
-
 // One step.
 pub fn one_step<'a>(
     places: usize,
@@ -243,9 +192,9 @@ pub fn one_step<'a>(
         × (places * length (now instants) ≤ length (now table)) ⌝ }
     ensures is { λ net r. let before = Stepping.stateOf net (now (counts .entry)) (now (ats .entry)) (now (whos .entry)) (s .timers) (s .clock) (s .rng .s) in
         ⌜ Stepping.StepBy (Rule.step (Record.readable net) before) before last
-        (λ u. Stepping.ShownBy places (now (instants .entry)) (u .clock) (u .counts) (s .next) (r .now .next) (s .peak) (r .now .peak)
+        (λ u. Cells.ShownBy places (now (instants .entry)) (u .clock) (u .counts) (s .next) (r .now .next) (s .peak) (r .now .peak)
         (now (table .entry)) (now (table .exit)))
-        (Stepping.NotShown (s .next) (r .now .next) (s .peak) (r .now .peak) (now (table .entry)) (now (table .exit)))
+        (Cells.NotShown (s .next) (r .now .next) (s .peak) (r .now .peak) (now (table .entry)) (now (table .exit)))
         (Stepping.stateOf net (now (counts .exit)) (now (ats .exit)) (now (whos .exit)) (r .now .timers) (r .now .clock) (r .now .rng .s))
         (r .ending) ⌝ }
     ensures ready { λ net r. ⌜ Stepping.Ready net (now (limit .entry)) (now (counts .exit)) (now (ats .exit)) (now (whos .exit)) (r .now .timers)
@@ -307,7 +256,7 @@ pub fn one_step<'a>(
             }
         }
         Due::Race => {
-            let seen = show(instants, table, counts, places, clock, s.next, s.peak);
+            let seen = shown::show(instants, table, counts, places, clock, s.next, s.peak);
             if last < clock {
                 let now = Now {
                     clock: clock,
@@ -369,7 +318,7 @@ pub fn one_step<'a>(
             }
         }
         Due::Completion => {
-            let shown = show(instants, table, counts, places, clock, s.next, s.peak);
+            let shown = shown::show(instants, table, counts, places, clock, s.next, s.peak);
             if last < clock {
                 let now = Now {
                     clock: clock,

@@ -1,5 +1,5 @@
 // The running timers, in the order in which they leave: timer i is ats[i] with whos[i]. What the arrays hold is a list of timers
-// (specs/Engine, timers); only the functions of this file know how it is held.
+// (specs/TimerArrays); only the functions of this file know how it is held.
 ghost use mathlib.Core.Path.{_≡_};
 ghost use mathlib.Core.Bool.{true, false};
 ghost use Prim.Native.Nat.{ℕ, _+_, _-_, _<_, _≤_};

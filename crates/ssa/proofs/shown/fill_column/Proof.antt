@@ -7,8 +7,8 @@ use borrow.Author.Needs.{needs}
 use native.Mathlib.Omega.{arith}
 use mathlib.Core.Path.{_≡_, subst}
 use Prim.Native.Nat.{ℕ, _-_, _≤_}
-use Rattle.ssa.proofs.record.fill_column.Statement.{statement}
-use Rattle.ssa.proofs.record.fill_column.Tie as tie
+use Rattle.ssa.proofs.shown.fill_column.Statement.{statement}
+use Rattle.ssa.proofs.shown.fill_column.Tie as tie
 
 abbrev Inv-loop : tie.InvT-loop
 Inv-loop table₀ counts places n i p₀ table p = (p ≤ places) × Column n i p counts table₀ table

@@ -10,8 +10,8 @@ use borrow.Author.Needs.{needs}
 use native.Mathlib.Omega.{arith}
 use mathlib.Core.Path.{_≡_, refl, ap, _∙_}
 use Prim.Native.Nat.{ℕ, _+_, _-_, _≤_, _<_}
-use Rattle.ssa.proofs.record.reached.Statement.{statement}
-use Rattle.ssa.proofs.record.reached.Tie as tie
+use Rattle.ssa.proofs.shown.reached.Statement.{statement}
+use Rattle.ssa.proofs.shown.reached.Tie as tie
 
 turn : (t : Float) (xs : List Float) (i : ℕ) → i < length xs → reachedBy t (drop i xs) ≡ pick (le (getD xs i nan) t) (1 + reachedBy t (drop (i + 1) xs)) 0
 turn t xs i h =

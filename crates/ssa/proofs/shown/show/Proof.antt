@@ -2,8 +2,8 @@
 use Rattle.ssa.proofs.Playing.{reached-few}
 use borrow.Author.Needs.{needs}
 use native.Mathlib.Omega.{arith}
-use Rattle.ssa.proofs.step.show.Statement.{statement}
-use Rattle.ssa.proofs.step.show.Tie as tie
+use Rattle.ssa.proofs.shown.show.Statement.{statement}
+use Rattle.ssa.proofs.shown.show.Tie as tie
 
 reached-requires : tie.Need-reached-requires
 reached-requires c κs = search needs

@@ -9,8 +9,8 @@ use borrow.Author.Needs.{needs}
 use native.Mathlib.Omega.{arith}
 use mathlib.Core.Path.{_≡_, refl, ap, _∙_}
 use Prim.Native.Nat.{ℕ, _-_, _≤_}
-use Rattle.ssa.proofs.record.clear.Statement.{statement}
-use Rattle.ssa.proofs.record.clear.Tie as tie
+use Rattle.ssa.proofs.shown.clear.Statement.{statement}
+use Rattle.ssa.proofs.shown.clear.Tie as tie
 
 abbrev Inv-loop : tie.InvT-loop
 Inv-loop table₀ cells c₀ table c = (c ≤ cells) × (table ≡ cleared c table₀)

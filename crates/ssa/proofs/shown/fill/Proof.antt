@@ -4,8 +4,8 @@ use Rattle.ssa.proofs.Cells.{filled-none, filled-join, filled-end}
 use borrow.Author.Needs.{needs}
 use native.Mathlib.Omega.{arith}
 use Prim.Native.Nat.{_+_, _-_, max, _≤_}
-use Rattle.ssa.proofs.record.fill.Statement.{statement}
-use Rattle.ssa.proofs.record.fill.Tie as tie
+use Rattle.ssa.proofs.shown.fill.Statement.{statement}
+use Rattle.ssa.proofs.shown.fill.Tie as tie
 
 abbrev Inv-loop : tie.InvT-loop
 Inv-loop table₀ counts places n from to i₀ table i = (from ≤ i) × (i ≤ max from to) × Filled places n from i counts table₀ table

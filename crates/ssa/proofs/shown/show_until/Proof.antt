@@ -3,8 +3,8 @@ use Rattle.ssa.proofs.Cells.{filled-none, filled-marking}
 use borrow.Author.Needs.{needs}
 use borrow.Author.Tests.{eq-eqb, ne-eqb}
 use native.Mathlib.Omega.{arith}
-use Rattle.ssa.proofs.step.show_until.Statement.{statement}
-use Rattle.ssa.proofs.step.show_until.Tie as tie
+use Rattle.ssa.proofs.shown.show_until.Statement.{statement}
+use Rattle.ssa.proofs.shown.show_until.Tie as tie
 
 returns : tie.Need-returns
 returns c =
