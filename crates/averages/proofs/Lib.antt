@@ -1,6 +1,5 @@
 pub mod Fronts
 pub mod Sums
 pub mod Grid
-pub mod Rows
 pub mod Members
 pub mod Passes

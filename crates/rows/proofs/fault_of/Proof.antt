@@ -3,8 +3,8 @@ use Prim.Native.Nat.{ℕ, _*_, _≤_, _<_}
 use native.Mathlib.Nat.{mul-le-mul}
 use native.Mathlib.Omega.{arith}
 use borrow.Author.Tests.{le-ltb, lt-ltb, le-leb, lt-leb}
-use Rattle.averages.proofs.row.fault_of.Statement.{statement}
-use Rattle.averages.proofs.row.fault_of.Tie as tie
+use Rattle.rows.proofs.fault_of.Statement.{statement}
+use Rattle.rows.proofs.fault_of.Tie as tie
 
 above : {a b : ℕ} → a < b → 1 ≤ b
 above h = omega arith

@@ -12,8 +12,8 @@ use lib.ListN.{take, drop}
 use lib.Ieee.{Float}
 use Rattle.net.specs.Net.{pick}
 use Rattle.refusals.specs as Refusal
 use Rattle.averages.specs.Request.{samplesFit}
-use Rattle.averages.specs.Row.{faultOf, rowFault, unlessFault, rowOf}
+use Rattle.rows.specs.Row.{faultOf, rowFault, unlessFault, rowOf}
 
 pub row-refused : (place places samples : ℕ) (table : List Float) {c : ℕ} → some c ≡ rowFault place places samples table → [] ≡ rowOf place places samples table
 row-refused place places samples table e = ap (λ (o : Option ℕ). unlessFault o (take samples (drop (place * samples) table))) e

@@ -8,9 +8,9 @@ use lib.ListN.{length, take, drop}
 use lib.Ieee.{Float}
 use Rattle.refusals.specs as Refusal
 use Rattle.net.specs.Tests.{firstOf}
-use Rattle.averages.specs.declared.row.Table.{Table}
-use Rattle.averages.specs.declared.row.Table.the-variants.{Mean, Deviation}
+use Rattle.rows.specs.declared.Table.{Table}
+use Rattle.rows.specs.declared.Table.the-variants.{Mean, Deviation}
 use Rattle.averages.specs.Request.{samplesFit}
 
 -- "which table"
 abbrev pub named : Table → List Float → List Float → List Float

@@ -6,10 +6,10 @@ use mathlib.Core.Option.{none}
 use native.Mathlib.Omega.{arith}
 use lib.ListN.{length, take, drop}
 use Rattle.net.specs.Readable.{meaning}
-use Rattle.averages.specs.Row.{rowFault}
-use Rattle.averages.proofs.Rows.{Inside, inside, row-refused, row-given}
-use Rattle.averages.proofs.row.part.Statement.{statement}
-use Rattle.averages.proofs.row.part.Tie as tie
+use Rattle.rows.specs.Row.{rowFault}
+use Rattle.rows.proofs.Rows.{Inside, inside, row-refused, row-given}
+use Rattle.rows.proofs.part.Statement.{statement}
+use Rattle.rows.proofs.part.Tie as tie
 
 -- where there is no fault
 abbrev start : (c : tie.After-enum-told2) → tie.Start

@@ -1,7 +1,7 @@
-// The row of a place.
+// The row of a place, as part of a lent table of means or of deviations.
 ghost use mathlib.Core.Path.{_≡_};
 ghost use Rattle.net.specs.Readable as Readable;
-ghost use Rattle.averages.specs.Row as Row;
+ghost use Rattle.rows.specs.Row as Row;
 use net::Verdict;
 
 // Which of the two lent tables.

@@ -1,7 +1,7 @@
 -- The table named is the one whose part was asked for. Assumes nothing.
 use borrow.Author.Needs.{needs}
-use Rattle.averages.proofs.row.row.Statement.{statement}
-use Rattle.averages.proofs.row.row.Tie as tie
+use Rattle.rows.proofs.row.Statement.{statement}
+use Rattle.rows.proofs.row.Tie as tie
 
 enum-told : tie.Need-enum-told
 enum-told c = search needs

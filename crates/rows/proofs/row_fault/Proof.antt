@@ -1,7 +1,7 @@
 -- The table named is the one whose length was asked for. Assumes nothing.
 use borrow.Author.Needs.{needs}
-use Rattle.averages.proofs.row.row_fault.Statement.{statement}
-use Rattle.averages.proofs.row.row_fault.Tie as tie
+use Rattle.rows.proofs.row_fault.Statement.{statement}
+use Rattle.rows.proofs.row_fault.Tie as tie
 
 enum-told : tie.Need-enum-told
 enum-told c = search needs
