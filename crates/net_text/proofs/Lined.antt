@@ -7,7 +7,7 @@ use native.Mathlib.Omega.{arith}
 use lib.ListN.{length, getD, drop}
 use Rattle.net.specs.Readable.{slots}
 use Rattle.text.specs.Text.{Bytes, bytes}
-use Rattle.net_text.specs.Forms.{Met, wrong, met, Form, say, behind, many, _>>=_, _>>_, exactly, quoted, decimal, float, Decimal, RawArc, RawLine, rawPlace, rawMove, rawRun, nextArc, placeForm, moveForm, runForm}
+use Rattle.net_text.specs.Forms.{Met, wrong, met, Form, say, behind, many, _>>=_, _>>_, exactly, quoted, decimal, hexadecimal, Decimal, RawArc, RawLine, rawPlace, rawMove, rawRun, nextArc, placeForm, moveForm, runForm}
 use Rattle.net_text.specs.Scanned.{through, found, seen, numberIs, patternIs, ArcsRead}
 use Rattle.net_text.specs.Seen.{NumberAfter, PatternAfter, PlaceRead, RunRead, MoveRead, noPlace, noRun, noMove}
 use Rattle.net_text.specs.declared.scan.Number.{Number}
@@ -43,9 +43,9 @@ pub number-behind : (w line : Bytes) (at : ℕ) (r : Number) → exactly w (drop
 number-behind w line at r e f = ap (through seen) (behind-met (exactly w (drop at line)) (λ u. decimal) tt (drop (at + length w) line) e) ∙ f
 
 pub pattern-behind : (w line : Bytes) (at : ℕ) (r : Pattern) → exactly w (drop at line) ≡ met tt (drop (at + length w) line)
-    → float (drop (at + length w) line) ≡ patternIs line r
-    → behind (exactly w (drop at line)) (λ u. float) ≡ patternIs line r
-pattern-behind w line at r e f = behind-met (exactly w (drop at line)) (λ u. float) tt (drop (at + length w) line) e ∙ f
+    → hexadecimal (drop (at + length w) line) ≡ patternIs line r
+    → behind (exactly w (drop at line)) (λ u. hexadecimal) ≡ patternIs line r
+pattern-behind w line at r e f = behind-met (exactly w (drop at line)) (λ u. hexadecimal) tt (drop (at + length w) line) e ∙ f
 
 module _ (w line : Bytes) (at : ℕ) (r : Number) (a : NumberAfter w line at r) where
   abbrev M : Met Decimal
@@ -63,17 +63,17 @@ module _ (w line : Bytes) (at : ℕ) (r : Number) (a : NumberAfter w line at r) 
 
 module _ (w line : Bytes) (at : ℕ) (r : Pattern) (a : PatternAfter w line at r) where
   abbrev F : Met ℕ
-  F = behind (exactly w (drop at line)) (λ u. float)
+  F = behind (exactly w (drop at line)) (λ u. hexadecimal)
 
   pub pattern-step : {B : Type 0} (g : ℕ → Form B) → r .ok ≡ true
-      → behind (exactly w (drop at line)) (λ u t. behind (float t) g) ≡ g (r .bits) (drop (r .next) line)
+      → behind (exactly w (drop at line)) (λ u t. behind (hexadecimal t) g) ≡ g (r .bits) (drop (r .next) line)
   pattern-step g h =
-      behind-assoc (exactly w (drop at line)) (λ u. float) g
+      behind-assoc (exactly w (drop at line)) (λ u. hexadecimal) g
       ∙ behind-met F g (r .bits) (drop (r .next) line) (found-met F line (r .ok) (r .bits) (r .next) (a .is) h)
 
-  pub pattern-stop : {B : Type 0} (g : ℕ → Form B) → r .ok ≡ false → behind (exactly w (drop at line)) (λ u t. behind (float t) g) ≡ wrong
+  pub pattern-stop : {B : Type 0} (g : ℕ → Form B) → r .ok ≡ false → behind (exactly w (drop at line)) (λ u t. behind (hexadecimal t) g) ≡ wrong
   pattern-stop g h =
-      behind-assoc (exactly w (drop at line)) (λ u. float) g
+      behind-assoc (exactly w (drop at line)) (λ u. hexadecimal) g
       ∙ behind-wrong F g (found-wrong F line (r .ok) (r .bits) (r .next) (a .is) h)
 
 -- a place behind a byte of the line is a number of 64 bits
@@ -152,7 +152,7 @@ abbrev run₄ : Decimal → Decimal → Decimal → ℕ → Form RawLine
 run₄ s k d h = _>>_ (quoted ")") (run₅ s k d h)
 
 abbrev run₃ : Decimal → Decimal → Decimal → Form RawLine
-run₃ s k d = _>>_ (quoted " ") (_>>=_ float (run₄ s k d))
+run₃ s k d = _>>_ (quoted " ") (_>>=_ hexadecimal (run₄ s k d))
 
 abbrev run₂ : Decimal → Decimal → Form RawLine
 run₂ s k = _>>_ (quoted " ") (_>>=_ decimal (run₃ s k))
@@ -253,7 +253,7 @@ abbrev move₂ : ℕ → ℕ → Form RawLine
 move₂ x y = _>>=_ (many nextArc) (move₃ x y)
 
 abbrev move₁ : ℕ → Form RawLine
-move₁ x = _>>_ (quoted " ") (_>>=_ float (move₂ x))
+move₁ x = _>>_ (quoted " ") (_>>=_ hexadecimal (move₂ x))
 
 -- the slots before base are as they were, and the arrays as long
 pub record Kept (base : ℕ) (kind₀ place₀ weight₀ kind place weight : List ℕ) : Type 0 where

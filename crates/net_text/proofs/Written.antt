@@ -9,7 +9,7 @@ use lib.Dec.{eqb, ltb}
 use borrow.Author.Tests.{lt-ltb, le-ltb, le-leb, lt-leb, ne-eqb, ltb-true, ltb-false}
 use Rattle.text.specs.Text.{Bytes}
 use Rattle.text.specs.Numbers.{digit, leadingDigits, decimalText, hexDigits}
-use Rattle.net_text.specs.Forms.{Met, wrong, met, behind, valueFrom, isDigit, digits, afterDigits, someDigits, zeroLeads, decimal, hexDigit, hexFrom, float}
+use Rattle.net_text.specs.Forms.{Met, wrong, met, behind, valueFrom, isDigit, digits, afterDigits, someDigits, zeroLeads, decimal, hexDigit, hexFrom, hexadecimal}
 
 -- ---- decimals
 
@@ -162,5 +162,5 @@ hex-reads (suc k) b t h =
     ∙ ap (λ (x : ℕ). met x t) whole)
 
 -- sixteen digits of 64 bits
-pub float-reads : (b : ℕ) (t : Bytes) → b < 2 ^ 64 → float (hexDigits 16 b ++ t) ≡ met b t
-float-reads b t h = hex-reads 16 b t h
+pub hexadecimal-reads : (b : ℕ) (t : Bytes) → b < 2 ^ 64 → hexadecimal (hexDigits 16 b ++ t) ≡ met b t
+hexadecimal-reads b t h = hex-reads 16 b t h

@@ -133,8 +133,8 @@ hexFrom (suc k) v = do
   hexFrom k (v * 16 + d)
 
 -- "floats are 16 lower-case hexadecimal digits of their bits"
-abbrev pub float : Form ℕ
-float = hexFrom 16 0
+abbrev pub hexadecimal : Form ℕ
+hexadecimal = hexFrom 16 0
 
 -- ---- the lines
 
@@ -192,9 +192,9 @@ placeForm = do
 abbrev pub moveForm : Form RawLine
 moveForm = do
   quoted "(move "
-  rate ← float
+  rate ← hexadecimal
   quoted " "
-  delay ← float
+  delay ← hexadecimal
   arcs ← many nextArc
   quoted ")"
   say (rawMove rate delay arcs)
@@ -209,7 +209,7 @@ runForm = do
   quoted " "
   seed ← decimal
   quoted " "
-  horizon ← float
+  horizon ← hexadecimal
   quoted ")"
   say (rawRun samples realizations seed horizon)
 

@@ -7,7 +7,7 @@ use lib.ListN.{length, getD, drop}
 use Rattle.net.specs.Tests.{any}
 use Rattle.net.specs.Readable.{slots}
 use Rattle.text.specs.Text.{Bytes}
-use Rattle.net_text.specs.Forms.{behind, Decimal, RawArc, rawPlace, rawMove, rawRun, exactly, decimal, float, placeForm, moveForm, runForm}
+use Rattle.net_text.specs.Forms.{behind, Decimal, RawArc, rawPlace, rawMove, rawRun, exactly, decimal, hexadecimal, placeForm, moveForm, runForm}
 use Rattle.net_text.specs.Reading.{badly, badArc}
 use Rattle.net_text.specs.Filled.{kindSlots, placeSlots, weightSlots}
 use Rattle.net_text.specs.Scanned.{through, found, held, seen, numberIs, patternIs, slotOf}
@@ -24,7 +24,7 @@ pub record NumberAfter (w line : Bytes) (at : ℕ) (r : Number) : Type 0 where
 
 -- the word w at a place of the line, and behind it a float
 pub record PatternAfter (w line : Bytes) (at : ℕ) (r : Pattern) : Type 0 where
-  pub is : behind (exactly w (drop at line)) (λ u. float) ≡ patternIs line r
+  pub is : behind (exactly w (drop at line)) (λ u. hexadecimal) ≡ patternIs line r
   pub inside : r .next ≤ length line
 
 -- a place line: its decimals as 64 bits hold them, and whether one is badly written

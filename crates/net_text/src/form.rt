@@ -65,7 +65,7 @@ fn pattern_after(line: &[u8], at: usize, w: &[u8]) -> scan::Pattern
             next: at,
         };
     }
-    scan::float(line, at + w.len())
+    scan::hexadecimal(line, at + w.len())
 }
 
 fn no_place() -> PlaceSeen

@@ -155,9 +155,9 @@ fn hex_digit(b: u8) -> u64
 }
 
 // The sixteen digits of a float's bits.
-pub fn float(line: &[u8], at: usize) -> Pattern
+pub fn hexadecimal(line: &[u8], at: usize) -> Pattern
     requires { ⌜ at ≤ length (now line) ⌝ }
-    ensures is { λ r. ⌜ Forms.float (drop at (now (line .entry))) ≡ Scanned.patternIs (now (line .entry)) r ⌝ }
+    ensures is { λ r. ⌜ Forms.hexadecimal (drop at (now (line .entry))) ≡ Scanned.patternIs (now (line .entry)) r ⌝ }
     ensures within { λ r. ⌜ r .next ≤ length (now (line .entry)) ⌝ }
     ensures small { λ r. ⌜ r .bits < 2 ^ 64 ⌝ }
 {

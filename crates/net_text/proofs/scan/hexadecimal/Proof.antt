@@ -1,17 +1,17 @@
--- `float` meets its contract: the digits that are left, behind the value so far, give the float; i digits are below 16 ^ i (Hexadecimal). Assumes nothing.
+-- `hexadecimal` meets its contract: the digits that are left, behind the value so far, give the number; i digits are below 16 ^ i (Hexadecimal). Assumes nothing.
 use borrow.Author.Needs.{needs}
 use native.Mathlib.Omega.{arith}
 use mathlib.Core.Path.{_≡_, sym, _∙_}
 use Prim.Native.Nat.{_+_, _-_, _^_, _≤_, _<_}
 use lib.ListN.{length, drop, length-drop}
 use native.Mathlib.Nat.{add-zero}
-use Rattle.net_text.specs.Forms.{hexFrom, float}
+use Rattle.net_text.specs.Forms.{hexFrom, hexadecimal}
 use Rattle.net_text.proofs.Hexadecimal.{hex-short, hex-more, hex-stop, ne-below, room, wider}
-use Rattle.net_text.proofs.scan.float.Statement.{statement}
-use Rattle.net_text.proofs.scan.float.Tie as tie
+use Rattle.net_text.proofs.scan.hexadecimal.Statement.{statement}
+use Rattle.net_text.proofs.scan.hexadecimal.Tie as tie
 
 abbrev Inv-loop : tie.InvT-loop
-Inv-loop line at bits₀ i₀ bits i = (at + 16 ≤ length line) × (i ≤ 16) × (bits < 16 ^ i) × (hexFrom (16 - i) bits (drop (at + i) line) ≡ float (drop at line))
+Inv-loop line at bits₀ i₀ bits i = (at + 16 ≤ length line) × (i ≤ 16) × (bits < 16 ^ i) × (hexFrom (16 - i) bits (drop (at + i) line) ≡ hexadecimal (drop at line))
 
 abbrev μ-loop : tie.MeasureT-loop
 μ-loop line at bits₀ i₀ bits i = 16 - i
@@ -83,8 +83,8 @@ returns-3 c =
     let all : l .loop .i ≡ 16 = omega arith in
     (sym (l .loop .inv .3) ∙ rw all, (omega arith, rw all at (l .loop .inv .2)))
 
-pub float-spec : {M : Type 1} → statement M
-float-spec =
+pub hexadecimal-spec : {M : Type 1} → statement M
+hexadecimal-spec =
     tie.close
     (tie.spec
     Inv-loop
