@@ -2,7 +2,7 @@
 use mathlib.Core.Path.{_≡_, sym, ap, _∙_}
 use mathlib.Core.List.{List, _∷_}
 use Prim.Native.Nat.{ℕ, zero, suc, _+_, _*_, _/_, _%_, _^_, _<_}
-use native.Mathlib.Nat.{add-mul, mul-assoc, mul-comm, mod-lt, mod-one, pow-suc, pow-zero, zero-mul, le-of-suc-le-suc, not-suc-le-zero}
+use native.Mathlib.Nat.{add-mul, mul-assoc, mul-comm, mod-eq-of-lt, mod-lt, mod-one, mul-one, pow-suc, pow-zero, zero-mul, le-of-suc-le-suc, not-suc-le-zero}
 use native.Mathlib.Omega.{arith}
 use lib.Arith.{mod-mul}
 use lib.Dec.{eqb}
@@ -23,7 +23,7 @@ regroup b y z =
     let f : y * 2 * z ≡ y * (z * 2) = mul-assoc y 2 z ∙ ap (λ (n : ℕ). y * n) (mul-comm 2 z) in
     omega arith
 
-pub mask-bits : (p k x : ℕ) → maskOf (bitsFrom p k x) ≡ (x % 2 ^ k) * 2 ^ p
+mask-bits : (p k x : ℕ) → maskOf (bitsFrom p k x) ≡ (x % 2 ^ k) * 2 ^ p
 unfolding bitsFrom
 mask-bits p zero x = sym (ap (λ (n : ℕ). x % n * 2 ^ p) (pow-zero 2) ∙ ap (λ (n : ℕ). n * 2 ^ p) (mod-one x) ∙ zero-mul (2 ^ p))
 mask-bits p (suc k) x =
@@ -31,3 +31,7 @@ mask-bits p (suc k) x =
     ∙ ap (λ (n : ℕ). x % 2 * 2 ^ p + n) (mask-bits (suc p) k (x / 2) ∙ ap (λ (n : ℕ). x / 2 % 2 ^ k * n) (pow-suc 2 p))
     ∙ regroup (x % 2) (x / 2 % 2 ^ k) (2 ^ p)
     ∙ ap (λ (n : ℕ). n * 2 ^ p) (sym (ap (λ (n : ℕ). x % n) (pow-suc 2 k) ∙ mod-mul x (pow-pos k) (omega arith)))
+
+-- of 64 bits, all of them
+pub mask-whole : (x : ℕ) → x < 2 ^ 64 → maskOf (bitsFrom 0 64 x) ≡ x
+mask-whole x h = mask-bits 0 64 x ∙ mul-one (x % 2 ^ 64) ∙ mod-eq-of-lt h

@@ -19,7 +19,7 @@ fn diffusion_numbers(answer: DiffusionAnswer) -> [u64; 7]
             g.reads,
             g.inhibitors,
             g.nonkinetic,
-            g.bounded % 0x1_0000_0000,
+            g.bounded,
             crate::one_if(g.delayed),
         ],
         DiffusionAnswer::TurnedDown(c) => [c, 0, 0, 0, 0, 0, 0],

@@ -3,12 +3,12 @@
 use borrow.Author.Needs.{needs}
 use mathlib.Core.Path.{sym, ap, ap₂, _∙_}
 use mathlib.Core.List.{List, [], _∷_}
-use Prim.Native.Nat.{ℕ, _%_}
-use native.Mathlib.Nat.{mul-one}
+use Prim.Native.Nat.{ℕ}
+use native.Mathlib.Omega.{arith}
 use Rattle.sde.specs.declared.DiffusionAnswer.{DiffusionAnswer}
 use Rattle.sde.specs.Call.{outcomeOf}
 use Rattle.c_face.specs.Diffused.{toldOf}
-use Rattle.c_face.proofs.Mask.{mask-bits}
+use Rattle.c_face.proofs.Mask.{mask-whole}
 use Rattle.c_face.proofs.diffusion.diffusion_numbers.Statement.{statement}
 use Rattle.c_face.proofs.diffusion.diffusion_numbers.Tie as tie
 
@@ -37,10 +37,10 @@ returns c =
 
 returns-2 : tie.Need-returns-2
 returns-2 c =
-    let g = c .before .before .before .answer2 .given .0 .0 in
+    let g = c .before .before .answer2 .given .0 .0 in
     ap₂ (λ (m d : ℕ). 100 ∷ 0 ∷ g .reads ∷ g .inhibitors ∷ g .nonkinetic ∷ m ∷ d ∷ [])
-    (sym (mask-bits 0 32 (g .bounded) ∙ mul-one (g .bounded % 4294967296))) (c .one-if2 .ensures)
-    ∙ ap (λ (z : DiffusionAnswer). toldOf (outcomeOf z)) (sym (c .before .before .before .answer2 .given .1))
+    (sym (mask-whole (g .bounded) (omega arith))) (c .one-if2 .ensures)
+    ∙ ap (λ (z : DiffusionAnswer). toldOf (outcomeOf z)) (sym (c .before .before .answer2 .given .1))
 
 returns-3 : tie.Need-returns-3
 returns-3 c = ap (λ (z : DiffusionAnswer). toldOf (outcomeOf z)) (sym (c .before .answer3 .given .1))
