@@ -26,12 +26,12 @@ use Rattle.ssa.specs.declared.timers.Timer.{Timer as TimerStruct}
 use Rattle.ssa.specs.declared.starts.Started.{Started}
 use Rattle.ssa.specs.declared.step.Ending.the-variants.{GoesOn, Reached, Refused}
 use Rattle.ssa.specs.declared.step.Due.{Due}
-use Rattle.ssa.specs.declared.step.Due.the-variants.{Nothing, Race, Completion, Full}
+use Rattle.ssa.specs.declared.step.Due.the-variants.{Nothing, Event as Follows, Full}
 use Rattle.engine.specs.Engine.{marking, Counts, PutBy, Totalled}
 use Rattle.ssa.specs.TimerArrays.{timers, timerOf}
 use Rattle.ssa.specs.Starts.{StartsAre, full, done}
 use Rattle.ssa.specs.Stepping as Stepping
-use Rattle.ssa.specs.Stepping.{stateOf, AdvancedBy, EventBy, happens, tooLarge, StepBy}
+use Rattle.ssa.specs.Stepping.{stateOf, eventOf, AdvancedBy, EventBy, happens, tooLarge, StepBy}
 use Rattle.engine.proofs.Marks.{fit-all}
 use Rattle.ssa.proofs.TimerList.{length-timers}
 
@@ -148,6 +148,14 @@ module _ (n : NetRecord) (counts : List ℕ) (ats : List Float) (whos : List ℕ
         (subst (λ (y : Transition). PutBy true (putting (taking (marking (n .places) counts) (y .takes)) (y .puts)) (marking (n .places) counts)) (sym (transition-past n j i))
         (put-none (n .places) counts c))
 
+-- which of the two it is
+module _ (n : NetRecord) (s : State) (a0 : Float) (props : List Float) (u : State) (r : Bool) where
+  pub event-completes : {b : Bool} → b ≡ true → EventBy (complete (readable n) s) u r → EventBy (eventOf n s a0 props b) u r
+  event-completes e h = subst (λ (c : Bool). EventBy (eventOf n s a0 props c) u r) (sym e) h
+
+  pub event-races : {b : Bool} → b ≡ false → EventBy (raced (readable n) s a0 (take (n .transitions) props)) u r → EventBy (eventOf n s a0 props b) u r
+  event-races e h = subst (λ (c : Bool). EventBy (eventOf n s a0 props c) u r) (sym e) h
+
 -- ---- up to the clock reading
 
 -- where nothing is left no timer runs, and the total is not above 0
@@ -186,8 +194,8 @@ pub record Going (n : NetRecord) (before : State) (counts : List ℕ) (ats : Lis
 
 module _ (n : NetRecord) (before : State) (counts : List ℕ) (ats : List Float) (whos : List ℕ) (r : Started)
     (s : StartsAre (starts (readable n) before) (marking (n .places) counts) (timers ats whos (r .timers)) r) where
-  pub advance-full : r .full ≡ true → (u : State) (props : List Float) (a0 : Float) → AdvancedBy n (step (readable n) before) before u props a0 Full
-  advance-full h u props a0 = Stepping.full (ap (afterStarts (readable n) before) (go s))
+  pub advance-full : r .full ≡ true → (u : State) (props : List Float) (a0 : Float) (b : Bool) → AdvancedBy n (step (readable n) before) before u props a0 b Full
+  advance-full h u props a0 b = Stepping.full (ap (afterStarts (readable n) before) (go s))
     where
       go : StartsAre (starts (readable n) before) (marking (n .places) counts) (timers ats whos (r .timers)) r → starts (readable n) before ≡ refused Refusal.tooManyTimers
       go (full a e) = e
@@ -235,15 +243,15 @@ module _ {n : NetRecord} {before : State} {counts : List ℕ} {ats : List Float}
   at-next y e =
       w .is ∙ ap (λ (z : Next). given (goOn (readable n) (w .who) (stateOf n counts ats whos k (before .clock) ws) a0 (take (n .transitions) props) z)) e
 
-  pub advance-nothing : x ≡ nothingLeft → AdvancedBy n (step (readable n) before) before (stateOf n counts ats whos k (before .clock) ws) props a0 Nothing
+  pub advance-nothing : x ≡ nothingLeft → AdvancedBy n (step (readable n) before) before (stateOf n counts ats whos k (before .clock) ws) props a0 false Nothing
   advance-nothing e = Stepping.nothing (at-next nothingLeft e) (w .same e)
 
   pub advance-race : (d : Float) → x ≡ race d
-      → AdvancedBy n (step (readable n) before) before (stateOf n counts ats whos k (add binary64 (before .clock) d) ws) props a0 Race
-  advance-race d e = Stepping.race (w .who) (at-next (race d) e)
+      → AdvancedBy n (step (readable n) before) before (stateOf n counts ats whos k (add binary64 (before .clock) d) ws) props a0 false Follows
+  advance-race d e = Stepping.event (w .who) (λ z. absurd (true≢false (sym z))) (at-next (race d) e)
 
-  pub advance-completion : (d : Float) → x ≡ completion d → AdvancedBy n (step (readable n) before) before (stateOf n counts ats whos k d ws) props a0 Completion
-  advance-completion d e = Stepping.completion (w .who) (w .runs d e) (at-next (completion d) e)
+  pub advance-completion : (d : Float) → x ≡ completion d → AdvancedBy n (step (readable n) before) before (stateOf n counts ats whos k d ws) props a0 true Follows
+  advance-completion d e = Stepping.event (w .who) (λ z. w .runs d e) (at-next (completion d) e)
 
 -- ---- the whole step
 
@@ -255,30 +263,22 @@ pub record Sets (spec : Answer Step) (u : State) (e : Answer Event) : Type 0 whe
   pub who : List ℕ
   pub is : spec ≡ given (sets who u e)
 
-module _ {n : NetRecord} {spec : Answer Step} {before u : State} {props : List Float} {a0 : Float} where
-  pub if-full : {d : Due} → AdvancedBy n spec before u props a0 d → d ≡ Full → spec ≡ refused Refusal.tooManyTimers
+module _ {n : NetRecord} {spec : Answer Step} {before u : State} {props : List Float} {a0 : Float} {completes : Bool} where
+  pub if-full : {d : Due} → AdvancedBy n spec before u props a0 completes d → d ≡ Full → spec ≡ refused Refusal.tooManyTimers
   if-full (Stepping.full h) e = h
   if-full (Stepping.nothing h k) e = never (cc)
-  if-full (Stepping.race js h) e = never (cc)
-  if-full (Stepping.completion js k h) e = never (cc)
+  if-full (Stepping.event js k h) e = never (cc)
 
-  pub if-nothing : {d : Due} → AdvancedBy n spec before u props a0 d → d ≡ Nothing → (spec ≡ given still) × (u ≡ before)
+  pub if-nothing : {d : Due} → AdvancedBy n spec before u props a0 completes d → d ≡ Nothing → (spec ≡ given still) × (u ≡ before)
   if-nothing (Stepping.full h) e = never (cc)
   if-nothing (Stepping.nothing h k) e = (h, k)
-  if-nothing (Stepping.race js h) e = never (cc)
-  if-nothing (Stepping.completion js k h) e = never (cc)
+  if-nothing (Stepping.event js k h) e = never (cc)
 
-  pub if-race : {d : Due} → AdvancedBy n spec before u props a0 d → d ≡ Race → Sets spec u (raced (readable n) u a0 (take (n .transitions) props))
-  if-race (Stepping.full h) e = never (cc)
-  if-race (Stepping.nothing h k) e = never (cc)
-  if-race (Stepping.race js h) e = record { who = js; is = h }
-  if-race (Stepping.completion js k h) e = never (cc)
-
-  pub if-completion : {d : Due} → AdvancedBy n spec before u props a0 d → d ≡ Completion → (0 < length (u .timers)) × Sets spec u (complete (readable n) u)
-  if-completion (Stepping.full h) e = never (cc)
-  if-completion (Stepping.nothing h k) e = never (cc)
-  if-completion (Stepping.race js h) e = never (cc)
-  if-completion (Stepping.completion js k h) e = (k, record { who = js; is = h })
+  pub if-event : {d : Due} → AdvancedBy n spec before u props a0 completes d → d ≡ Follows
+      → (completes ≡ true → 0 < length (u .timers)) × Sets spec u (eventOf n u a0 props completes)
+  if-event (Stepping.full h) e = never (cc)
+  if-event (Stepping.nothing h k) e = never (cc)
+  if-event (Stepping.event js k h) e = (k, record { who = js; is = h })
 
 module _ {spec : Answer Step} {u : State} {e : Answer Event} (w : Sets spec u e) {before : State} {last : Float} {shows : State → Type 0} {same : Type 0} where
   pub step-reached : lt last (u .clock) ≡ true → shows u → StepBy spec before last shows same u Reached

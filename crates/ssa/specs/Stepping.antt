@@ -7,6 +7,7 @@ use lib.ListN.{length, take}
 use lib.Ieee.{Float, lt}
 use Rattle.refusals.specs as Refusal
 use Rattle.net.specs.declared.Net.{Net as NetRecord}
+use Rattle.net.specs.Net.{pick}
 use Rattle.net.specs.Readable.{readable}
 use Rattle.rng.specs.State.{words}
 use Rattle.rules.specs.Timers.{Timer}
@@ -16,7 +17,7 @@ use Rattle.ssa.specs.declared.step.Ending.{Ending}
 use Rattle.ssa.specs.declared.step.Ending.the-variants.{GoesOn, Quiet, Reached, Refused}
 use Rattle.ssa.specs.declared.step.Advanced.{Advanced}
 use Rattle.ssa.specs.declared.step.Due.{Due}
-use Rattle.ssa.specs.declared.step.Due.the-variants.{Nothing, Race, Completion, Full}
+use Rattle.ssa.specs.declared.step.Due.the-variants.{Nothing, Event as Follows, Full}
 use Rattle.engine.specs.Engine.{Tidy, Counts, marking}
 use Rattle.ssa.specs.TimerArrays.{timers}
 use Rattle.engine.specs.Limits.{Limits}
@@ -34,13 +35,17 @@ pub record Ready (n : NetRecord) (limit tokens : List ℕ) (times : List Float) 
 abbrev pub stateOf : NetRecord → List ℕ → List Float → List ℕ → ℕ → Float → List ℕ → State
 stateOf n counts ats whos running clock words₄ = state clock (marking (n .places) counts) (timers ats whos running) (words words₄)
 
--- A step up to the clock reading that it sets: refused by 15, nothing left and the state as before, or a race or, where a timer runs, a completion that follows in the state u. The starts js
--- leave no trace in the program. xs are the propensities.
-pub data AdvancedBy (n : NetRecord) (spec : Answer Step) (before u : State) (props : List Float) (a0 : Float) : Due → Type 0 where
-  full : spec ≡ refused Refusal.tooManyTimers → AdvancedBy n spec before u props a0 Full
-  nothing : spec ≡ given still → u ≡ before → AdvancedBy n spec before u props a0 Nothing
-  race : (js : List ℕ) → spec ≡ given (sets js u (Rule.raced (readable n) u a0 (take (n .transitions) props))) → AdvancedBy n spec before u props a0 Race
-  completion : (js : List ℕ) → 0 < length (u .timers) → spec ≡ given (sets js u (Rule.complete (readable n) u)) → AdvancedBy n spec before u props a0 Completion
+-- the event that ends a step in the state u: the completion of the first timer, or the firing of a race with these propensities and this total
+abbrev pub eventOf : NetRecord → State → Float → List Float → Bool → Answer Event
+eventOf n u a0 props completes = pick completes (Rule.complete (readable n) u) (Rule.raced (readable n) u a0 (take (n .transitions) props))
+
+-- A step up to the clock reading that it sets: refused by 15, nothing left and the state as before, or an event that follows in the state u, a completion
+-- only where a timer runs. The starts js leave no trace in the program.
+pub data AdvancedBy (n : NetRecord) (spec : Answer Step) (before u : State) (props : List Float) (a0 : Float) (completes : Bool) : Due → Type 0 where
+  full : spec ≡ refused Refusal.tooManyTimers → AdvancedBy n spec before u props a0 completes Full
+  nothing : spec ≡ given still → u ≡ before → AdvancedBy n spec before u props a0 completes Nothing
+  event : (js : List ℕ) → (completes ≡ true → 0 < length (u .timers)) → spec ≡ given (sets js u (eventOf n u a0 props completes))
+      → AdvancedBy n spec before u props a0 completes Follows
 
 -- the event that ends a step: it leaves the state u, or a count would pass 2^53
 pub data EventBy (spec : Answer Event) (u : State) : Bool → Type 0 where

@@ -1,5 +1,6 @@
 // The event that ends a step: a completion, or the firing of a race.
 ghost use mathlib.Core.Path.{_≡_};
+ghost use mathlib.Core.Bool.{true};
 ghost use Prim.Native.Nat.{_-_, _<_};
 ghost use lib.ListN.{length};
 ghost use lib.ListN as ListN;
@@ -14,7 +15,7 @@ use jump::Choice;
 use rng::Xoshiro256;
 
 // A completion puts the outputs of the first timer's transition and ends the timer. False where a count would pass 2^53.
-pub fn complete<'a>(
+fn complete<'a>(
     places: usize,
     transitions: usize,
     initial: &'a [u64; 32],
@@ -50,14 +51,15 @@ pub fn complete<'a>(
     true
 }
 
-// The generator after a race, and whether the counts fit.
-pub struct Fired {
+// How many timers run after the event, the generator after it, and whether the counts fit.
+pub struct Ended {
+    pub timers: usize,
     pub rng: Xoshiro256,
     pub fits: bool,
 }
 
 // A race draws, chooses and fires.
-pub fn race<'a>(
+fn race<'a>(
     places: usize,
     transitions: usize,
     initial: &'a [u64; 32],
@@ -77,29 +79,122 @@ pub fn race<'a>(
     clock: f64,
     a0: f64,
     rng: Xoshiro256,
-) -> Fired
+) -> Ended
     ghost { NetRecord }
     requires { λ net. ⌜ lent places transitions (now initial) (now capacity) (now rate) (now delay) (now arcs) (now kind) (now place) (now weight) ≡ net ⌝ }
     requires { λ net. ⌜ Stepping.Ready net (now limit) (now counts) (now ats) (now whos) running × (length (now props) ≡ 64) ⌝ }
     ensures is { λ net r. ⌜ Stepping.EventBy
         (Rule.raced (Record.readable net) (Stepping.stateOf net (now (counts .entry)) (now (ats .entry)) (now (whos .entry)) running clock (rng .s)) a0
         (ListN.take transitions (now (props .entry))))
-        (Stepping.stateOf net (now (counts .exit)) (now (ats .entry)) (now (whos .entry)) running clock (r .rng .s)) (r .fits) ⌝ }
-    ensures ready { λ net _. ⌜ Stepping.Ready net (now (limit .entry)) (now (counts .exit)) (now (ats .entry)) (now (whos .entry)) running ⌝ }
+        (Stepping.stateOf net (now (counts .exit)) (now (ats .entry)) (now (whos .entry)) (r .timers) clock (r .rng .s)) (r .fits) ⌝ }
+    ensures ready { λ net r. ⌜ Stepping.Ready net (now (limit .entry)) (now (counts .exit)) (now (ats .entry)) (now (whos .entry)) (r .timers) ⌝ }
 {
     let d = rng.uniform();
     let g = d.rng;
     let all: &[f64] = props;
     let chosen = jump::choose(&all[..transitions], d.value * a0);
     match chosen {
-        Choice::Nobody => Fired { rng: g, fits: true },
+        Choice::Nobody => Ended {
+            timers: running,
+            rng: g,
+            fits: true,
+        },
         Choice::Chosen(j) => {
             if j < transitions {
                 marking::take(places, arcs, kind, place, weight, counts, j);
                 let fits = marking::put(places, arcs, kind, place, weight, counts, j);
-                return Fired { rng: g, fits: fits };
+                return Ended {
+                    timers: running,
+                    rng: g,
+                    fits: fits,
+                };
             }
-            Fired { rng: g, fits: true }
+            Ended {
+                timers: running,
+                rng: g,
+                fits: true,
+            }
         }
     }
+}
+
+// The event: the completion where one is due, else the race.
+pub fn happen<'a>(
+    places: usize,
+    transitions: usize,
+    initial: &'a [u64; 32],
+    capacity: &'a [u64; 32],
+    rate: &'a [f64; 64],
+    delay: &'a [f64; 64],
+    arcs: &'a [usize; 64],
+    kind: &'a [u64; 1024],
+    place: &'a [usize; 1024],
+    weight: &'a [u64; 1024],
+    limit: &'a [u64; 1024],
+    counts: &mut [u64; 32],
+    ats: &mut [f64; 256],
+    whos: &mut [usize; 256],
+    props: &[f64; 64],
+    running: usize,
+    clock: f64,
+    a0: f64,
+    rng: Xoshiro256,
+    completes: bool,
+) -> Ended
+    ghost { NetRecord }
+    requires { λ net. ⌜ lent places transitions (now initial) (now capacity) (now rate) (now delay) (now arcs) (now kind) (now place) (now weight) ≡ net ⌝ }
+    requires { λ net. ⌜ Stepping.Ready net (now limit) (now counts) (now ats) (now whos) running × (length (now props) ≡ 64) × (completes ≡ true → 0 < running) ⌝ }
+    ensures is { λ net r. ⌜ Stepping.EventBy
+        (Stepping.eventOf net (Stepping.stateOf net (now (counts .entry)) (now (ats .entry)) (now (whos .entry)) running clock (rng .s)) a0
+        (now (props .entry)) completes)
+        (Stepping.stateOf net (now (counts .exit)) (now (ats .exit)) (now (whos .exit)) (r .timers) clock (r .rng .s)) (r .fits) ⌝ }
+    ensures ready { λ net r. ⌜ Stepping.Ready net (now (limit .entry)) (now (counts .exit)) (now (ats .exit)) (now (whos .exit)) (r .timers) ⌝ }
+{
+    if completes {
+        let fits = complete(
+            places,
+            transitions,
+            initial,
+            capacity,
+            rate,
+            delay,
+            arcs,
+            kind,
+            place,
+            weight,
+            limit,
+            counts,
+            ats,
+            whos,
+            running,
+            clock,
+            rng,
+        );
+        return Ended {
+            timers: running - 1,
+            rng: rng,
+            fits: fits,
+        };
+    }
+    race(
+        places,
+        transitions,
+        initial,
+        capacity,
+        rate,
+        delay,
+        arcs,
+        kind,
+        place,
+        weight,
+        limit,
+        counts,
+        ats,
+        whos,
+        props,
+        running,
+        clock,
+        a0,
+        rng,
+    )
 }

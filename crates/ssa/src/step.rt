@@ -39,17 +39,17 @@ pub struct Stepped {
     pub ending: Ending,
 }
 
-// What follows the starts of a step; Full where a timer could not start.
+// What follows the starts of a step: nothing, or an event; Full where a timer could not start.
 pub enum Due {
     Nothing,
-    Race,
-    Completion,
+    Event,
     Full,
 }
 
-// A step up to the clock reading that it sets.
+// A step up to the clock reading that it sets, and whether the event is a completion.
 pub struct Advanced {
     pub due: Due,
+    pub completes: bool,
     pub clock: f64,
     pub timers: usize,
     pub a0: f64,
@@ -85,7 +85,7 @@ fn advance<'a>(
     ensures is { λ net r. let before = Stepping.stateOf net (now (counts .entry)) (now (ats .entry)) (now (whos .entry)) running t (rng .s) in
         ⌜ Stepping.AdvancedBy net (Rule.step (Record.readable net) before) before
         (Stepping.stateOf net (now (counts .exit)) (now (ats .exit)) (now (whos .exit)) (r .timers) (r .clock) (r .rng .s))
-        (now (props .exit)) (r .a0) (r .due) ⌝ }
+        (now (props .exit)) (r .a0) (r .completes) (r .due) ⌝ }
     ensures ready { λ net r. ⌜ Stepping.Ready net (now (limit .entry)) (now (counts .exit)) (now (ats .exit)) (now (whos .exit)) (r .timers)
         × (length (now (props .exit)) ≡ 64) ⌝ }
 {
@@ -112,6 +112,7 @@ fn advance<'a>(
     if s.full {
         return Advanced {
             due: Due::Full,
+            completes: false,
             clock: t,
             timers: n,
             a0: 0.0,
@@ -140,20 +141,23 @@ fn advance<'a>(
     match what {
         Next::Nothing => Advanced {
             due: Due::Nothing,
+            completes: false,
             clock: t,
             timers: n,
             a0: a0,
             rng: g,
         },
         Next::Race(wait) => Advanced {
-            due: Due::Race,
+            due: Due::Event,
+            completes: false,
             clock: t + wait,
             timers: n,
             a0: a0,
             rng: g,
         },
         Next::Completion(at) => Advanced {
-            due: Due::Completion,
+            due: Due::Event,
+            completes: true,
             clock: at,
             timers: n,
             a0: a0,
@@ -255,7 +259,7 @@ pub fn one_step<'a>(
                 ending: Ending::Quiet,
             }
         }
-        Due::Race => {
+        Due::Event => {
             let seen = shown::show(instants, table, counts, places, clock, s.next, s.peak);
             if last < clock {
                 let now = Now {
@@ -270,7 +274,7 @@ pub fn one_step<'a>(
                     ending: Ending::Reached,
                 };
             }
-            let f = firing::race(
+            let e = firing::happen(
                 places,
                 transitions,
                 initial,
@@ -290,88 +294,22 @@ pub fn one_step<'a>(
                 clock,
                 d.a0,
                 g,
+                d.completes,
             );
-            let h = f.rng;
-            if f.fits {
-                let now = Now {
-                    clock: clock,
-                    timers: running,
-                    next: seen.next,
-                    peak: seen.peak,
-                    rng: h,
-                };
-                return Stepped {
-                    now: now,
-                    ending: Ending::GoesOn,
-                };
-            }
+            let h = e.rng;
             let now = Now {
                 clock: clock,
-                timers: running,
+                timers: e.timers,
                 next: seen.next,
                 peak: seen.peak,
                 rng: h,
             };
-            Stepped {
-                now: now,
-                ending: Ending::Refused(refusals::COUNT_TOO_LARGE),
-            }
-        }
-        Due::Completion => {
-            let shown = shown::show(instants, table, counts, places, clock, s.next, s.peak);
-            if last < clock {
-                let now = Now {
-                    clock: clock,
-                    timers: running,
-                    next: shown.next,
-                    peak: shown.peak,
-                    rng: g,
-                };
-                return Stepped {
-                    now: now,
-                    ending: Ending::Reached,
-                };
-            }
-            let fits = firing::complete(
-                places,
-                transitions,
-                initial,
-                capacity,
-                rate,
-                delay,
-                arcs,
-                kind,
-                place,
-                weight,
-                limit,
-                counts,
-                ats,
-                whos,
-                running,
-                clock,
-                g,
-            );
-            let left = running - 1;
-            if fits {
-                let now = Now {
-                    clock: clock,
-                    timers: left,
-                    next: shown.next,
-                    peak: shown.peak,
-                    rng: g,
-                };
+            if e.fits {
                 return Stepped {
                     now: now,
                     ending: Ending::GoesOn,
                 };
             }
-            let now = Now {
-                clock: clock,
-                timers: left,
-                next: shown.next,
-                peak: shown.peak,
-                rng: g,
-            };
             Stepped {
                 now: now,
                 ending: Ending::Refused(refusals::COUNT_TOO_LARGE),

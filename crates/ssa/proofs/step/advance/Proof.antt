@@ -29,7 +29,7 @@ returns c =
     let b = c .before in
     let s = b .before .before .before .before in (
       advance-full (net s) (from s) (b .start-all .last .1 .1 .1 .1 .1 .1 .1 .1 .1 .1 .1 .1 .0) (b .start-all .last .1 .1 .1 .1 .1 .1 .1 .1 .1 .1 .1 .1 .1 .0)
-          (b .start-all .last .1 .1 .1 .1 .1 .1 .1 .1 .1 .1 .1 .1 .1 .1 .0) (b .start-all .result) (b .start-all .ensures .0) (c .if1 .taken) _ _ _,
+          (b .start-all .last .1 .1 .1 .1 .1 .1 .1 .1 .1 .1 .1 .1 .1 .1 .0) (b .start-all .result) (b .start-all .ensures .0) (c .if1 .taken) _ _ _ _,
       (b .start-all .ensures .1, s .pre .2),
     )
 

@@ -1,0 +1,44 @@
+-- Which event it is stands in the definition as it does in the program.
+use Rattle.net.specs.declared.Net.{Net as NetRecord}
+use Rattle.net.specs.Record.{lent}
+use Rattle.rules.specs.Step.{State}
+use Rattle.ssa.specs.Stepping.{stateOf}
+use Rattle.ssa.proofs.Steps.{event-completes, event-races}
+use Rattle.ssa.proofs.firing.happen.Statement.{statement}
+use Rattle.ssa.proofs.firing.happen.Tie as tie
+
+abbrev net : tie.Start → NetRecord
+net s =
+    lent (s .args .places) (s .args .transitions) (s .args .initial .now) (s .args .capacity .now) (s .args .rate .now) (s .args .delay .now) (s .args .arcs .now)
+    (s .args .kind .now) (s .args .place .now) (s .args .weight .now)
+
+abbrev from : tie.Start → State
+from s =
+    stateOf (net s) (s .args .counts .now) (s .args .ats .now) (s .args .whos .now) (s .args .running) (s .args .clock) (s .args .rng .s)
+
+complete-requires : tie.Need-complete-requires
+complete-requires c κs =
+    let p = c .before .before .before .before .pre in
+    (p .0, p .2 (c .before .before .before .if1 .taken))
+
+sub-t26 : tie.Need-sub-t26
+sub-t26 c = c .before .before .before .before .before .pre .2 (c .before .before .before .before .if1 .taken)
+
+returns : tie.Need-returns
+returns c =
+    let s = c .before .before .before .before .before in
+    (event-completes (net s) (from s) (s .args .a0) (s .args .props .now) _ _ (c .before .before .before .before .if1 .taken) (c .complete .ensures .0), c .complete .ensures .1)
+
+race-requires : tie.Need-race-requires
+race-requires c κs =
+    let p = c .before .before .before .before .pre in
+    (p .0, p .1)
+
+returns-2 : tie.Need-returns-2
+returns-2 c =
+    let s = c .before .before .before .before .before in
+    (event-races (net s) (from s) (s .args .a0) (s .args .props .now) _ _ (c .before .before .before .before .if1 .left) (c .race .ensures .0), c .race .ensures .1)
+
+pub happen-spec : {M : Type 1} → statement M
+happen-spec =
+    tie.close (tie.spec complete-requires sub-t26 returns race-requires returns-2)
