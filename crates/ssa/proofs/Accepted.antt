@@ -22,7 +22,7 @@ use Rattle.rng.specs.State.{State as Generator}
 use Rattle.rules.specs.Shown.{rising, instantsFit, limitFits, worked}
 use Rattle.rules.proofs.Order.{both}
 use Rattle.ssa.specs.Path.{Call, turnedDown, played, tableFits, afterNet, unlessFault, called}
-use Rattle.ssa.proofs.Arcs.{and-stop, and-go}
+use Rattle.engine.proofs.Arcs.{and-stop, and-go}
 
 -- ---- the instants
 

@@ -15,7 +15,7 @@ use lib.Seq.{getD-set-same, getD-set-other, getD-append-add, getD-drop, getD-tak
 use lib.Ieee.{Float, nan}
 use Rattle.net.specs.Net.{Marking, zero64, held}
 use Rattle.rules.specs.Propensity.{float}
-use Rattle.ssa.specs.Engine.{marking}
+use Rattle.engine.specs.Engine.{marking}
 use Rattle.ssa.specs.Cells.{row, rowsFrom, tableOf, cleared, Stay, Filled}
 
 -- ---- where a cell lies

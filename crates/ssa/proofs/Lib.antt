@@ -1,16 +1,4 @@
-pub mod Arcs
-pub mod Open
-pub mod Room
-pub mod Limits
-pub mod Lists
-pub mod Copying
-pub mod Tidying
-pub mod Marks
-pub mod OneWay
-pub mod Factors
-pub mod Totals
 pub mod TimerList
-pub mod Jump
 pub mod Passes
 pub mod Cells
 pub mod Playing

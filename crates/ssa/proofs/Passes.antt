@@ -19,7 +19,8 @@ use Rattle.rules.specs.Timers.{Timer, insert}
 use Rattle.rules.specs.Moves.{taking}
 use Rattle.rules.specs.Step.{Answer, refused, given, Starts, preceded, pass, nobody, unlessNone, passes}
 use Rattle.ssa.specs.declared.starts.Started.{Started}
-use Rattle.ssa.specs.Engine.{someAbove, StartsAre, full, done}
+use Rattle.engine.specs.Engine.{someAbove}
+use Rattle.ssa.specs.Starts.{StartsAre, full, done}
 
 -- these starts, and the counts and timers that they leave
 abbrev pub left : List ℕ → Marking → List Timer → Answer Starts

@@ -28,10 +28,10 @@ use Rattle.ssa.specs.declared.PathEnd.{PathEnd}
 use Rattle.ssa.specs.declared.PathEnd.the-variants.{Quiet, Spent, Reached, Refused}
 use Rattle.ssa.specs.declared.PathAnswer.{PathAnswer}
 use Rattle.ssa.specs.declared.run.Walked.{Walked}
-use Rattle.ssa.specs.Cells.{reachedBy, Stay, tableOf, cleared}
+use Rattle.ssa.specs.Cells.{reachedBy, Stay, tableOf, cleared, ShownUntil, ShownBy, NotShown}
 use Rattle.ssa.specs.Path.{Call, callOf, played, endOf}
 use Rattle.ssa.specs.declared.step.Ending.the-variants as Ending
-use Rattle.ssa.specs.Stepping.{ShownBy, ShownUntil, NotShown, StepBy, goesOn, quiet as no-more, reached as passed, starting, putting}
+use Rattle.ssa.specs.Stepping.{StepBy, goesOn, quiet as no-more, reached as passed, starting, putting}
 use Rattle.ssa.specs.Playing.{Listed, WalkBy, refuses, ends, settledAt}
 use Rattle.ssa.proofs.Cells.{shown-table, cleared-stay}
 

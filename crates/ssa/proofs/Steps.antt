@@ -27,10 +27,12 @@ use Rattle.ssa.specs.declared.starts.Started.{Started}
 use Rattle.ssa.specs.declared.step.Ending.the-variants.{GoesOn, Reached, Refused}
 use Rattle.ssa.specs.declared.step.Due.{Due}
 use Rattle.ssa.specs.declared.step.Due.the-variants.{Nothing, Race, Completion, Full}
-use Rattle.ssa.specs.Engine.{marking, timers, timerOf, Counts, PutBy, StartsAre, full, done, Totalled}
+use Rattle.engine.specs.Engine.{marking, Counts, PutBy, Totalled}
+use Rattle.ssa.specs.TimerArrays.{timers, timerOf}
+use Rattle.ssa.specs.Starts.{StartsAre, full, done}
 use Rattle.ssa.specs.Stepping as Stepping
 use Rattle.ssa.specs.Stepping.{stateOf, AdvancedBy, EventBy, happens, tooLarge, StepBy}
-use Rattle.ssa.proofs.Marks.{fit-all}
+use Rattle.engine.proofs.Marks.{fit-all}
 use Rattle.ssa.proofs.TimerList.{length-timers}
 
 -- ---- the transition of a number

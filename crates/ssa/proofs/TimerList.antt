@@ -11,8 +11,8 @@ use lib.ListN.{length, getD, set, length-set}
 use lib.Seq.{getD-set-same, getD-set-other}
 use lib.Ieee.{Float, nan, lt}
 use Rattle.rules.specs.Timers.{Timer, insert, first, others}
-use Rattle.ssa.specs.Engine.{timersFrom, timers}
-use Rattle.ssa.specs.Moved.{MovedUp}
+use Rattle.jump.specs.Answers.{Told}
+use Rattle.ssa.specs.TimerArrays.{timersFrom, timers, MovedUp}
 
 -- ---- one list
 
@@ -126,6 +126,11 @@ cons-is e f = cc
 pub length-timers : (ats : List Float) (whos : List ℕ) (i n : ℕ) → length (timersFrom ats whos i n) ≡ n
 length-timers ats whos i zero = refl
 length-timers ats whos i (suc n) = ap suc (length-timers ats whos (suc i) n)
+
+-- what the crate jump is told of them
+pub told : (ats : List Float) (whos : List ℕ) (n : ℕ) → Told (timers ats whos n) n (getD ats 0 nan)
+told ats whos zero = record { many = refl; leads = λ h. absurd (omega (arith, h)) }
+told ats whos (suc n) = record { many = length-timers ats whos 0 (suc n); leads = λ h. refl }
 
 module _ (ats : List Float) (whos : List ℕ) (ats′ : List Float) (whos′ : List ℕ) where
   -- the same timers, one place further up

@@ -1,7 +1,5 @@
-pub mod Engine
-pub mod Arcs
-pub mod Limits
-pub mod Moved
+pub mod TimerArrays
+pub mod Starts
 pub mod Cells
 pub mod Stepping
 pub mod Path

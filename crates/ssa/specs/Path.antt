@@ -1,6 +1,6 @@
 -- The path call: its answer and what it leaves in the table. Document 01, "000", "Added" and "Each operation's turn-downs: Path".
 use Prim.Native.Nat.{ℕ, _*_}
-use mathlib.Core.Bool.{Bool, true, false}
+use mathlib.Core.Bool.{Bool}
 use mathlib.Core.List.{List}
 use mathlib.Core.Option.{Option, none, some}
 use lib.Dec.{leb}

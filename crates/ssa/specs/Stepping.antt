@@ -1,30 +1,25 @@
 -- What a step of the program is, in the rules' words. The rules of a step are in the crate rules (Step, Run); nothing here adds to them.
-use Prim.Native.Nat.{ℕ, zero, suc, _+_, _≤_, _<_, max}
+use Prim.Native.Nat.{ℕ, _≤_, _<_}
 use mathlib.Core.Path.{_≡_}
 use mathlib.Core.Bool.{Bool, true, false}
-use mathlib.Core.List.{List, [], _∷_}
-use lib.Dec.{eqb}
-use lib.ListN.{length, drop, take}
+use mathlib.Core.List.{List}
+use lib.ListN.{length, take}
 use lib.Ieee.{Float, lt}
 use Rattle.refusals.specs as Refusal
 use Rattle.net.specs.declared.Net.{Net as NetRecord}
-use Rattle.net.specs.Net.{Marking, pick}
 use Rattle.net.specs.Readable.{readable}
-use Rattle.rng.specs.State.{State as Generator, words}
-use Rattle.rules.specs.Propensity.{propensities, total}
+use Rattle.rng.specs.State.{words}
 use Rattle.rules.specs.Timers.{Timer}
 use Rattle.rules.specs.Step as Rule
 use Rattle.rules.specs.Step.{State, state, Answer, refused, given, Event, Step, still, sets}
-use Rattle.rules.specs.Shown.{sumOf}
-use Rattle.ssa.specs.declared.step.Now.{Now}
 use Rattle.ssa.specs.declared.step.Ending.{Ending}
 use Rattle.ssa.specs.declared.step.Ending.the-variants.{GoesOn, Quiet, Reached, Refused}
 use Rattle.ssa.specs.declared.step.Advanced.{Advanced}
 use Rattle.ssa.specs.declared.step.Due.{Due}
 use Rattle.ssa.specs.declared.step.Due.the-variants.{Nothing, Race, Completion, Full}
-use Rattle.ssa.specs.Engine.{Tidy, Counts, marking, timers}
-use Rattle.ssa.specs.Limits.{Limits}
-use Rattle.ssa.specs.Cells.{reachedBy, Filled}
+use Rattle.engine.specs.Engine.{Tidy, Counts, marking}
+use Rattle.ssa.specs.TimerArrays.{timers}
+use Rattle.engine.specs.Limits.{Limits}
 
 -- the arrays of a run are as long as they should be, and hold what they should
 pub record Ready (n : NetRecord) (limit tokens : List ℕ) (times : List Float) (owners : List ℕ) (running : ℕ) : Type 0 where
@@ -51,23 +46,6 @@ pub data AdvancedBy (n : NetRecord) (spec : Answer Step) (before u : State) (pro
 pub data EventBy (spec : Answer Event) (u : State) : Bool → Type 0 where
   happens : (e : Event) → spec ≡ given e → e .leaves ≡ u → EventBy spec u true
   tooLarge : spec ≡ refused Refusal.countTooLarge → EventBy spec u false
-
--- the instants from `from` to before `to` are shown with the counts m, and the largest sum so far is now most′
-pub record ShownUntil (places n : ℕ) (m : Marking) (from to most most′ : ℕ) (before after : List Float) : Type 0 where
-  pub cells : Filled places n from to m before after
-  pub peak : most′ ≡ pick (eqb to from) most (max most (sumOf m))
-
--- the instants that the clock has reached and that were not shown yet are shown with the counts m
-pub record ShownBy (places : ℕ) (xs : List Float) (clock : Float) (m : Marking) (next next′ most most′ : ℕ) (before after : List Float) : Type 0 where
-  pub up-to : next′ ≡ next + reachedBy clock (drop next xs)
-  pub cells : Filled places (length xs) next next′ m before after
-  pub peak : most′ ≡ pick (eqb next′ next) most (max most (sumOf m))
-
--- nothing was shown
-pub record NotShown (i i′ most most′ : ℕ) (before after : List Float) : Type 0 where
-  pub next : i′ ≡ i
-  pub peak : most′ ≡ most
-  pub table : after ≡ before
 
 -- A whole step from the state `before`. u is the state at its clock reading, whose counts are shown; s is the state that it leaves: where nothing
 -- is left, the state before, and nothing was shown.

@@ -21,8 +21,8 @@ use Rattle.ssa.specs.declared.members.Turn.{Turn}
 use Rattle.ssa.specs.declared.members.Turn.the-variants as Turn
 use Rattle.ssa.specs.declared.members.Summed.{Summed}
 use Rattle.ssa.specs.declared.members.Summed.the-variants as Summed
-use Rattle.ssa.specs.Engine.{Tidy, anyTimed}
-use Rattle.ssa.specs.Limits.{Limits}
+use Rattle.engine.specs.Engine.{Tidy, anyTimed}
+use Rattle.engine.specs.Limits.{Limits}
 use Rattle.ssa.specs.Cells.{tableOf, cleared}
 use Rattle.ssa.specs.Ensemble.{oneIfSpent, spentOf, cellsOf, lastShown}
 

@@ -7,14 +7,16 @@ ghost use Prim.Native.Nat.{ℕ, _*_, _^_, _<_, _≤_};
 ghost use lib.ListN.{length, getD};
 ghost use lib.Ieee.{Float, binary64, ofBits, le};
 ghost use Rattle.net.specs.Readable as Record;
+ghost use Rattle.net.specs.Record.{lent};
+ghost use Rattle.net.specs.declared.Net.{Net as NetRecord};
 ghost use Rattle.rng.specs.State as Random;
 ghost use Rattle.rules.specs.Shown as Shown;
-ghost use Rattle.ssa.specs.Engine as Engine;
+ghost use Rattle.engine.specs.Engine as Engine;
 ghost use Rattle.ssa.specs.Path as Path;
 use crate::PathAnswer;
 use crate::PathEnd;
 use crate::run;
-use crate::slots;
+use engine::slots;
 use net::Net;
 use rng::Xoshiro256;
 
@@ -100,12 +102,12 @@ fn lent_path<'a>(
     generator: Xoshiro256,
     table: &mut [f64],
 ) -> PathAnswer
-    requires { ⌜ Engine.Tidy (Engine.netOf places transitions (now initial) (now capacity) (now rate) (now delay) (now arcs) (now kind) (now place) (now weight))
-        × ((p : ℕ) → p < places → getD (now initial) p 0 ≤ 2 ^ 53) × (Shown.instantsFit (now instants) ≡ true)
+    ghost { NetRecord }
+    requires { λ net. ⌜ lent places transitions (now initial) (now capacity) (now rate) (now delay) (now arcs) (now kind) (now place) (now weight) ≡ net ⌝ }
+    requires { λ net. ⌜ Engine.Tidy net × ((p : ℕ) → p < places → getD (now initial) p 0 ≤ 2 ^ 53) × (Shown.instantsFit (now instants) ≡ true)
         × (places * length (now instants) ≤ length (now table)) ⌝ }
-    ensures { λ r. ⌜ Path.callOf r (now (table .exit)) ≡ Path.played places (length (now (instants .entry))) (Random.words (generator .s)) (now (table .entry))
-        (Shown.worked (Record.readable (Engine.netOf places transitions (now (initial .entry)) (now (capacity .entry)) (now (rate .entry)) (now (delay .entry))
-        (now (arcs .entry)) (now (kind .entry)) (now (place .entry)) (now (weight .entry)))) (Random.words (generator .s)) (now (instants .entry)) steps) ⌝ }
+    ensures { λ net r. ⌜ Path.callOf r (now (table .exit)) ≡ Path.played places (length (now (instants .entry))) (Random.words (generator .s))
+        (now (table .entry)) (Shown.worked (Record.readable net) (Random.words (generator .s)) (now (instants .entry)) steps) ⌝ }
 {
     let mut limit = [0u64; 1024];
     slots::fill_limits(

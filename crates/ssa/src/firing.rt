@@ -4,13 +4,13 @@ ghost use Prim.Native.Nat.{_-_, _<_};
 ghost use lib.ListN.{length};
 ghost use lib.ListN as ListN;
 ghost use Rattle.net.specs.Readable as Record;
+ghost use Rattle.net.specs.Record.{lent};
+ghost use Rattle.net.specs.declared.Net.{Net as NetRecord};
 ghost use Rattle.rules.specs.Step as Rule;
-ghost use Rattle.ssa.specs.Engine as Engine;
 ghost use Rattle.ssa.specs.Stepping as Stepping;
-use crate::event;
-use crate::event::Choice;
-use crate::marking;
 use crate::timers;
+use engine::marking;
+use jump::Choice;
 use rng::Xoshiro256;
 
 // A completion puts the outputs of the first timer's transition and ends the timer. False where a count would pass 2^53.
@@ -33,14 +33,13 @@ pub fn complete<'a>(
     clock: f64,
     rng: Xoshiro256,
 ) -> bool
-    requires { ⌜ (Stepping.Ready (Engine.netOf places transitions (now initial) (now capacity) (now rate) (now delay) (now arcs) (now kind) (now place) (now weight)) (now limit) (now counts) (now ats) (now whos) running) × (0 < running) ⌝ }
-    ensures is { λ r. ⌜ Stepping.EventBy (Rule.complete (Record.readable (Engine.netOf places transitions (now (initial .entry)) (now (capacity .entry)) (now (rate .entry)) (now (delay .entry))
-        (now (arcs .entry)) (now (kind .entry)) (now (place .entry)) (now (weight .entry)))) (Stepping.stateOf (Engine.netOf places transitions (now (initial .entry)) (now (capacity .entry)) (now (rate .entry)) (now (delay .entry))
-        (now (arcs .entry)) (now (kind .entry)) (now (place .entry)) (now (weight .entry))) (now (counts .entry)) (now (ats .entry)) (now (whos .entry)) running clock (rng .s)))
-        (Stepping.stateOf (Engine.netOf places transitions (now (initial .entry)) (now (capacity .entry)) (now (rate .entry)) (now (delay .entry))
-        (now (arcs .entry)) (now (kind .entry)) (now (place .entry)) (now (weight .entry))) (now (counts .exit)) (now (ats .exit)) (now (whos .exit)) (running - 1) clock (rng .s)) r ⌝ }
-    ensures ready { λ r. ⌜ Stepping.Ready (Engine.netOf places transitions (now (initial .entry)) (now (capacity .entry)) (now (rate .entry)) (now (delay .entry))
-        (now (arcs .entry)) (now (kind .entry)) (now (place .entry)) (now (weight .entry))) (now (limit .entry)) (now (counts .exit)) (now (ats .exit)) (now (whos .exit)) (running - 1) ⌝ }
+    ghost { NetRecord }
+    requires { λ net. ⌜ lent places transitions (now initial) (now capacity) (now rate) (now delay) (now arcs) (now kind) (now place) (now weight) ≡ net ⌝ }
+    requires { λ net. ⌜ Stepping.Ready net (now limit) (now counts) (now ats) (now whos) running × (0 < running) ⌝ }
+    ensures is { λ net r. ⌜ Stepping.EventBy
+        (Rule.complete (Record.readable net) (Stepping.stateOf net (now (counts .entry)) (now (ats .entry)) (now (whos .entry)) running clock (rng .s)))
+        (Stepping.stateOf net (now (counts .exit)) (now (ats .exit)) (now (whos .exit)) (running - 1) clock (rng .s)) r ⌝ }
+    ensures ready { λ net _. ⌜ Stepping.Ready net (now (limit .entry)) (now (counts .exit)) (now (ats .exit)) (now (whos .exit)) (running - 1) ⌝ }
 {
     let x = timers::first(ats, whos, running);
     timers::remove_first(ats, whos, running);
@@ -79,19 +78,19 @@ pub fn race<'a>(
     a0: f64,
     rng: Xoshiro256,
 ) -> Fired
-    requires { ⌜ (Stepping.Ready (Engine.netOf places transitions (now initial) (now capacity) (now rate) (now delay) (now arcs) (now kind) (now place) (now weight)) (now limit) (now counts) (now ats) (now whos) running) × (length (now props) ≡ 64) ⌝ }
-    ensures is { λ r. ⌜ Stepping.EventBy (Rule.raced (Record.readable (Engine.netOf places transitions (now (initial .entry)) (now (capacity .entry)) (now (rate .entry)) (now (delay .entry))
-        (now (arcs .entry)) (now (kind .entry)) (now (place .entry)) (now (weight .entry)))) (Stepping.stateOf (Engine.netOf places transitions (now (initial .entry)) (now (capacity .entry)) (now (rate .entry)) (now (delay .entry))
-        (now (arcs .entry)) (now (kind .entry)) (now (place .entry)) (now (weight .entry))) (now (counts .entry)) (now (ats .entry)) (now (whos .entry)) running clock (rng .s)) a0
+    ghost { NetRecord }
+    requires { λ net. ⌜ lent places transitions (now initial) (now capacity) (now rate) (now delay) (now arcs) (now kind) (now place) (now weight) ≡ net ⌝ }
+    requires { λ net. ⌜ Stepping.Ready net (now limit) (now counts) (now ats) (now whos) running × (length (now props) ≡ 64) ⌝ }
+    ensures is { λ net r. ⌜ Stepping.EventBy
+        (Rule.raced (Record.readable net) (Stepping.stateOf net (now (counts .entry)) (now (ats .entry)) (now (whos .entry)) running clock (rng .s)) a0
         (ListN.take transitions (now (props .entry))))
-        (Stepping.stateOf (Engine.netOf places transitions (now (initial .entry)) (now (capacity .entry)) (now (rate .entry)) (now (delay .entry))
-        (now (arcs .entry)) (now (kind .entry)) (now (place .entry)) (now (weight .entry))) (now (counts .exit)) (now (ats .entry)) (now (whos .entry)) running clock (r .rng .s)) (r .fits) ⌝ }
-    ensures ready { λ r. ⌜ Stepping.Ready (Engine.netOf places transitions (now (initial .entry)) (now (capacity .entry)) (now (rate .entry)) (now (delay .entry))
-        (now (arcs .entry)) (now (kind .entry)) (now (place .entry)) (now (weight .entry))) (now (limit .entry)) (now (counts .exit)) (now (ats .entry)) (now (whos .entry)) running ⌝ }
+        (Stepping.stateOf net (now (counts .exit)) (now (ats .entry)) (now (whos .entry)) running clock (r .rng .s)) (r .fits) ⌝ }
+    ensures ready { λ net _. ⌜ Stepping.Ready net (now (limit .entry)) (now (counts .exit)) (now (ats .entry)) (now (whos .entry)) running ⌝ }
 {
     let d = rng.uniform();
     let g = d.rng;
-    let chosen = event::choose(transitions, props, d.value * a0);
+    let all: &[f64] = props;
+    let chosen = jump::choose(&all[..transitions], d.value * a0);
     match chosen {
         Choice::Nobody => Fired { rng: g, fits: true },
         Choice::Chosen(j) => {

@@ -1,12 +1,9 @@
-// A path of a stochastic Petri net, drawn from a generator's state.
+// Paths of a stochastic Petri net: one path, drawn from a generator's state, and the averages over an ensemble of paths.
 mod accept;
-mod event;
 mod firing;
-mod marking;
 mod members;
-mod record;
 mod run;
-mod slots;
+mod shown;
 mod starts;
 mod step;
 mod timers;

@@ -7,24 +7,26 @@ ghost use lib.Dec.{eqb};
 ghost use lib.ListN.{length, getD};
 ghost use Rattle.net.specs.Net.{pick};
 ghost use Rattle.net.specs.Readable as Record;
+ghost use Rattle.net.specs.Record.{lent};
+ghost use Rattle.net.specs.declared.Net.{Net as NetRecord};
 ghost use Rattle.rng.specs.Splitmix as Seeding;
 ghost use Rattle.rules.specs.Propensity.{float};
 ghost use Rattle.averages.specs.Front as Front;
 ghost use Rattle.averages.specs.Moments as Moments;
 ghost use Rattle.averages.specs.Request as Request;
+ghost use Rattle.engine.specs.Engine as Engine;
 ghost use Rattle.ssa.specs.Cells as Cells;
-ghost use Rattle.ssa.specs.Engine as Engine;
 ghost use Rattle.ssa.specs.Ensemble as Ensemble;
 ghost use Rattle.ssa.specs.Path as Path;
 ghost use Rattle.ssa.specs.Summing as Summing;
 use crate::EnsembleAnswer;
 use crate::PathAnswer;
 use crate::PathEnd;
-use crate::record;
 use crate::run;
-use crate::slots;
+use crate::shown;
 use averages::moments;
 use averages::request;
+use engine::slots;
 use net::Net;
 use rng::Xoshiro256;
 
@@ -63,11 +65,11 @@ fn one_path<'a>(
     k: u64,
     path: &mut [f64],
 ) -> PathAnswer
-    requires { ⌜ Summing.Lent (Engine.netOf places transitions (now initial) (now capacity) (now rate) (now delay) (now arcs) (now kind) (now place) (now weight)) (now limit) timed (now instants)
-        × (places * length (now instants) ≤ length (now path)) ⌝ }
-    ensures { λ r. ⌜ Path.callOf r (now (path .exit)) ≡ Path.played places (length (now (instants .entry))) (Seeding.seeded (Request.seedOf seed k)) (now (path .entry))
-        (Summing.drawn (Record.readable (Engine.netOf places transitions (now (initial .entry)) (now (capacity .entry)) (now (rate .entry)) (now (delay .entry))
-        (now (arcs .entry)) (now (kind .entry)) (now (place .entry)) (now (weight .entry)))) seed (now (instants .entry)) steps k) ⌝ }
+    ghost { NetRecord }
+    requires { λ net. ⌜ lent places transitions (now initial) (now capacity) (now rate) (now delay) (now arcs) (now kind) (now place) (now weight) ≡ net ⌝ }
+    requires { λ net. ⌜ Summing.Lent net (now limit) timed (now instants) × (places * length (now instants) ≤ length (now path)) ⌝ }
+    ensures { λ net r. ⌜ Path.callOf r (now (path .exit)) ≡ Path.played places (length (now (instants .entry))) (Seeding.seeded (Request.seedOf seed k))
+        (now (path .entry)) (Summing.drawn (Record.readable net) seed (now (instants .entry)) steps k) ⌝ }
 {
     let mut counts = slots::first_counts(places, initial);
     let rng = Xoshiro256::new(request::seed_of(seed, k));
@@ -127,10 +129,10 @@ fn member_turn<'a>(
     deviation: &mut [f64],
     path: &mut [f64],
 ) -> Turn
-    requires { ⌜ Summing.Lent (Engine.netOf places transitions (now initial) (now capacity) (now rate) (now delay) (now arcs) (now kind) (now place) (now weight)) (now limit) timed (now instants)
-        × (places * length (now instants) ≤ length (now path)) × (spent < 65_535) ⌝ }
-    ensures { λ r. ⌜ Summing.TurnBy (Summing.drawn (Record.readable (Engine.netOf places transitions (now (initial .entry)) (now (capacity .entry)) (now (rate .entry)) (now (delay .entry))
-        (now (arcs .entry)) (now (kind .entry)) (now (place .entry)) (now (weight .entry)))) seed (now (instants .entry)) steps k) places (length (now (instants .entry))) spent
+    ghost { NetRecord }
+    requires { λ net. ⌜ lent places transitions (now initial) (now capacity) (now rate) (now delay) (now arcs) (now kind) (now place) (now weight) ≡ net ⌝ }
+    requires { λ net. ⌜ Summing.Lent net (now limit) timed (now instants) × (places * length (now instants) ≤ length (now path)) × (spent < 65_535) ⌝ }
+    ensures { λ net r. ⌜ Summing.TurnBy (Summing.drawn (Record.readable net) seed (now (instants .entry)) steps k) places (length (now (instants .entry))) spent
         (now (mean .entry)) (now (mean .exit)) (now (deviation .entry)) (now (deviation .exit)) (now (path .entry)) (now (path .exit)) r ⌝ }
 {
     let r = one_path(
@@ -185,11 +187,13 @@ fn sum_paths<'a>(
     deviation: &mut [f64],
     path: &mut [f64],
 ) -> Summed
-    requires { ⌜ Summing.Lent (Engine.netOf places transitions (now initial) (now capacity) (now rate) (now delay) (now arcs) (now kind) (now place) (now weight)) (now limit) timed (now instants)
-        × (realizations ≤ 65_535) × (places * length (now instants) ≤ length (now path))
-        × (now mean ≡ Cells.cleared (places * length (now instants)) (now mean)) × (now deviation ≡ Cells.cleared (places * length (now instants)) (now deviation)) ⌝ }
-    ensures { λ r. ⌜ Summing.SummedBy (Summing.pathsFrom (Summing.drawn (Record.readable (Engine.netOf places transitions (now (initial .entry)) (now (capacity .entry)) (now (rate .entry)) (now (delay .entry))
-        (now (arcs .entry)) (now (kind .entry)) (now (place .entry)) (now (weight .entry)))) seed (now (instants .entry)) steps) 0 realizations) places (length (now (instants .entry))) realizations
+    ghost { NetRecord }
+    requires { λ net. ⌜ lent places transitions (now initial) (now capacity) (now rate) (now delay) (now arcs) (now kind) (now place) (now weight) ≡ net ⌝ }
+    requires { λ net. ⌜ Summing.Lent net (now limit) timed (now instants) × (realizations ≤ 65_535) × (places * length (now instants) ≤ length (now path))
+        × (now mean ≡ Cells.cleared (places * length (now instants)) (now mean))
+        × (now deviation ≡ Cells.cleared (places * length (now instants)) (now deviation)) ⌝ }
+    ensures { λ net r. ⌜ Summing.SummedBy (Summing.pathsFrom (Summing.drawn (Record.readable net) seed (now (instants .entry)) steps) 0 realizations)
+        places (length (now (instants .entry))) realizations
         (now (mean .entry)) (now (mean .exit)) (now (deviation .entry)) (now (deviation .exit)) (now (path .entry)) (now (path .exit)) r ⌝ }
 {
     let mut spent: u64 = 0;
@@ -237,7 +241,7 @@ fn finish(cells: usize, realizations: u64, mean: &mut [f64], deviation: &mut [f6
     let n = realizations as f64;
     moments::to_means(cells, n, mean);
     if realizations == 1 {
-        record::clear(deviation, cells);
+        shown::clear(deviation, cells);
         return false;
     }
     moments::to_deviations(cells, n, mean, deviation);
@@ -267,16 +271,18 @@ fn averaged<'a>(
     deviation: &mut [f64],
     path: &mut [f64],
 ) -> EnsembleAnswer
-    requires { ⌜ Summing.Lent (Engine.netOf places transitions (now initial) (now capacity) (now rate) (now delay) (now arcs) (now kind) (now place) (now weight)) (now limit) timed (now instants)
-        × (realizations ≤ 65_535) × (places * length (now instants) ≤ length (now mean)) × (places * length (now instants) ≤ length (now deviation)) × (places * length (now instants) ≤ length (now path)) ⌝ }
-    ensures { λ r. ⌜ Ensemble.callOf r (now (mean .exit)) (now (deviation .exit)) (now (path .exit)) ≡ Ensemble.tabulated places (length (now (instants .entry)))
+    ghost { NetRecord }
+    requires { λ net. ⌜ lent places transitions (now initial) (now capacity) (now rate) (now delay) (now arcs) (now kind) (now place) (now weight) ≡ net ⌝ }
+    requires { λ net. ⌜ Summing.Lent net (now limit) timed (now instants) × (realizations ≤ 65_535) × (places * length (now instants) ≤ length (now mean))
+        × (places * length (now instants) ≤ length (now deviation)) × (places * length (now instants) ≤ length (now path)) ⌝ }
+    ensures { λ net r. ⌜ Ensemble.callOf r (now (mean .exit)) (now (deviation .exit)) (now (path .exit))
+        ≡ Ensemble.tabulated places (length (now (instants .entry)))
         (record { mean = now (mean .entry); deviation = now (deviation .entry); path = now (path .entry) })
-        (Summing.pathsFrom (Summing.drawn (Record.readable (Engine.netOf places transitions (now (initial .entry)) (now (capacity .entry)) (now (rate .entry)) (now (delay .entry))
-        (now (arcs .entry)) (now (kind .entry)) (now (place .entry)) (now (weight .entry)))) seed (now (instants .entry)) steps) 0 realizations) ⌝ }
+        (Summing.pathsFrom (Summing.drawn (Record.readable net) seed (now (instants .entry)) steps) 0 realizations) ⌝ }
 {
     let cells = places * instants.len();
-    record::clear(mean, cells);
-    record::clear(deviation, cells);
+    shown::clear(mean, cells);
+    shown::clear(deviation, cells);
     let s = sum_paths(
         places,
         transitions,
@@ -300,8 +306,8 @@ fn averaged<'a>(
     );
     match s {
         Summed::Stopped(c, k) => {
-            record::clear(mean, cells);
-            record::clear(deviation, cells);
+            shown::clear(mean, cells);
+            shown::clear(deviation, cells);
             EnsembleAnswer::Stopped(c, k)
         }
         Summed::Done(spent) => {
@@ -312,7 +318,7 @@ fn averaged<'a>(
 }
 
 // The ensemble over the tidy net whose fields are lent: the tables that a call makes once, then its paths.
-fn lent<'a>(
+fn lent_ensemble<'a>(
     places: usize,
     transitions: usize,
     initial: &'a [u64; 32],
@@ -331,14 +337,14 @@ fn lent<'a>(
     deviation: &mut [f64],
     path: &mut [f64],
 ) -> EnsembleAnswer
-    requires { ⌜ Engine.Tidy (Engine.netOf places transitions (now initial) (now capacity) (now rate) (now delay) (now arcs) (now kind) (now place) (now weight))
-        × ((p : ℕ) → p < places → getD (now initial) p 0 ≤ 2 ^ 53)
+    ghost { NetRecord }
+    requires { λ net. ⌜ lent places transitions (now initial) (now capacity) (now rate) (now delay) (now arcs) (now kind) (now place) (now weight) ≡ net ⌝ }
+    requires { λ net. ⌜ Engine.Tidy net × ((p : ℕ) → p < places → getD (now initial) p 0 ≤ 2 ^ 53)
         × (Request.requestFault (record { samples = samples; realizations = realizations; seed = seed; horizon = horizon }) ≡ none)
         × (places * samples ≤ length (now mean)) × (places * samples ≤ length (now deviation)) × (places * samples ≤ length (now path)) ⌝ }
-    ensures { λ r. ⌜ Ensemble.callOf r (now (mean .exit)) (now (deviation .exit)) (now (path .exit)) ≡ Ensemble.tabulated places samples
-        (record { mean = now (mean .entry); deviation = now (deviation .entry); path = now (path .entry) })
-        (Ensemble.membersFrom (Record.readable (Engine.netOf places transitions (now (initial .entry)) (now (capacity .entry)) (now (rate .entry)) (now (delay .entry))
-        (now (arcs .entry)) (now (kind .entry)) (now (place .entry)) (now (weight .entry)))) (record { samples = samples; realizations = realizations; seed = seed; horizon = horizon }) 0 realizations) ⌝ }
+    ensures { λ net r. ⌜ Ensemble.callOf r (now (mean .exit)) (now (deviation .exit)) (now (path .exit))
+        ≡ Ensemble.tabulated places samples (record { mean = now (mean .entry); deviation = now (deviation .entry); path = now (path .entry) })
+        (Ensemble.membersFrom (Record.readable net) (record { samples = samples; realizations = realizations; seed = seed; horizon = horizon }) 0 realizations) ⌝ }
 {
     let mut limit = [0u64; 1024];
     slots::fill_limits(
@@ -400,7 +406,7 @@ pub fn accepted(
         (Ensemble.membersFrom (Record.readable net) (record { samples = samples; realizations = realizations; seed = seed; horizon = horizon }) 0 realizations) ⌝ }
 {
     let n = slots::tidied(net);
-    lent(
+    lent_ensemble(
         n.places,
         n.transitions,
         &n.initial,

@@ -6,19 +6,21 @@ ghost use lib.ListN.{length};
 ghost use lib.ListN as ListN;
 ghost use Rattle.net.specs.Net as Net;
 ghost use Rattle.net.specs.Readable as Record;
+ghost use Rattle.net.specs.Record.{lent};
+ghost use Rattle.net.specs.declared.Net.{Net as NetRecord};
 ghost use Rattle.rng.specs.State as Random;
 ghost use Rattle.rules.specs.Moves as Moves;
 ghost use Rattle.rules.specs.Shown as Shown;
 ghost use Rattle.rules.proofs.Play as Play;
+ghost use Rattle.engine.specs.Engine as Engine;
+ghost use Rattle.engine.specs.Limits as Limits;
 ghost use Rattle.ssa.specs.Cells as Cells;
-ghost use Rattle.ssa.specs.Engine as Engine;
-ghost use Rattle.ssa.specs.Limits as Limits;
 ghost use Rattle.ssa.specs.Stepping as Stepping;
 ghost use Rattle.ssa.specs.Playing as Playing;
 ghost use Rattle.ssa.specs.Path as Path;
 use crate::PathAnswer;
 use crate::PathEnd;
-use crate::record;
+use crate::shown;
 use crate::step;
 use crate::step::Ending;
 use crate::step::Now;
@@ -57,18 +59,18 @@ fn take_steps<'a>(
     steps: u64,
     s: Now,
 ) -> Walked
-    requires { ⌜ (Stepping.Ready (Engine.netOf places transitions (now initial) (now capacity) (now rate) (now delay) (now arcs) (now kind) (now place) (now weight)) (now limit) (now counts) (now ats) (now whos) (s .timers)) × (timed ≡ Engine.anyTimed transitions (now delay)) × (length (now props) ≡ 64)
-        × (s .next ≤ length (now instants)) × (length (now instants) ≤ 1024) × (places * length (now instants) ≤ length (now table)) ⌝ }
-    ensures is { λ r. ⌜ Playing.WalkBy
-        (Play.play (Record.readable (Engine.netOf places transitions (now (initial .entry)) (now (capacity .entry)) (now (rate .entry)) (now (delay .entry))
-        (now (arcs .entry)) (now (kind .entry)) (now (place .entry)) (now (weight .entry)))) last steps (ListN.drop (s .next) (now (instants .entry)))
-        (Stepping.stateOf (Engine.netOf places transitions (now (initial .entry)) (now (capacity .entry)) (now (rate .entry)) (now (delay .entry))
-        (now (arcs .entry)) (now (kind .entry)) (now (place .entry)) (now (weight .entry))) (now (counts .entry)) (now (ats .entry)) (now (whos .entry)) (s .timers) (s .clock) (s .rng .s)))
-        (now (instants .entry))
-        (Engine.marking places (now (counts .exit)))
+    ghost { NetRecord }
+    requires { λ net. ⌜ lent places transitions (now initial) (now capacity) (now rate) (now delay) (now arcs) (now kind) (now place) (now weight) ≡ net ⌝ }
+    requires { λ net. ⌜ Stepping.Ready net (now limit) (now counts) (now ats) (now whos) (s .timers) × (timed ≡ Engine.anyTimed transitions (now delay))
+        × (length (now props) ≡ 64) × (s .next ≤ length (now instants)) × (length (now instants) ≤ 1024)
+        × (places * length (now instants) ≤ length (now table)) ⌝ }
+    ensures is { λ net r. ⌜ Playing.WalkBy
+        (Play.play (Record.readable net) last steps (ListN.drop (s .next) (now (instants .entry)))
+        (Stepping.stateOf net (now (counts .entry)) (now (ats .entry)) (now (whos .entry)) (s .timers) (s .clock) (s .rng .s)))
+        (now (instants .entry)) (Engine.marking places (now (counts .exit)))
         (λ sh. Playing.Listed places (length (now (instants .entry))) (s .next) (r .next) (s .peak) (r .peak) sh (now (table .entry)) (now (table .exit)))
         r (r .end) ⌝ }
-    ensures kept { λ r. ⌜ (Engine.Counts (now (counts .exit))) × (length (now (table .exit)) ≡ length (now (table .entry)))
+    ensures kept { λ _ _. ⌜ Engine.Counts (now (counts .exit)) × (length (now (table .exit)) ≡ length (now (table .entry)))
         × Cells.Stay places (length (now (instants .entry))) (now (table .entry)) (now (table .exit)) ⌝ }
 {
     let mut at = s;
@@ -189,20 +191,21 @@ pub fn play<'a>(
     rng: Xoshiro256,
     table: &mut [f64],
 ) -> PathAnswer
-    requires { ⌜ (Engine.Tidy (Engine.netOf places transitions (now initial) (now capacity) (now rate) (now delay) (now arcs) (now kind) (now place) (now weight))) × (Limits.Limits (Engine.netOf places transitions (now initial) (now capacity) (now rate) (now delay) (now arcs) (now kind) (now place) (now weight)) (now limit)) × (Engine.Counts (now counts))
-        × (Engine.marking places (now counts) ≡ Moves.initialCounts (Record.readable (Engine.netOf places transitions (now initial) (now capacity) (now rate) (now delay) (now arcs) (now kind) (now place) (now weight))))
-        × (timed ≡ Engine.anyTimed transitions (now delay)) × (0 < length (now instants)) × (length (now instants) ≤ 1024)
-        × (Shown.rising Net.zero64 (now instants) ≡ true) × (places * length (now instants) ≤ length (now table)) ⌝ }
-    ensures { λ r. ⌜ Path.callOf r (now (table .exit)) ≡ Path.played places (length (now (instants .entry))) (Random.words (rng .s)) (now (table .entry))
-        (Shown.worked (Record.readable (Engine.netOf places transitions (now (initial .entry)) (now (capacity .entry)) (now (rate .entry)) (now (delay .entry))
-        (now (arcs .entry)) (now (kind .entry)) (now (place .entry)) (now (weight .entry)))) (Random.words (rng .s)) (now (instants .entry)) steps) ⌝ }
+    ghost { NetRecord }
+    requires { λ net. ⌜ lent places transitions (now initial) (now capacity) (now rate) (now delay) (now arcs) (now kind) (now place) (now weight) ≡ net ⌝ }
+    requires { λ net. ⌜ Engine.Tidy net × Limits.Limits net (now limit) × Engine.Counts (now counts)
+        × (Engine.marking places (now counts) ≡ Moves.initialCounts (Record.readable net)) × (timed ≡ Engine.anyTimed transitions (now delay))
+        × (0 < length (now instants)) × (length (now instants) ≤ 1024) × (Shown.rising Net.zero64 (now instants) ≡ true)
+        × (places * length (now instants) ≤ length (now table)) ⌝ }
+    ensures { λ net r. ⌜ Path.callOf r (now (table .exit)) ≡ Path.played places (length (now (instants .entry))) (Random.words (rng .s)) (now (table .entry))
+        (Shown.worked (Record.readable net) (Random.words (rng .s)) (now (instants .entry)) steps) ⌝ }
 {
     let mut ats = [0.0; 256];
     let mut whos = [0; 256];
     let mut props = [0.0; 64];
     let n = instants.len();
     let last = instants[n - 1];
-    let seen = step::show(instants, table, counts, places, 0.0, 0, 0);
+    let seen = shown::show(instants, table, counts, places, 0.0, 0, 0);
     let s = Now {
         clock: 0.0,
         timers: 0,
@@ -235,7 +238,7 @@ pub fn play<'a>(
     );
     let end = w.end;
     if let PathEnd::Refused(c) = end {
-        record::clear(table, places * n);
+        shown::clear(table, places * n);
         return PathAnswer {
             end: PathEnd::Refused(c),
             steps: 0,
@@ -246,7 +249,7 @@ pub fn play<'a>(
     }
     let next = w.next;
     let g = w.rng;
-    let peak = step::show_until(table, counts, places, n, next, n, w.peak);
+    let peak = shown::show_until(table, counts, places, n, next, n, w.peak);
     PathAnswer {
         end: end,
         steps: w.steps,

@@ -1,16 +1,19 @@
 // The starts of delayed transitions, in passes.
 ghost use mathlib.Core.Path.{_≡_};
 ghost use mathlib.Core.Bool.{true, false};
-ghost use mathlib.Core.List.{List, [], _∷_};
-ghost use Prim.Native.Nat.{ℕ, _+_, _*_, _^_, _<_, _≤_};
-ghost use lib.ListN.{length};
+ghost use mathlib.Core.List.{[], _∷_};
+ghost use Prim.Native.Nat.{_+_, _<_};
 ghost use Rattle.net.specs.Readable as Record;
+ghost use Rattle.net.specs.Record.{lent};
+ghost use Rattle.net.specs.declared.Net.{Net as NetRecord};
 ghost use Rattle.rules.specs.Step as Rule;
-ghost use Rattle.ssa.specs.Engine as Engine;
+ghost use Rattle.engine.specs.Engine as Engine;
+ghost use Rattle.ssa.specs.Starts as Starts;
+ghost use Rattle.ssa.specs.TimerArrays as TimerArrays;
 ghost use Rattle.ssa.specs.Stepping as Stepping;
-use crate::marking;
 use crate::timers;
 use crate::timers::Timer;
+use engine::marking;
 
 // How many timers run now, whether one has started, and whether one could not since 256 ran already.
 pub struct Started {
@@ -39,14 +42,14 @@ fn try_start<'a>(
     t: f64,
     j: usize,
 ) -> Started
-    requires { ⌜ (j < transitions) × Stepping.Ready (Engine.netOf places transitions (now initial) (now capacity) (now rate) (now delay) (now arcs) (now kind) (now place) (now weight)) (now limit) (now counts) (now ats) (now whos) n ⌝ }
-    ensures is { λ r. ⌜ Engine.StartsAre (Rule.pass (Record.readable (Engine.netOf places transitions (now (initial .entry)) (now (capacity .entry)) (now (rate .entry)) (now (delay .entry))
-        (now (arcs .entry)) (now (kind .entry)) (now (place .entry)) (now (weight .entry)))) t j (Record.transition (Engine.netOf places transitions (now (initial .entry)) (now (capacity .entry)) (now (rate .entry)) (now (delay .entry))
-        (now (arcs .entry)) (now (kind .entry)) (now (place .entry)) (now (weight .entry))) j ∷ [])
-        (Engine.marking places (now (counts .entry))) (Engine.timers (now (ats .entry)) (now (whos .entry)) n))
-        (Engine.marking places (now (counts .exit))) (Engine.timers (now (ats .exit)) (now (whos .exit)) (r .timers)) r ⌝ }
-    ensures ready { λ r. ⌜ Stepping.Ready (Engine.netOf places transitions (now (initial .entry)) (now (capacity .entry)) (now (rate .entry)) (now (delay .entry))
-        (now (arcs .entry)) (now (kind .entry)) (now (place .entry)) (now (weight .entry))) (now (limit .entry)) (now (counts .exit)) (now (ats .exit)) (now (whos .exit)) (r .timers) ⌝ }
+    ghost { NetRecord }
+    requires { λ net. ⌜ lent places transitions (now initial) (now capacity) (now rate) (now delay) (now arcs) (now kind) (now place) (now weight) ≡ net ⌝ }
+    requires { λ net. ⌜ (j < transitions) × Stepping.Ready net (now limit) (now counts) (now ats) (now whos) n ⌝ }
+    ensures is { λ net r. ⌜ Starts.StartsAre
+        (Rule.pass (Record.readable net) t j (Record.transition net j ∷ [])
+        (Engine.marking places (now (counts .entry))) (TimerArrays.timers (now (ats .entry)) (now (whos .entry)) n))
+        (Engine.marking places (now (counts .exit))) (TimerArrays.timers (now (ats .exit)) (now (whos .exit)) (r .timers)) r ⌝ }
+    ensures ready { λ net r. ⌜ Stepping.Ready net (now (limit .entry)) (now (counts .exit)) (now (ats .exit)) (now (whos .exit)) (r .timers) ⌝ }
 {
     let d = delay[j];
     if 0.0 < d {
@@ -107,14 +110,14 @@ fn pass<'a>(
     n: usize,
     t: f64,
 ) -> Started
-    requires { ⌜ Stepping.Ready (Engine.netOf places transitions (now initial) (now capacity) (now rate) (now delay) (now arcs) (now kind) (now place) (now weight)) (now limit) (now counts) (now ats) (now whos) n ⌝ }
-    ensures is { λ r. ⌜ Engine.StartsAre (Rule.pass (Record.readable (Engine.netOf places transitions (now (initial .entry)) (now (capacity .entry)) (now (rate .entry)) (now (delay .entry))
-        (now (arcs .entry)) (now (kind .entry)) (now (place .entry)) (now (weight .entry)))) t 0 (Record.readable (Engine.netOf places transitions (now (initial .entry)) (now (capacity .entry)) (now (rate .entry)) (now (delay .entry))
-        (now (arcs .entry)) (now (kind .entry)) (now (place .entry)) (now (weight .entry))) .transitions)
-        (Engine.marking places (now (counts .entry))) (Engine.timers (now (ats .entry)) (now (whos .entry)) n))
-        (Engine.marking places (now (counts .exit))) (Engine.timers (now (ats .exit)) (now (whos .exit)) (r .timers)) r ⌝ }
-    ensures ready { λ r. ⌜ Stepping.Ready (Engine.netOf places transitions (now (initial .entry)) (now (capacity .entry)) (now (rate .entry)) (now (delay .entry))
-        (now (arcs .entry)) (now (kind .entry)) (now (place .entry)) (now (weight .entry))) (now (limit .entry)) (now (counts .exit)) (now (ats .exit)) (now (whos .exit)) (r .timers) ⌝ }
+    ghost { NetRecord }
+    requires { λ net. ⌜ lent places transitions (now initial) (now capacity) (now rate) (now delay) (now arcs) (now kind) (now place) (now weight) ≡ net ⌝ }
+    requires { λ net. ⌜ Stepping.Ready net (now limit) (now counts) (now ats) (now whos) n ⌝ }
+    ensures is { λ net r. ⌜ Starts.StartsAre
+        (Rule.pass (Record.readable net) t 0 (Record.readable net .transitions)
+        (Engine.marking places (now (counts .entry))) (TimerArrays.timers (now (ats .entry)) (now (whos .entry)) n))
+        (Engine.marking places (now (counts .exit))) (TimerArrays.timers (now (ats .exit)) (now (whos .exit)) (r .timers)) r ⌝ }
+    ensures ready { λ net r. ⌜ Stepping.Ready net (now (limit .entry)) (now (counts .exit)) (now (ats .exit)) (now (whos .exit)) (r .timers) ⌝ }
 {
     let mut k = n;
     let mut any = false;
@@ -173,13 +176,13 @@ pub fn start_all<'a>(
     n: usize,
     t: f64,
 ) -> Started
-    requires { ⌜ (Stepping.Ready (Engine.netOf places transitions (now initial) (now capacity) (now rate) (now delay) (now arcs) (now kind) (now place) (now weight)) (now limit) (now counts) (now ats) (now whos) n) × (timed ≡ Engine.anyTimed transitions (now delay)) ⌝ }
-    ensures is { λ r. ⌜ Engine.StartsAre (Rule.passes 257 (Record.readable (Engine.netOf places transitions (now (initial .entry)) (now (capacity .entry)) (now (rate .entry)) (now (delay .entry))
-        (now (arcs .entry)) (now (kind .entry)) (now (place .entry)) (now (weight .entry)))) t
-        (Engine.marking places (now (counts .entry))) (Engine.timers (now (ats .entry)) (now (whos .entry)) n))
-        (Engine.marking places (now (counts .exit))) (Engine.timers (now (ats .exit)) (now (whos .exit)) (r .timers)) r ⌝ }
-    ensures ready { λ r. ⌜ Stepping.Ready (Engine.netOf places transitions (now (initial .entry)) (now (capacity .entry)) (now (rate .entry)) (now (delay .entry))
-        (now (arcs .entry)) (now (kind .entry)) (now (place .entry)) (now (weight .entry))) (now (limit .entry)) (now (counts .exit)) (now (ats .exit)) (now (whos .exit)) (r .timers) ⌝ }
+    ghost { NetRecord }
+    requires { λ net. ⌜ lent places transitions (now initial) (now capacity) (now rate) (now delay) (now arcs) (now kind) (now place) (now weight) ≡ net ⌝ }
+    requires { λ net. ⌜ Stepping.Ready net (now limit) (now counts) (now ats) (now whos) n × (timed ≡ Engine.anyTimed transitions (now delay)) ⌝ }
+    ensures is { λ net r. ⌜ Starts.StartsAre
+        (Rule.passes 257 (Record.readable net) t (Engine.marking places (now (counts .entry))) (TimerArrays.timers (now (ats .entry)) (now (whos .entry)) n))
+        (Engine.marking places (now (counts .exit))) (TimerArrays.timers (now (ats .exit)) (now (whos .exit)) (r .timers)) r ⌝ }
+    ensures ready { λ net r. ⌜ Stepping.Ready net (now (limit .entry)) (now (counts .exit)) (now (ats .exit)) (now (whos .exit)) (r .timers) ⌝ }
 {
     if !timed {
         return Started {

@@ -3,16 +3,17 @@ ghost use mathlib.Core.Path.{_≡_};
 ghost use Prim.Native.Nat.{_*_, _≤_};
 ghost use lib.ListN.{length};
 ghost use Rattle.net.specs.Readable as Record;
+ghost use Rattle.net.specs.Record.{lent};
+ghost use Rattle.net.specs.declared.Net.{Net as NetRecord};
 ghost use Rattle.rules.specs.Step as Rule;
+ghost use Rattle.engine.specs.Engine as Engine;
 ghost use Rattle.ssa.specs.Cells as Cells;
-ghost use Rattle.ssa.specs.Engine as Engine;
 ghost use Rattle.ssa.specs.Stepping as Stepping;
-use crate::event;
-use crate::event::Next;
 use crate::firing;
-use crate::marking;
-use crate::record;
+use crate::shown;
 use crate::starts;
+use engine::marking;
+use jump::Next;
 use rng::Xoshiro256;
 
 // What a step begins with and leaves, beside the counts and the timers themselves: how many timers run, how many instants have been shown,
@@ -77,19 +78,16 @@ fn advance<'a>(
     t: f64,
     rng: Xoshiro256,
 ) -> Advanced
-    requires { ⌜ (Stepping.Ready (Engine.netOf places transitions (now initial) (now capacity) (now rate) (now delay) (now arcs) (now kind) (now place) (now weight)) (now limit) (now counts) (now ats) (now whos) running) × (timed ≡ Engine.anyTimed transitions (now delay)) × (length (now props) ≡ 64) ⌝ }
-    ensures is { λ r. ⌜ Stepping.AdvancedBy (Engine.netOf places transitions (now (initial .entry)) (now (capacity .entry)) (now (rate .entry)) (now (delay .entry))
-        (now (arcs .entry)) (now (kind .entry)) (now (place .entry)) (now (weight .entry)))
-        (Rule.step (Record.readable (Engine.netOf places transitions (now (initial .entry)) (now (capacity .entry)) (now (rate .entry)) (now (delay .entry))
-        (now (arcs .entry)) (now (kind .entry)) (now (place .entry)) (now (weight .entry)))) (Stepping.stateOf (Engine.netOf places transitions (now (initial .entry)) (now (capacity .entry)) (now (rate .entry)) (now (delay .entry))
-        (now (arcs .entry)) (now (kind .entry)) (now (place .entry)) (now (weight .entry))) (now (counts .entry)) (now (ats .entry)) (now (whos .entry)) running t (rng .s)))
-        (Stepping.stateOf (Engine.netOf places transitions (now (initial .entry)) (now (capacity .entry)) (now (rate .entry)) (now (delay .entry))
-        (now (arcs .entry)) (now (kind .entry)) (now (place .entry)) (now (weight .entry))) (now (counts .entry)) (now (ats .entry)) (now (whos .entry)) running t (rng .s))
-        (Stepping.stateOf (Engine.netOf places transitions (now (initial .entry)) (now (capacity .entry)) (now (rate .entry)) (now (delay .entry))
-        (now (arcs .entry)) (now (kind .entry)) (now (place .entry)) (now (weight .entry))) (now (counts .exit)) (now (ats .exit)) (now (whos .exit)) (r .timers) (r .clock) (r .rng .s))
+    ghost { NetRecord }
+    requires { λ net. ⌜ lent places transitions (now initial) (now capacity) (now rate) (now delay) (now arcs) (now kind) (now place) (now weight) ≡ net ⌝ }
+    requires { λ net. ⌜ Stepping.Ready net (now limit) (now counts) (now ats) (now whos) running × (timed ≡ Engine.anyTimed transitions (now delay))
+        × (length (now props) ≡ 64) ⌝ }
+    ensures is { λ net r. let before = Stepping.stateOf net (now (counts .entry)) (now (ats .entry)) (now (whos .entry)) running t (rng .s) in
+        ⌜ Stepping.AdvancedBy net (Rule.step (Record.readable net) before) before
+        (Stepping.stateOf net (now (counts .exit)) (now (ats .exit)) (now (whos .exit)) (r .timers) (r .clock) (r .rng .s))
         (now (props .exit)) (r .a0) (r .due) ⌝ }
-    ensures ready { λ r. ⌜ (Stepping.Ready (Engine.netOf places transitions (now (initial .entry)) (now (capacity .entry)) (now (rate .entry)) (now (delay .entry))
-        (now (arcs .entry)) (now (kind .entry)) (now (place .entry)) (now (weight .entry))) (now (limit .entry)) (now (counts .exit)) (now (ats .exit)) (now (whos .exit)) (r .timers)) × (length (now (props .exit)) ≡ 64) ⌝ }
+    ensures ready { λ net r. ⌜ Stepping.Ready net (now (limit .entry)) (now (counts .exit)) (now (ats .exit)) (now (whos .exit)) (r .timers)
+        × (length (now (props .exit)) ≡ 64) ⌝ }
 {
     let s = starts::start_all(
         places,
@@ -135,10 +133,10 @@ fn advance<'a>(
         counts,
         props,
     );
-    let w = event::waiting(a0, rng);
+    let w = jump::waiting(a0, rng);
     let dt = w.dt;
     let g = w.rng;
-    let what = event::next_event(a0, t, dt, ats, whos, n);
+    let what = jump::next_event(a0, t, dt, n, ats[0]);
     match what {
         Next::Nothing => Advanced {
             due: Due::Nothing,
@@ -161,57 +159,6 @@ fn advance<'a>(
             a0: a0,
             rng: g,
         },
-    }
-}
-
-// Shows the counts at the instants from next to before `to`, and answers with the largest sum so far.
-pub fn show_until(
-    table: &mut [f64],
-    counts: &[u64; 32],
-    places: usize,
-    n: usize,
-    next: usize,
-    to: usize,
-    peak: u64,
-) -> u64
-    requires { ⌜ (places ≤ 32) × (next ≤ to) × (to ≤ n) × (n ≤ 1024) × (places * n ≤ length (now table)) × Engine.Counts (now counts) ⌝ }
-    ensures { λ r. ⌜ Stepping.ShownUntil places n (Engine.marking places (now (counts .entry))) next to peak r (now (table .entry)) (now (table .exit)) ⌝ }
-{
-    if to == next {
-        return peak;
-    }
-    record::fill(table, counts, places, n, next, to);
-    let sum = record::sum(counts, places);
-    if peak < sum {
-        return sum;
-    }
-    peak
-}
-
-pub struct Seen {
-    pub next: usize,
-    pub peak: u64,
-}
-
-// Shows the counts at every instant that the clock has reached and that has not been shown.
-pub fn show(
-    instants: &[f64],
-    table: &mut [f64],
-    counts: &[u64; 32],
-    places: usize,
-    clock: f64,
-    next: usize,
-    peak: u64,
-) -> Seen
-    requires { ⌜ (places ≤ 32) × (next ≤ length (now instants)) × (length (now instants) ≤ 1024) × (places * length (now instants) ≤ length (now table)) × Engine.Counts (now counts) ⌝ }
-    ensures { λ r. ⌜ Stepping.ShownBy places (now (instants .entry)) clock (Engine.marking places (now (counts .entry))) next (r .next) peak (r .peak) (now (table .entry)) (now (table .exit)) ⌝ }
-{
-    let to = record::reached(instants, clock, next);
-    let n = instants.len();
-    let most = show_until(table, counts, places, n, next, to, peak);
-    Seen {
-        next: to,
-        peak: most,
     }
 }
 
@@ -238,22 +185,20 @@ pub fn one_step<'a>(
     table: &mut [f64],
     s: Now,
 ) -> Stepped
-    requires { ⌜ (Stepping.Ready (Engine.netOf places transitions (now initial) (now capacity) (now rate) (now delay) (now arcs) (now kind) (now place) (now weight)) (now limit) (now counts) (now ats) (now whos) (s .timers)) × (timed ≡ Engine.anyTimed transitions (now delay)) × (length (now props) ≡ 64)
-        × (s .next ≤ length (now instants)) × (length (now instants) ≤ 1024) × (places * length (now instants) ≤ length (now table)) ⌝ }
-    ensures is { λ r. ⌜ Stepping.StepBy
-        (Rule.step (Record.readable (Engine.netOf places transitions (now (initial .entry)) (now (capacity .entry)) (now (rate .entry)) (now (delay .entry))
-        (now (arcs .entry)) (now (kind .entry)) (now (place .entry)) (now (weight .entry)))) (Stepping.stateOf (Engine.netOf places transitions (now (initial .entry)) (now (capacity .entry)) (now (rate .entry)) (now (delay .entry))
-        (now (arcs .entry)) (now (kind .entry)) (now (place .entry)) (now (weight .entry))) (now (counts .entry)) (now (ats .entry)) (now (whos .entry)) (s .timers) (s .clock) (s .rng .s)))
-        (Stepping.stateOf (Engine.netOf places transitions (now (initial .entry)) (now (capacity .entry)) (now (rate .entry)) (now (delay .entry))
-        (now (arcs .entry)) (now (kind .entry)) (now (place .entry)) (now (weight .entry))) (now (counts .entry)) (now (ats .entry)) (now (whos .entry)) (s .timers) (s .clock) (s .rng .s))
-        last
-        (λ u. Stepping.ShownBy places (now (instants .entry)) (u .clock) (u .counts) (s .next) (r .now .next) (s .peak) (r .now .peak) (now (table .entry)) (now (table .exit)))
-        (Stepping.NotShown (s .next) (r .now .next) (s .peak) (r .now .peak) (now (table .entry)) (now (table .exit)))
-        (Stepping.stateOf (Engine.netOf places transitions (now (initial .entry)) (now (capacity .entry)) (now (rate .entry)) (now (delay .entry))
-        (now (arcs .entry)) (now (kind .entry)) (now (place .entry)) (now (weight .entry))) (now (counts .exit)) (now (ats .exit)) (now (whos .exit)) (r .now .timers) (r .now .clock) (r .now .rng .s))
+    ghost { NetRecord }
+    requires { λ net. ⌜ lent places transitions (now initial) (now capacity) (now rate) (now delay) (now arcs) (now kind) (now place) (now weight) ≡ net ⌝ }
+    requires { λ net. ⌜ Stepping.Ready net (now limit) (now counts) (now ats) (now whos) (s .timers) × (timed ≡ Engine.anyTimed transitions (now delay))
+        × (length (now props) ≡ 64) × (s .next ≤ length (now instants)) × (length (now instants) ≤ 1024)
+        × (places * length (now instants) ≤ length (now table)) ⌝ }
+    ensures is { λ net r. let before = Stepping.stateOf net (now (counts .entry)) (now (ats .entry)) (now (whos .entry)) (s .timers) (s .clock) (s .rng .s) in
+        ⌜ Stepping.StepBy (Rule.step (Record.readable net) before) before last
+        (λ u. Cells.ShownBy places (now (instants .entry)) (u .clock) (u .counts) (s .next) (r .now .next) (s .peak) (r .now .peak)
+        (now (table .entry)) (now (table .exit)))
+        (Cells.NotShown (s .next) (r .now .next) (s .peak) (r .now .peak) (now (table .entry)) (now (table .exit)))
+        (Stepping.stateOf net (now (counts .exit)) (now (ats .exit)) (now (whos .exit)) (r .now .timers) (r .now .clock) (r .now .rng .s))
         (r .ending) ⌝ }
-    ensures ready { λ r. ⌜ (Stepping.Ready (Engine.netOf places transitions (now (initial .entry)) (now (capacity .entry)) (now (rate .entry)) (now (delay .entry))
-        (now (arcs .entry)) (now (kind .entry)) (now (place .entry)) (now (weight .entry))) (now (limit .entry)) (now (counts .exit)) (now (ats .exit)) (now (whos .exit)) (r .now .timers)) × (length (now (props .exit)) ≡ 64) × (length (now (table .exit)) ≡ length (now (table .entry)))
+    ensures ready { λ net r. ⌜ Stepping.Ready net (now (limit .entry)) (now (counts .exit)) (now (ats .exit)) (now (whos .exit)) (r .now .timers)
+        × (length (now (props .exit)) ≡ 64) × (length (now (table .exit)) ≡ length (now (table .entry)))
         × Cells.Stay places (length (now (instants .entry))) (now (table .entry)) (now (table .exit)) ⌝ }
 {
     let t = s.clock;
@@ -311,7 +256,7 @@ pub fn one_step<'a>(
             }
         }
         Due::Race => {
-            let seen = show(instants, table, counts, places, clock, s.next, s.peak);
+            let seen = shown::show(instants, table, counts, places, clock, s.next, s.peak);
             if last < clock {
                 let now = Now {
                     clock: clock,
@@ -373,7 +318,7 @@ pub fn one_step<'a>(
             }
         }
         Due::Completion => {
-            let shown = show(instants, table, counts, places, clock, s.next, s.peak);
+            let shown = shown::show(instants, table, counts, places, clock, s.next, s.peak);
             if last < clock {
                 let now = Now {
                     clock: clock,

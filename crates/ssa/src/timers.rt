@@ -1,13 +1,12 @@
 // The running timers, in the order in which they leave: timer i is ats[i] with whos[i]. What the arrays hold is a list of timers
-// (specs/Engine, timers); only the functions of this file know how it is held.
+// (specs/TimerArrays); only the functions of this file know how it is held.
 ghost use mathlib.Core.Path.{_≡_};
 ghost use mathlib.Core.Bool.{true, false};
 ghost use Prim.Native.Nat.{ℕ, _+_, _-_, _<_, _≤_};
 ghost use lib.ListN.{length, getD};
 ghost use lib.Ieee as Ieee;
 ghost use Rattle.rules.specs.Timers as Timers;
-ghost use Rattle.ssa.specs.Engine as Engine;
-ghost use Rattle.ssa.specs.Moved.{MovedUp};
+ghost use Rattle.ssa.specs.TimerArrays as TimerArrays;
 
 // A running timer: its completion time with its transition's number.
 pub struct Timer {
@@ -34,7 +33,7 @@ fn position(ats: &[f64; 256], n: usize, at: f64) -> usize
 // Moves the timers from place i on one place up.
 fn make_room(ats: &mut [f64; 256], whos: &mut [usize; 256], i: usize, n: usize)
     requires { ⌜ (i ≤ n) × (n < 256) × (length (now ats) ≡ 256) × (length (now whos) ≡ 256) ⌝ }
-    ensures { λ _. ⌜ MovedUp Ieee.nan i n (now (ats .entry)) (now (ats .exit)) × MovedUp 0 i n (now (whos .entry)) (now (whos .exit)) ⌝ }
+    ensures { λ _. ⌜ TimerArrays.MovedUp Ieee.nan i n (now (ats .entry)) (now (ats .exit)) × TimerArrays.MovedUp 0 i n (now (whos .entry)) (now (whos .exit)) ⌝ }
 {
     let mut k = n;
     while i < k {
@@ -50,7 +49,7 @@ fn make_room(ats: &mut [f64; 256], whos: &mut [usize; 256], i: usize, n: usize)
 // A new timer goes in front of the first one that completes later, so behind its equals.
 pub fn insert(ats: &mut [f64; 256], whos: &mut [usize; 256], n: usize, x: Timer)
     requires { ⌜ (n < 256) × (length (now ats) ≡ 256) × (length (now whos) ≡ 256) ⌝ }
-    ensures { λ _. ⌜ (Engine.timers (now (ats .exit)) (now (whos .exit)) (n + 1) ≡ Timers.insert (Engine.timerOf x) (Engine.timers (now (ats .entry)) (now (whos .entry)) n))
+    ensures { λ _. ⌜ (TimerArrays.timers (now (ats .exit)) (now (whos .exit)) (n + 1) ≡ Timers.insert (TimerArrays.timerOf x) (TimerArrays.timers (now (ats .entry)) (now (whos .entry)) n))
         × (length (now (ats .exit)) ≡ 256) × (length (now (whos .exit)) ≡ 256) ⌝ }
 {
     let i = position(ats, n, x.at);
@@ -62,7 +61,7 @@ pub fn insert(ats: &mut [f64; 256], whos: &mut [usize; 256], n: usize, x: Timer)
 // The timer that leaves first.
 pub fn first<'a>(ats: &'a [f64; 256], whos: &'a [usize; 256], n: usize) -> Timer
     requires { ⌜ (0 < n) × (n ≤ 256) ⌝ }
-    ensures { λ r. ⌜ Engine.timerOf r ≡ Timers.first (Engine.timers (now (ats .entry)) (now (whos .entry)) n) ⌝ }
+    ensures { λ r. ⌜ TimerArrays.timerOf r ≡ Timers.first (TimerArrays.timers (now (ats .entry)) (now (whos .entry)) n) ⌝ }
 {
     Timer {
         at: ats[0],
@@ -73,7 +72,7 @@ pub fn first<'a>(ats: &'a [f64; 256], whos: &'a [usize; 256], n: usize) -> Timer
 // Removes it.
 pub fn remove_first(ats: &mut [f64; 256], whos: &mut [usize; 256], n: usize)
     requires { ⌜ (0 < n) × (n ≤ 256) × (length (now ats) ≡ 256) × (length (now whos) ≡ 256) ⌝ }
-    ensures { λ _. ⌜ (Engine.timers (now (ats .exit)) (now (whos .exit)) (n - 1) ≡ Timers.others (Engine.timers (now (ats .entry)) (now (whos .entry)) n))
+    ensures { λ _. ⌜ (TimerArrays.timers (now (ats .exit)) (now (whos .exit)) (n - 1) ≡ Timers.others (TimerArrays.timers (now (ats .entry)) (now (whos .entry)) n))
         × (length (now (ats .exit)) ≡ 256) × (length (now (whos .exit)) ≡ 256) ⌝ }
 {
     let last = n - 1;

@@ -1,8 +1,8 @@
 -- The tables that the run asks for are those that the calls before it make. Assumes nothing.
 use borrow.Author.Needs.{needs}
 use mathlib.Core.Path.{_∙_}
-use Rattle.ssa.specs.Engine.{netOf}
-use Rattle.ssa.proofs.Lists.{initial-is}
+use Rattle.net.specs.Record.{lent}
+use Rattle.engine.proofs.Lists.{initial-is}
 use Rattle.ssa.proofs.Accepted.{fitting}
 use Rattle.ssa.proofs.accept.lent_path.Statement.{statement}
 use Rattle.ssa.proofs.accept.lent_path.Tie as tie
@@ -25,7 +25,7 @@ play-requires c κs =
       s .pre .0,
       c .before .before .before .before .before .fill-limits .ensures,
       counts .1,
-      counts .0 ∙ initial-is (netOf (a .places) (a .transitions) (a .initial .now) (a .capacity .now) (a .rate .now) (a .delay .now) (a .arcs .now) (a .kind .now) (a .place .now) (a .weight .now)),
+      counts .0 ∙ initial-is (lent (a .places) (a .transitions) (a .initial .now) (a .capacity .now) (a .rate .now) (a .delay .now) (a .arcs .now) (a .kind .now) (a .place .now) (a .weight .now)),
       c .before .before .before .any-timed .ensures,
       f .some-instant,
       f .few,

@@ -4,7 +4,8 @@ use native.Mathlib.Omega.{arith}
 use mathlib.Core.List.{List}
 use Prim.Native.Nat.{ℕ, _-_}
 use Rattle.net.specs.declared.Net.{Net as NetRecord}
-use Rattle.ssa.specs.Engine.{netOf, Counts}
+use Rattle.net.specs.Record.{lent}
+use Rattle.engine.specs.Engine.{Counts}
 use Rattle.ssa.specs.Stepping.{Ready}
 use Rattle.ssa.proofs.Steps.{complete-at, complete-past}
 use Rattle.ssa.proofs.firing.complete.Statement.{statement}
@@ -12,7 +13,7 @@ use Rattle.ssa.proofs.firing.complete.Tie as tie
 
 abbrev net : tie.Start → NetRecord
 net s =
-    netOf (s .args .places) (s .args .transitions) (s .args .initial .now) (s .args .capacity .now) (s .args .rate .now) (s .args .delay .now) (s .args .arcs .now)
+    lent (s .args .places) (s .args .transitions) (s .args .initial .now) (s .args .capacity .now) (s .args .rate .now) (s .args .delay .now) (s .args .arcs .now)
     (s .args .kind .now) (s .args .place .now) (s .args .weight .now)
 
 abbrev start : tie.After-remove-first → tie.Start

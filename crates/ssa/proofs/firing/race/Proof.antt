@@ -1,12 +1,16 @@
 -- The draw and the choice are the rules'; the chosen transition takes and puts. Where none is chosen, or a number that no transition has, nothing happens.
 use borrow.Author.Needs.{needs}
+use native.Mathlib.Omega.{arith}
 use mathlib.Core.Path.{refl, sym, ap, _∙_}
 use mathlib.Core.List.{List}
 use mathlib.Core.Option.{some, none}
 use Prim.Native.Nat.{ℕ}
 use lib.ListN.{take}
+use lib.Seq.{length-take-le}
 use Rattle.net.specs.declared.Net.{Net as NetRecord}
-use Rattle.ssa.specs.Engine.{netOf, choiceOf, Counts}
+use Rattle.net.specs.Record.{lent}
+use Rattle.engine.specs.Engine.{Counts}
+use Rattle.jump.specs.Answers.{choiceOf}
 use Rattle.ssa.specs.Stepping.{Ready}
 use Rattle.ssa.proofs.Steps.{race-none, race-at, race-past}
 use Rattle.ssa.proofs.firing.race.Statement.{statement}
@@ -14,11 +18,16 @@ use Rattle.ssa.proofs.firing.race.Tie as tie
 
 abbrev net : tie.Start → NetRecord
 net s =
-    netOf (s .args .places) (s .args .transitions) (s .args .initial .now) (s .args .capacity .now) (s .args .rate .now) (s .args .delay .now) (s .args .arcs .now)
+    lent (s .args .places) (s .args .transitions) (s .args .initial .now) (s .args .capacity .now) (s .args .rate .now) (s .args .delay .now) (s .args .arcs .now)
     (s .args .kind .now) (s .args .place .now) (s .args .weight .now)
 
 uniform-requires : tie.Need-uniform-requires
 uniform-requires c κs = search needs
+
+slice-aggregate-choose : tie.Need-slice-aggregate-choose
+slice-aggregate-choose c =
+    let s = c .before .before .before .before in
+    sym (length-take-le (s .args .transitions) (s .args .props .now) (omega (arith, s .pre .0 .tidy .transitions, s .pre .1)))
 
 choose-requires : tie.Need-choose-requires
 choose-requires c κs = search needs
@@ -45,7 +54,7 @@ returns : tie.Need-returns
 returns c =
     let k = c .before .before .before .before .before .before in
     let e = k .before .before in
-    let d = e .before .before .before in
+    let d = e .before .before .before .before .before in
     let s = d .before in
     let a = s .args in
     let t = c .before .before .take in
@@ -61,7 +70,7 @@ returns c =
 returns-2 : tie.Need-returns-2
 returns-2 c =
     let e = c .before .before in
-    let d = e .before .before .before in
+    let d = e .before .before .before .before .before in
     let s = d .before in
     let a = s .args in (
       race-none (net s) (a .counts .now) (a .ats .now) (a .whos .now) (a .running) (a .clock) (a .a0) (a .rng .s) (d .uniform .result .rng .s)
@@ -74,7 +83,7 @@ returns-3 : tie.Need-returns-3
 returns-3 c =
     let k = c .before .before in
     let e = k .before .before in
-    let d = e .before .before .before in
+    let d = e .before .before .before .before .before in
     let s = d .before in
     let a = s .args in
     let j = k .chosen .given .0 .0 in (
@@ -89,6 +98,7 @@ race-spec =
     tie.close
     (tie.spec
     uniform-requires
+    slice-aggregate-choose
     choose-requires
     enum-told
     enum-known-chosen

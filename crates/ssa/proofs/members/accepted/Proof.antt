@@ -9,8 +9,8 @@ use Rattle.ssa.proofs.members.accepted.Tie as tie
 tidied-requires : tie.Need-tidied-requires
 tidied-requires c κs = search needs
 
-lent-requires : tie.Need-lent-requires
-lent-requires c κs =
+lent-ensemble-requires : tie.Need-lent-ensemble-requires
+lent-ensemble-requires c κs =
     let t = c .before .before .before .before .before .before .before .before .before .before .before .before .tidied in
     let s = c .before .before .before .before .before .before .before .before .before .before .before .before .before .before .before .before in
     let e = t .ensures in (
@@ -37,9 +37,9 @@ returns c =
     let a = c .before .before .before .before .before .before .before .before .before .before .before .before .before .before .before .before .before .before .before .before .before .before .before .args in
     let e = t .ensures in
     same-ensemble (t .result) (a .net) (record { samples = a .samples; realizations = a .realizations; seed = a .seed; horizon = a .horizon })
-    (record { mean = a .mean .now; deviation = a .deviation .now; path = a .path .now }) (e .2) (e .0) (c .before .before .before .before .before .before .lent .ensures)
+    (record { mean = a .mean .now; deviation = a .deviation .now; path = a .path .now }) (e .2) (e .0) (c .before .before .before .before .before .before .lent-ensemble .ensures)
 
 pub accepted-spec : {M : Type 1} → statement M
 accepted-spec =
     tie.close
-    (tie.spec tidied-requires lent-requires same-length same-length-2 same-length-3 returns)
+    (tie.spec tidied-requires lent-ensemble-requires same-length same-length-2 same-length-3 returns)

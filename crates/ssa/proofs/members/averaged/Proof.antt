@@ -3,7 +3,7 @@ use borrow.Author.Needs.{needs}
 use Prim.Native.Nat.{_*_}
 use lib.ListN.{length}
 use Rattle.net.specs.Readable.{readable}
-use Rattle.ssa.specs.Engine.{netOf}
+use Rattle.net.specs.Record.{lent}
 use Rattle.ssa.specs.Summing.{drawn, pathsFrom}
 use Rattle.ssa.proofs.Summing.{cleared-once, stopped-call, finished-call}
 use Rattle.ssa.proofs.members.averaged.Statement.{statement}
@@ -62,7 +62,7 @@ returns c =
     let m = c .before .before .before .before .before .before .before .before .before .before .before .before .before .before .before .before .before .before .before .before .before .before .before .before .before .before .before .clear in
     let d = c .before .before .before .before .before .before .before .before .before .before .before .before .before .before .before .before .before .before .before .before .before .before .before .clear2 in
     let a = c .before .before .before .before .before .before .before .before .before .before .before .before .before .before .before .before .before .before .before .before .before .before .before .before .before .before .before .before .before .before .before .before .before .args in
-    let net = readable (netOf (a .places) (a .transitions) (a .initial .now) (a .capacity .now) (a .rate .now) (a .delay .now) (a .arcs .now) (a .kind .now) (a .place .now) (a .weight .now)) in
+    let net = readable (lent (a .places) (a .transitions) (a .initial .now) (a .capacity .now) (a .rate .now) (a .delay .now) (a .arcs .now) (a .kind .now) (a .place .now) (a .weight .now)) in
     stopped-call (pathsFrom (drawn net (a .seed) (a .instants .now) (a .steps)) 0 (a .realizations)) (a .places) (length (a .instants .now)) (a .realizations) (a .mean .now) (a .deviation .now) (a .path .now)
     (m .last .0) (d .last .0) (p .last .1 .1 .1 .1 .1 .1 .1 .1 .1 .1 .1 .1 .1 .1 .1 .1 .0) (p .last .1 .1 .1 .1 .1 .1 .1 .1 .1 .1 .1 .1 .1 .1 .1 .1 .1 .0) (p .last .1 .1 .1 .1 .1 .1 .1 .1 .1 .1 .1 .1 .1 .1 .1 .1 .1 .1 .0) (m .ensures) (d .ensures)
     _ _ (c .before .before .before .before .before .before .clear3 .last .0) (c .before .before .clear4 .last .0) (p .result) (c .before .before .before .before .before .before .before .before .before .s .given .1) (p .ensures) (c .before .before .before .before .before .before .clear3 .ensures) (c .before .before .clear4 .ensures)
@@ -84,7 +84,7 @@ returns-2 c =
     let d = c .before .before .before .before .before .before .before .before .before .before .before .before .before .before .before .before .before .before .before .before .before .before .clear2 in
     let s = c .before .before .before .before .before .before .before .before .before .before .before .before .before .before .before .before .before .before .before .before .before .before .before .before .before .before .before .before .before .before .before .before in
     let a = s .args in
-    let net = readable (netOf (a .places) (a .transitions) (a .initial .now) (a .capacity .now) (a .rate .now) (a .delay .now) (a .arcs .now) (a .kind .now) (a .place .now) (a .weight .now)) in
+    let net = readable (lent (a .places) (a .transitions) (a .initial .now) (a .capacity .now) (a .rate .now) (a .delay .now) (a .arcs .now) (a .kind .now) (a .place .now) (a .weight .now)) in
     finished-call (pathsFrom (drawn net (a .seed) (a .instants .now) (a .steps)) 0 (a .realizations)) (a .places) (length (a .instants .now)) (a .realizations) (a .mean .now) (a .deviation .now) (a .path .now)
     (m .last .0) (d .last .0) (p .last .1 .1 .1 .1 .1 .1 .1 .1 .1 .1 .1 .1 .1 .1 .1 .1 .0) (p .last .1 .1 .1 .1 .1 .1 .1 .1 .1 .1 .1 .1 .1 .1 .1 .1 .1 .0) (p .last .1 .1 .1 .1 .1 .1 .1 .1 .1 .1 .1 .1 .1 .1 .1 .1 .1 .1 .0) (m .ensures) (d .ensures)
     _ (f .result) (f .last .1 .1 .0) (f .last .1 .1 .1 .0) (p .result) (c .before .before .before .before .before .before .before .before .s2 .given .1) (s .pre .3) (p .ensures) (f .ensures .0) (f .ensures .1) (f .ensures .2)

@@ -4,9 +4,9 @@ use native.Mathlib.Omega.{arith}
 use mathlib.Core.Path.{refl}
 use lib.ListN.{length}
 use Rattle.net.specs.Readable.{readable}
+use Rattle.net.specs.Record.{lent}
 use Rattle.rng.specs.Splitmix.{seeded}
 use Rattle.averages.specs.Request.{seedOf}
-use Rattle.ssa.specs.Engine.{netOf}
 use Rattle.ssa.specs.Summing.{drawn}
 use Rattle.ssa.proofs.Accepted.{fitting, cells-fit}
 use Rattle.ssa.proofs.Summing.{not-refused, one-by-spent, turn-stops, turn-goes}
@@ -26,7 +26,7 @@ returns : tie.Need-returns
 returns c =
     let p = c .before .before .before .before .before .one-path in
     let a = c .before .before .before .before .before .before .before .before .before .before .before .args in
-    let net = readable (netOf (a .places) (a .transitions) (a .initial .now) (a .capacity .now) (a .rate .now) (a .delay .now) (a .arcs .now) (a .kind .now) (a .place .now) (a .weight .now)) in
+    let net = readable (lent (a .places) (a .transitions) (a .initial .now) (a .capacity .now) (a .rate .now) (a .delay .now) (a .arcs .now) (a .kind .now) (a .place .now) (a .weight .now)) in
     let xs = a .instants .now in
     turn-stops (a .places) (length xs) (a .spent) (seeded (seedOf (a .seed) (a .k))) (a .mean .now) (a .mean .now) (a .deviation .now) (a .deviation .now) (a .path .now) (p .last .1 .1 .1 .1 .1 .1 .1 .1 .1 .1 .1 .1 .1 .1 .1 .1 .0) (p .result)
     (c .before .end .given .0 .0) (drawn net (a .seed) xs (a .steps) (a .k)) (p .ensures) (c .before .end .given .1) refl refl
@@ -63,7 +63,7 @@ returns-2 c =
     let m = c .before .before .before .before .before .before .before .before .add in
     let d = c .before .before .before .add-squares in
     let a = c .before .before .before .before .before .before .before .before .before .before .before .before .before .before .before .before .before .before .before .before .args in
-    let net = readable (netOf (a .places) (a .transitions) (a .initial .now) (a .capacity .now) (a .rate .now) (a .delay .now) (a .arcs .now) (a .kind .now) (a .place .now) (a .weight .now)) in
+    let net = readable (lent (a .places) (a .transitions) (a .initial .now) (a .capacity .now) (a .rate .now) (a .delay .now) (a .arcs .now) (a .kind .now) (a .place .now) (a .weight .now)) in
     let xs = a .instants .now in
     turn-goes (a .places) (length xs) (a .spent) (seeded (seedOf (a .seed) (a .k))) (a .mean .now) (m .last .1 .1 .0) (a .deviation .now) (d .last .1 .1 .0) (a .path .now) (p .last .1 .1 .1 .1 .1 .1 .1 .1 .1 .1 .1 .1 .1 .1 .1 .1 .0) (p .result)
     (c .one-if-spent .result) _ (drawn net (a .seed) xs (a .steps) (a .k)) (p .ensures) (not-refused (p .result .end) (c .before .before .before .before .before .before .before .before .before .before .before .match .keys2)) (c .one-if-spent .ensures) refl (m .ensures) (d .ensures)

@@ -2,10 +2,10 @@
 use borrow.Author.Needs.{needs}
 use mathlib.Core.Path.{ap, _∙_}
 use Rattle.net.specs.Readable.{readable}
+use Rattle.net.specs.Record.{lent}
 use Rattle.rng.specs.State.{words}
 use Rattle.rng.specs.Splitmix.{seeded}
-use Rattle.ssa.specs.Engine.{netOf}
-use Rattle.ssa.proofs.Lists.{initial-is}
+use Rattle.engine.proofs.Lists.{initial-is}
 use Rattle.ssa.proofs.Accepted.{fitting}
 use Rattle.ssa.proofs.Summing.{own-path}
 use Rattle.ssa.proofs.members.one_path.Statement.{statement}
@@ -30,7 +30,7 @@ play-requires c κs =
       l .tidy,
       l .limits,
       counts .1,
-      counts .0 ∙ initial-is (netOf (a .places) (a .transitions) (a .initial .now) (a .capacity .now) (a .rate .now) (a .delay .now) (a .arcs .now) (a .kind .now) (a .place .now) (a .weight .now)),
+      counts .0 ∙ initial-is (lent (a .places) (a .transitions) (a .initial .now) (a .capacity .now) (a .rate .now) (a .delay .now) (a .arcs .now) (a .kind .now) (a .place .now) (a .weight .now)),
       l .timers,
       f .some-instant,
       f .few,
@@ -44,7 +44,7 @@ same-length c = search needs
 returns : tie.Need-returns
 returns c =
     let a = c .before .before .before .before .before .before .before .before .before .before .args in
-    let net = readable (netOf (a .places) (a .transitions) (a .initial .now) (a .capacity .now) (a .rate .now) (a .delay .now) (a .arcs .now) (a .kind .now) (a .place .now) (a .weight .now)) in
+    let net = readable (lent (a .places) (a .transitions) (a .initial .now) (a .capacity .now) (a .rate .now) (a .delay .now) (a .arcs .now) (a .kind .now) (a .place .now) (a .weight .now)) in
     own-path net (a .seed) (a .k) (a .places) (a .instants .now) (a .path .now) (words (c .before .before .before .before .before .new .result .s)) (a .steps) (c .before .before .play .ensures)
     (c .before .before .before .before .before .new .ensures ∙ ap seeded (c .before .before .before .before .before .before .seed-of .ensures))
 

@@ -4,7 +4,7 @@ use native.Mathlib.Omega.{arith}
 use Prim.Native.Nat.{_-_}
 use lib.ListN.{length}
 use Rattle.net.specs.Readable.{readable}
-use Rattle.ssa.specs.Engine.{netOf}
+use Rattle.net.specs.Record.{lent}
 use Rattle.ssa.specs.Summing.{drawn}
 use Rattle.ssa.proofs.Summing.{SumsAt, drawn-count, none-added, one-added, one-refused, all-added}
 use Rattle.ssa.proofs.members.sum_paths.Statement.{statement}
@@ -12,7 +12,7 @@ use Rattle.ssa.proofs.members.sum_paths.Tie as tie
 
 abbrev Inv-loop : tie.InvT-loop
 Inv-loop places transitions initial capacity rate delay arcs kind place weight limit timed instants steps seed realizations mean₀ deviation₀ path₀ spent₀ k₀ mean deviation path spent k =
-    SumsAt (drawn (readable (netOf places transitions initial capacity rate delay arcs kind place weight)) seed instants steps) places (length instants) realizations k spent
+    SumsAt (drawn (readable (lent places transitions initial capacity rate delay arcs kind place weight)) seed instants steps) places (length instants) realizations k spent
     mean₀ mean deviation₀ deviation path₀ path
 
 abbrev μ-loop : tie.MeasureT-loop
@@ -23,7 +23,7 @@ loop-holds : tie.Need-loop-holds Inv-loop μ-loop
 loop-holds c =
     let s = c .before .before .before .before in
     let a = s .args in
-    let net = readable (netOf (a .places) (a .transitions) (a .initial .now) (a .capacity .now) (a .rate .now) (a .delay .now) (a .arcs .now) (a .kind .now) (a .place .now) (a .weight .now)) in
+    let net = readable (lent (a .places) (a .transitions) (a .initial .now) (a .capacity .now) (a .rate .now) (a .delay .now) (a .arcs .now) (a .kind .now) (a .place .now) (a .weight .now)) in
     none-added (drawn net (a .seed) (a .instants .now) (a .steps)) (a .places) (length (a .instants .now)) (a .realizations) (a .mean .now) (a .deviation .now) (a .path .now) (s .pre .3) (s .pre .4)
 
 add-next : tie.Need-add-next Inv-loop μ-loop
@@ -55,7 +55,7 @@ returns c =
     let t = c .before .before .before .before .before .before .before .before .before .member-turn in
     let l = c .before .before .before .before .before .before .before .before .before .before .before .before .before .before .loop in
     let a = c .before .before .before .before .before .before .before .before .before .before .before .before .before .before .before .before .before .before .before .args in
-    let net = readable (netOf (a .places) (a .transitions) (a .initial .now) (a .capacity .now) (a .rate .now) (a .delay .now) (a .arcs .now) (a .kind .now) (a .place .now) (a .weight .now)) in
+    let net = readable (lent (a .places) (a .transitions) (a .initial .now) (a .capacity .now) (a .rate .now) (a .delay .now) (a .arcs .now) (a .kind .now) (a .place .now) (a .weight .now)) in
     one-refused (drawn net (a .seed) (a .instants .now) (a .steps)) (a .places) (length (a .instants .now)) (a .realizations) (a .mean .now) (a .deviation .now) (a .path .now)
     (l .k) (l .spent) (l .mean) (l .deviation) (l .path) (l .inv) (c .before .before .before .before .before .before .before .before .before .before .before .before .before .loop-test .taken)
     (c .before .t2 .given .0 .0) (t .last .1 .1 .1 .1 .1 .1 .1 .1 .1 .1 .1 .1 .1 .1 .1 .1 .1 .0) (t .last .1 .1 .1 .1 .1 .1 .1 .1 .1 .1 .1 .1 .1 .1 .1 .1 .1 .1 .0) (t .last .1 .1 .1 .1 .1 .1 .1 .1 .1 .1 .1 .1 .1 .1 .1 .1 .1 .1 .1 .0) (t .result) (c .before .t2 .given .1) (t .ensures)
@@ -69,7 +69,7 @@ loop-again c =
     let l = c .before .before .before .before .before .before .before .before .before .before .before .before .before .before .loop in
     let s = c .before .before .before .before .before .before .before .before .before .before .before .before .before .before .before .before .before .before .before in
     let a = s .args in
-    let net = readable (netOf (a .places) (a .transitions) (a .initial .now) (a .capacity .now) (a .rate .now) (a .delay .now) (a .arcs .now) (a .kind .now) (a .place .now) (a .weight .now)) in
+    let net = readable (lent (a .places) (a .transitions) (a .initial .now) (a .capacity .now) (a .rate .now) (a .delay .now) (a .arcs .now) (a .kind .now) (a .place .now) (a .weight .now)) in
     one-added (drawn net (a .seed) (a .instants .now) (a .steps)) (a .places) (length (a .instants .now)) (a .realizations) (a .mean .now) (a .deviation .now) (a .path .now)
     (l .k) (l .spent) (l .mean) (l .deviation) (l .path) (l .inv) (c .before .before .before .before .before .before .before .before .before .before .before .before .before .loop-test .taken)
     (c .before .t .given .0 .0) (t .last .1 .1 .1 .1 .1 .1 .1 .1 .1 .1 .1 .1 .1 .1 .1 .1 .1 .0) (t .last .1 .1 .1 .1 .1 .1 .1 .1 .1 .1 .1 .1 .1 .1 .1 .1 .1 .1 .0) (t .last .1 .1 .1 .1 .1 .1 .1 .1 .1 .1 .1 .1 .1 .1 .1 .1 .1 .1 .1 .0) (s .pre .2) (drawn-count net (a .seed) (a .instants .now) (a .steps) (l .k)) (t .result) (c .before .t .given .1) (t .ensures)
@@ -87,7 +87,7 @@ returns-2 : tie.Need-returns-2 Inv-loop μ-loop
 returns-2 c =
     let l = c .before .loop in
     let a = c .before .before .before .before .before .before .args in
-    let net = readable (netOf (a .places) (a .transitions) (a .initial .now) (a .capacity .now) (a .rate .now) (a .delay .now) (a .arcs .now) (a .kind .now) (a .place .now) (a .weight .now)) in
+    let net = readable (lent (a .places) (a .transitions) (a .initial .now) (a .capacity .now) (a .rate .now) (a .delay .now) (a .arcs .now) (a .kind .now) (a .place .now) (a .weight .now)) in
     all-added (drawn net (a .seed) (a .instants .now) (a .steps)) (a .places) (length (a .instants .now)) (a .realizations) (a .mean .now) (a .deviation .now) (a .path .now)
     (l .k) (l .spent) (l .mean) (l .deviation) (l .path) (l .inv) (c .loop-test .left)
 

@@ -12,10 +12,11 @@ use Prim.Native.Nat.{_-_}
 use lib.ListN.{length, getD}
 use lib.Ieee.{nan}
 use Rattle.net.specs.Readable.{readable}
+use Rattle.net.specs.Record.{lent}
 use Rattle.rng.specs.State.{words}
 use Rattle.ssa.specs.declared.PathEnd.{PathEnd}
 use Rattle.ssa.specs.declared.PathEnd.the-variants.{Quiet, Spent, Reached, Refused}
-use Rattle.ssa.specs.Engine.{netOf, marking}
+use Rattle.engine.specs.Engine.{marking}
 use Rattle.ssa.proofs.PathEnd.{the-type}
 use Rattle.ssa.proofs.Playing.{shown-within, last-at, NotRefused, still-within, answered, refused-path}
 use Rattle.ssa.proofs.run.play.Statement.{statement}
@@ -75,7 +76,7 @@ returns c =
     let v = c .before .before .before .before .before .before .before .before .before .before .before .before .before .before .before .before .before .show in
     let a = c .before .before .before .before .before .before .before .before .before .before .before .before .before .before .before .before .before .before .before .before .before .before .before in
     let s = a .args in
-    refused-path (readable (netOf (s .places) (s .transitions) (s .initial .now) (s .capacity .now) (s .rate .now) (s .delay .now) (s .arcs .now) (s .kind .now) (s .place .now) (s .weight .now))) (words (s .rng .s)) (s .instants .now) (s .steps) (s .places) (v .result .next) (v .result .peak)
+    refused-path (readable (lent (s .places) (s .transitions) (s .initial .now) (s .capacity .now) (s .rate .now) (s .delay .now) (s .arcs .now) (s .kind .now) (s .place .now) (s .weight .now))) (words (s .rng .s)) (s .instants .now) (s .steps) (s .places) (v .result .next) (v .result .peak)
     (marking (s .places) (s .counts .now)) (getD (s .instants .now) (length (s .instants .now) - 1) nan) (s .table .now) (v .last .1 .0)
     (a .pre .7) (a .pre .3) (last-at (s .instants .now) (a .pre .5)) (v .ensures)
     (w .result) (marking (s .places) (w .last .1 .1 .1 .1 .1 .1 .1 .1 .1 .1 .1 .1 .0)) (w .last .1 .1 .1 .1 .1 .1 .1 .1 .1 .1 .1 .1 .1 .1 .1 .1 .1 .1 .0)
@@ -89,7 +90,7 @@ show-until-requires c κs =
     let v = c .before .before .before .before .before .before .before .before .before .before .before .before .before .before .show in
     let a = c .before .before .before .before .before .before .before .before .before .before .before .before .before .before .before .before .before .before .before .before in
     let s = a .args in
-    let h = still-within (readable (netOf (s .places) (s .transitions) (s .initial .now) (s .capacity .now) (s .rate .now) (s .delay .now) (s .arcs .now) (s .kind .now) (s .place .now) (s .weight .now))) (words (s .rng .s)) (s .instants .now) (s .steps) (s .places) (v .result .next) (v .result .peak)
+    let h = still-within (readable (lent (s .places) (s .transitions) (s .initial .now) (s .capacity .now) (s .rate .now) (s .delay .now) (s .arcs .now) (s .kind .now) (s .place .now) (s .weight .now))) (words (s .rng .s)) (s .instants .now) (s .steps) (s .places) (v .result .next) (v .result .peak)
     (marking (s .places) (s .counts .now)) (getD (s .instants .now) (length (s .instants .now) - 1) nan) (s .table .now) (v .last .1 .0)
     (a .pre .7) (a .pre .3) (last-at (s .instants .now) (a .pre .5)) (v .ensures)
     (w .result) (marking (s .places) (w .last .1 .1 .1 .1 .1 .1 .1 .1 .1 .1 .1 .1 .0)) (w .last .1 .1 .1 .1 .1 .1 .1 .1 .1 .1 .1 .1 .1 .1 .1 .1 .1 .1 .0) (w .result .end) (not-refused (w .result .end) (c .before .before .before .match .keys2)) (w .ensures .0) in
@@ -107,7 +108,7 @@ returns-2 c =
     let v = c .before .before .before .before .before .before .before .before .before .before .before .before .before .before .before .before .before .before .show in
     let a = c .before .before .before .before .before .before .before .before .before .before .before .before .before .before .before .before .before .before .before .before .before .before .before .before in
     let s = a .args in
-    answered (readable (netOf (s .places) (s .transitions) (s .initial .now) (s .capacity .now) (s .rate .now) (s .delay .now) (s .arcs .now) (s .kind .now) (s .place .now) (s .weight .now))) (words (s .rng .s)) (s .instants .now) (s .steps) (s .places) (v .result .next) (v .result .peak)
+    answered (readable (lent (s .places) (s .transitions) (s .initial .now) (s .capacity .now) (s .rate .now) (s .delay .now) (s .arcs .now) (s .kind .now) (s .place .now) (s .weight .now))) (words (s .rng .s)) (s .instants .now) (s .steps) (s .places) (v .result .next) (v .result .peak)
     (marking (s .places) (s .counts .now)) (getD (s .instants .now) (length (s .instants .now) - 1) nan) (s .table .now) (v .last .1 .0)
     (a .pre .7) (a .pre .3) (last-at (s .instants .now) (a .pre .5)) (v .ensures)
     (w .result) (marking (s .places) (w .last .1 .1 .1 .1 .1 .1 .1 .1 .1 .1 .1 .1 .0)) (w .last .1 .1 .1 .1 .1 .1 .1 .1 .1 .1 .1 .1 .1 .1 .1 .1 .1 .1 .0)

@@ -5,10 +5,10 @@ use mathlib.Core.Path.{_≡_, refl, _∙_}
 use Prim.Native.Nat.{suc, _+_, _-_, _≤_}
 use lib.ListN.{length, drop}
 use Rattle.net.specs.Readable.{readable}
+use Rattle.net.specs.Record.{lent}
 use Rattle.rules.proofs.Play.{play}
 use Rattle.ssa.specs.declared.PathEnd.the-variants.{Quiet, Spent, Reached, Refused}
 use Rattle.ssa.specs.declared.run.Walked.{Walked}
-use Rattle.ssa.specs.Engine.{netOf}
 use Rattle.ssa.specs.Stepping.{Ready, stateOf}
 use Rattle.ssa.proofs.Playing.{SoFar, so-far-none, at-last, at-limit, goes-on, past-last, nothing-left, turned-down}
 use Rattle.ssa.proofs.run.take_steps.Statement.{statement}
@@ -16,7 +16,7 @@ use Rattle.ssa.proofs.run.take_steps.Tie as tie
 
 abbrev Inv-loop : tie.InvT-loop
 Inv-loop places transitions initial capacity rate delay arcs kind place weight limit timed counts₀ ats₀ whos₀ props₀ instants last table₀ steps at₀ done₀ counts ats whos props table at done =
-    let net = netOf places transitions initial capacity rate delay arcs kind place weight in
+    let net = lent places transitions initial capacity rate delay arcs kind place weight in
     (done ≤ steps)
     × Ready net limit counts ats whos (at .timers)
     × (length props ≡ 64)

@@ -1,5 +1,4 @@
 -- What has started stands in front of the part of the pass from transition j on; a turn adds what transition j starts.
-use borrow.Author.Needs.{needs}
 use denote.Ref.{now}
 use native.Mathlib.Omega.{arith}
 use mathlib.Core.Path.{refl}
@@ -7,8 +6,10 @@ use mathlib.Core.List.{[]}
 use Prim.Native.Nat.{_+_, _-_, _≤_}
 use Rattle.net.specs.declared.Net.{Net as NetRecord}
 use Rattle.net.specs.Readable.{readable}
+use Rattle.net.specs.Record.{lent}
 use Rattle.rules.specs.Step as Rule
-use Rattle.ssa.specs.Engine.{netOf, marking, timers}
+use Rattle.engine.specs.Engine.{marking}
+use Rattle.ssa.specs.TimerArrays.{timers}
 use Rattle.ssa.specs.Stepping.{Ready}
 use Rattle.ssa.proofs.Passes.{SoFar, so-none, so-ended, turn-full, turned, passFrom, from-first, from-next, from-end}
 use Rattle.ssa.proofs.starts.pass.Statement.{statement}
@@ -16,7 +17,7 @@ use Rattle.ssa.proofs.starts.pass.Tie as tie
 
 abbrev Inv-loop : tie.InvT-loop
 Inv-loop places transitions initial capacity rate delay arcs kind place weight limit counts₀ ats₀ whos₀ n t k₀ any₀ j₀ counts ats whos k any j =
-    let net = netOf places transitions initial capacity rate delay arcs kind place weight in
+    let net = lent places transitions initial capacity rate delay arcs kind place weight in
     (j ≤ transitions)
     × SoFar (Rule.pass (readable net) t 0 (readable net .transitions) (marking places counts₀) (timers ats₀ whos₀ n))
     (passFrom net t j (marking places counts) (timers ats whos k)) any
@@ -28,7 +29,7 @@ abbrev μ-loop : tie.MeasureT-loop
 
 abbrev netAt : tie.Start Inv-loop μ-loop → NetRecord
 netAt s =
-    netOf (s .args .places) (s .args .transitions) (now (s .args .initial)) (now (s .args .capacity)) (now (s .args .rate)) (now (s .args .delay))
+    lent (s .args .places) (s .args .transitions) (now (s .args .initial)) (now (s .args .capacity)) (now (s .args .rate)) (now (s .args .delay))
     (now (s .args .arcs)) (now (s .args .kind)) (now (s .args .place)) (now (s .args .weight))
 
 loop-holds : tie.Need-loop-holds Inv-loop μ-loop

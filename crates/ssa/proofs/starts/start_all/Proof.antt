@@ -1,5 +1,4 @@
 -- What has started stands in front of the passes that are left; a turn adds what one pass starts. Where no transition is delayed, a pass starts nobody.
-use borrow.Author.Needs.{needs}
 use borrow.Author.Tests.{not-true, not-false}
 use denote.Ref.{now}
 use native.Mathlib.Omega.{arith}
@@ -8,8 +7,11 @@ use mathlib.Core.List.{[]}
 use Prim.Native.Nat.{_+_, _-_, _≤_}
 use Rattle.net.specs.declared.Net.{Net as NetRecord}
 use Rattle.net.specs.Readable.{readable}
+use Rattle.net.specs.Record.{lent}
 use Rattle.rules.specs.Step as Rule
-use Rattle.ssa.specs.Engine.{netOf, marking, timers, done}
+use Rattle.engine.specs.Engine.{marking}
+use Rattle.ssa.specs.TimerArrays.{timers}
+use Rattle.ssa.specs.Starts.{done}
 use Rattle.ssa.specs.Stepping.{Ready}
 use Rattle.ssa.proofs.Passes.{SoFar, so-none, so-ended, again-full, again-turned, again-ended, passes-next, passes-end, passes-quiet}
 use Rattle.ssa.proofs.starts.start_all.Statement.{statement}
@@ -17,7 +19,7 @@ use Rattle.ssa.proofs.starts.start_all.Tie as tie
 
 abbrev Inv-loop : tie.InvT-loop
 Inv-loop places transitions initial capacity rate delay arcs kind place weight limit timed counts₀ ats₀ whos₀ n t k₀ any₀ i₀ counts ats whos k any i =
-    let net = netOf places transitions initial capacity rate delay arcs kind place weight in
+    let net = lent places transitions initial capacity rate delay arcs kind place weight in
     (i ≤ 257)
     × SoFar (Rule.passes 257 (readable net) t (marking places counts₀) (timers ats₀ whos₀ n))
     (Rule.passes (257 - i) (readable net) t (marking places counts) (timers ats whos k)) any
@@ -29,7 +31,7 @@ abbrev μ-loop : tie.MeasureT-loop
 
 abbrev netAt : tie.Start Inv-loop μ-loop → NetRecord
 netAt s =
-    netOf (s .args .places) (s .args .transitions) (now (s .args .initial)) (now (s .args .capacity)) (now (s .args .rate)) (now (s .args .delay))
+    lent (s .args .places) (s .args .transitions) (now (s .args .initial)) (now (s .args .capacity)) (now (s .args .rate)) (now (s .args .delay))
     (now (s .args .arcs)) (now (s .args .kind)) (now (s .args .place)) (now (s .args .weight))
 
 returns : tie.Need-returns Inv-loop μ-loop

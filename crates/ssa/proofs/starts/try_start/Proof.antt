@@ -8,8 +8,11 @@ use lib.ListN.{length}
 use Rattle.net.specs.declared.Net.{Net as NetRecord}
 use Rattle.net.specs.Net.{Marking}
 use Rattle.net.specs.Readable.{readable, transition}
+use Rattle.net.specs.Record.{lent}
 use Rattle.rules.specs.Timers.{Timer}
-use Rattle.ssa.specs.Engine.{netOf, marking, timers, full, done}
+use Rattle.engine.specs.Engine.{marking}
+use Rattle.ssa.specs.TimerArrays.{timers}
+use Rattle.ssa.specs.Starts.{full, done}
 use Rattle.ssa.proofs.TimerList.{length-timers}
 use Rattle.ssa.proofs.Passes.{try-untimed, try-disabled, try-full, try-on}
 use Rattle.ssa.proofs.starts.try_start.Statement.{statement}
@@ -18,7 +21,7 @@ use Rattle.ssa.proofs.starts.try_start.Tie as tie
 -- the net, the counts and the timers at the call
 abbrev netAt : tie.Start → NetRecord
 netAt s =
-    netOf (s .args .places) (s .args .transitions) (now (s .args .initial)) (now (s .args .capacity)) (now (s .args .rate)) (now (s .args .delay))
+    lent (s .args .places) (s .args .transitions) (now (s .args .initial)) (now (s .args .capacity)) (now (s .args .rate)) (now (s .args .delay))
     (now (s .args .arcs)) (now (s .args .kind)) (now (s .args .place)) (now (s .args .weight))
 
 abbrev countsAt : tie.Start → Marking

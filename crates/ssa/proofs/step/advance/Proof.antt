@@ -1,18 +1,20 @@
 -- Where a timer could not start the rules refuse too. Otherwise total, wait and draw are the rules', and so is what comes next.
 use borrow.Author.Needs.{needs}
+use native.Mathlib.Omega.{arith}
 use mathlib.Core.Path.{ap}
 use Rattle.net.specs.declared.Net.{Net as NetRecord}
+use Rattle.net.specs.Record.{lent}
 use Rattle.rules.specs.Step.{State}
-use Rattle.ssa.specs.Engine.{netOf, nextOf}
+use Rattle.jump.specs.Answers.{nextOf}
 use Rattle.ssa.specs.Stepping.{stateOf}
-use Rattle.ssa.proofs.TimerList.{length-timers}
+use Rattle.ssa.proofs.TimerList.{length-timers, told}
 use Rattle.ssa.proofs.Steps.{Going, going, advance-full, advance-nothing, advance-race, advance-completion}
 use Rattle.ssa.proofs.step.advance.Statement.{statement}
 use Rattle.ssa.proofs.step.advance.Tie as tie
 
 abbrev net : tie.Start → NetRecord
 net s =
-    netOf (s .args .places) (s .args .transitions) (s .args .initial .now) (s .args .capacity .now) (s .args .rate .now) (s .args .delay .now) (s .args .arcs .now)
+    lent (s .args .places) (s .args .transitions) (s .args .initial .now) (s .args .capacity .now) (s .args .rate .now) (s .args .delay .now) (s .args .arcs .now)
     (s .args .kind .now) (s .args .place .now) (s .args .weight .now)
 
 -- the state before
@@ -40,8 +42,13 @@ propensities-requires c κs =
 waiting-requires : tie.Need-waiting-requires
 waiting-requires c κs = search needs
 
+element-copy-out-next-event : tie.Need-element-copy-out-next-event
+element-copy-out-next-event c =
+    let r = c .before .before .before .before .before .before .start-all .ensures .1 in
+    omega (arith, r .ats)
+
 next-event-requires : tie.Need-next-event-requires
-next-event-requires c κs = c .before .before .before .before .before .before .before .before .start-all .ensures .1 .few
+next-event-requires c κs = search needs
 
 enum-told : tie.Need-enum-told
 enum-told c = search needs
@@ -53,7 +60,7 @@ enum-known-what-2 : tie.Need-enum-known-what-2
 enum-known-what-2 c = search needs
 
 abbrev begun : tie.After-next-event → tie.After-start-all
-begun c = c .before .before .before .before .before .before .before .before .before
+begun c = c .before .before .before .before .before .before .before .before
 
 abbrev start : tie.After-next-event → tie.Start
 start c = begun c .before .before .before .before
@@ -61,32 +68,32 @@ start c = begun c .before .before .before .before
 goes-on : (c : tie.After-next-event)
     → Going (net (start c)) (from (start c)) (begun c .start-all .last .1 .1 .1 .1 .1 .1 .1 .1 .1 .1 .1 .1 .0) (begun c .start-all .last .1 .1 .1 .1 .1 .1 .1 .1 .1 .1 .1 .1 .1 .0)
     (begun c .start-all .last .1 .1 .1 .1 .1 .1 .1 .1 .1 .1 .1 .1 .1 .1 .0) (begun c .start-all .result .timers)
-    (c .before .before .before .before .before .propensities .last .1 .1 .1 .1 .1 .1 .1 .1 .1 .1 .1 .1 .0) (c .before .before .before .before .before .propensities .result)
-    (c .before .before .before .before .waiting .result .rng .s) (nextOf (c .next-event .result))
+    (c .before .before .before .before .propensities .last .1 .1 .1 .1 .1 .1 .1 .1 .1 .1 .1 .1 .0) (c .before .before .before .before .propensities .result)
+    (c .before .before .before .waiting .result .rng .s) (nextOf (c .next-event .result))
 goes-on c =
     let b = begun c in
     let s = start c in
-    let w = c .before .before .before .before in
+    let w = c .before .before .before in
     let p = w .before in
     going (net s) (from s) (b .start-all .last .1 .1 .1 .1 .1 .1 .1 .1 .1 .1 .1 .1 .0) (b .start-all .last .1 .1 .1 .1 .1 .1 .1 .1 .1 .1 .1 .1 .1 .0)
     (b .start-all .last .1 .1 .1 .1 .1 .1 .1 .1 .1 .1 .1 .1 .1 .1 .0) (b .start-all .result) (b .start-all .ensures .0)
     (p .before .before .before .if1 .left) (rw length-timers (s .pre .0 .few)) (p .propensities .last .1 .1 .1 .1 .1 .1 .1 .1 .1 .1 .1 .1 .0) (p .propensities .result) (p .propensities .ensures)
-    (w .waiting .result .dt) (w .waiting .result .rng .s) (w .waiting .ensures .0) (w .waiting .ensures .1) (nextOf (c .next-event .result)) (c .next-event .ensures)
+    (w .waiting .result .dt) (w .waiting .result .rng .s) (w .waiting .ensures .0) (w .waiting .ensures .1) (nextOf (c .next-event .result)) (c .next-event .ensures _ (told _ _ _))
 
 returns-2 : tie.Need-returns-2
 returns-2 c =
     let e = c .before .before in
-    (advance-nothing (goes-on e) (ap nextOf (c .enum-told .given .1)), (begun e .start-all .ensures .1, e .before .before .before .before .before .propensities .ensures .long))
+    (advance-nothing (goes-on e) (ap nextOf (c .enum-told .given .1)), (begun e .start-all .ensures .1, e .before .before .before .before .propensities .ensures .long))
 
 returns-3 : tie.Need-returns-3
 returns-3 c =
     let e = c .before .before .before in
-    (advance-race (goes-on e) (c .before .what .given .0 .0) (ap nextOf (c .before .what .given .1)), (begun e .start-all .ensures .1, e .before .before .before .before .before .propensities .ensures .long))
+    (advance-race (goes-on e) (c .before .what .given .0 .0) (ap nextOf (c .before .what .given .1)), (begun e .start-all .ensures .1, e .before .before .before .before .propensities .ensures .long))
 
 returns-4 : tie.Need-returns-4
 returns-4 c =
     let e = c .before .before .before in
-    (advance-completion (goes-on e) (c .before .what2 .given .0 .0) (ap nextOf (c .before .what2 .given .1)), (begun e .start-all .ensures .1, e .before .before .before .before .before .propensities .ensures .long))
+    (advance-completion (goes-on e) (c .before .what2 .given .0 .0) (ap nextOf (c .before .what2 .given .1)), (begun e .start-all .ensures .1, e .before .before .before .before .propensities .ensures .long))
 
 pub advance-spec : {M : Type 1} → statement M
 advance-spec =
@@ -96,6 +103,7 @@ advance-spec =
     returns
     propensities-requires
     waiting-requires
+    element-copy-out-next-event
     next-event-requires
     enum-told
     enum-known-what

@@ -7,8 +7,8 @@ use lib.ListN.{take}
 use lib.Ieee.{Float}
 use Rattle.net.specs.declared.Net.{Net as NetRecord}
 use Rattle.net.specs.Readable.{readable}
+use Rattle.net.specs.Record.{lent}
 use Rattle.rules.specs.Step.{State, Answer, Event, Step, raced, complete, step}
-use Rattle.ssa.specs.Engine.{netOf}
 use Rattle.ssa.specs.Stepping as Stepping
 use Rattle.ssa.specs.Stepping.{stateOf, AdvancedBy}
 use Rattle.ssa.proofs.Steps.{Sets, if-full, if-nothing, if-race, if-completion, step-reached, step-on, step-large, timers-run}
@@ -23,7 +23,7 @@ start d = d .before .before .before .before .before .before .before .before
 abbrev net : tie.After-advance → NetRecord
 net d =
     let a = start d .args in
-    netOf (a .places) (a .transitions) (a .initial .now) (a .capacity .now) (a .rate .now) (a .delay .now) (a .arcs .now) (a .kind .now) (a .place .now) (a .weight .now)
+    lent (a .places) (a .transitions) (a .initial .now) (a .capacity .now) (a .rate .now) (a .delay .now) (a .arcs .now) (a .kind .now) (a .place .now) (a .weight .now)
 
 -- the state before, and at the clock reading
 abbrev from : tie.After-advance → State

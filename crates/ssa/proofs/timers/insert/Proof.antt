@@ -6,7 +6,7 @@ use mathlib.Core.Path.{_≡_, _∙_}
 use Prim.Native.Nat.{_<_}
 use lib.ListN.{length, length-set}
 use lib.Ieee.{nan}
-use Rattle.ssa.specs.Engine.{timerOf}
+use Rattle.ssa.specs.TimerArrays.{timerOf}
 use Rattle.ssa.proofs.TimerList.{put, inserted}
 use Rattle.ssa.proofs.timers.insert.Statement.{statement}
 use Rattle.ssa.proofs.timers.insert.Tie as tie

@@ -5,7 +5,7 @@ use mathlib.Core.Path.{_≡_}
 use Prim.Native.Nat.{_+_, _-_, _≤_, _<_}
 use lib.ListN.{length}
 use lib.Ieee.{nan}
-use Rattle.ssa.specs.Moved.{MovedUp}
+use Rattle.ssa.specs.TimerArrays.{MovedUp}
 use Rattle.ssa.proofs.TimerList.{up-none, up-one}
 use Rattle.ssa.proofs.timers.make_room.Statement.{statement}
 use Rattle.ssa.proofs.timers.make_room.Tie as tie

@@ -1,0 +1,98 @@
+-- A propensity, slot by slot: the factors of the slots that are left, on top of what is worked so far, come to the whole. Assumes nothing.
+use Prim.Native.Nat.{ℕ, zero, suc, _+_, _-_, _*_, _^_, _≤_, _<_}
+use mathlib.Core.Path.{_≡_, refl, sym, ap, _∙_}
+use mathlib.Core.Bool.{Bool, true, false}
+use mathlib.Core.List.{List, _∷_}
+use native.Mathlib.Omega.{arith}
+use lib.Dec.{eqb, leb}
+use lib.ListN.{getD}
+use lib.IntN.{pos}
+use lib.Ieee.{Float, nan, binary64, ofBits, mul, div}
+use mir.Syntax.{w64}
+use mir.Val.{toZ}
+use mir.Facts.{toZ-pos}
+use borrow.Author.Tests.{leb-false, ne-eqb}
+use Rattle.net.specs.declared.Net.{Net as NetRecord}
+use Rattle.net.specs.Net.{Marking, pick, zero64, amount, held, rateOf}
+use Rattle.net.specs.Readable.{Slot, slotAt, slots, slotsOf, takesOf, readable, transition}
+use Rattle.rules.specs.Enabled.{enabled}
+use Rattle.combinations.specs.declared.Ways.{Ways}
+use Rattle.combinations.specs.Combinations.{meaning, combinations}
+use Rattle.rules.specs.Propensity.{asFloat, ways, factored, propensity}
+use Rattle.engine.specs.Engine.{Below, marking}
+use Rattle.engine.proofs.Arcs.{ap-pick, on-bool, slots-step, span, slots-of}
+use Rattle.engine.proofs.Marks.{held-marking}
+
+pick-true : {A : Type 0} (b : Bool) (x y : A) → b ≡ true → pick b x y ≡ x
+pick-true b x y e = ap (λ (t : Bool). pick t x y) e
+
+pick-false : {A : Type 0} (b : Bool) (x y : A) → b ≡ false → pick b x y ≡ y
+pick-false b x y e = ap (λ (t : Bool). pick t x y) e
+
+-- ---- the ways of one slot
+
+-- what the answer of `combinations` says of two numbers that are the same signed
+pub ways-answer : (m w : ℕ) → m ≤ 2 ^ 53 → w ≤ 1_000_000 → (r : Ways) → meaning r ≡ combinations (toZ w64 m) (toZ w64 w) → asFloat (meaning r) ≡ ways m w
+ways-answer m w h k r e =
+    let a : toZ w64 m ≡ pos m = toZ-pos w64 (omega arith) in
+    let b : toZ w64 w ≡ pos w = toZ-pos w64 (omega arith) in
+    ap asFloat (e ∙ (λ i. combinations (a i) (b i)))
+
+-- 0 over 0
+pub no-number : div binary64 zero64 zero64 ≡ nan
+unfolding div ofBits
+no-number = refl
+
+-- x times the ways of one slot
+abbrev pub times : Float → ℕ → ℕ → ℕ → Float
+times x kind weight count = pick (eqb kind 0) (mul binary64 x (ways count (amount weight))) x
+
+factored-slot : (m : Marking) (x : Float) (l : Slot) (ls : List Slot)
+    → factored m x (takesOf (l ∷ ls)) ≡ factored m (times x (l .kind) (l .weight) (held m (l .place))) (takesOf ls)
+factored-slot m x l ls =
+    ap-pick (factored m x) (leb (l .kind) 1) _ _
+    ∙ on-bool (leb (l .kind) 1)
+    (λ e. pick-true (leb (l .kind) 1) _ _ e)
+    (λ e.
+    let h = leb-false (l .kind) 1 e in
+    pick-false (leb (l .kind) 1) _ _ e ∙ sym (ap (λ (y : Float). factored m y (takesOf ls)) (pick-false (eqb (l .kind) 0) _ x (ne-eqb (l .kind) 0 (λ d. omega arith)))))
+
+-- one turn of the loop over slots, at slot a
+pub factored-turn : (m : Marking) (x : Float) (k p w : List ℕ) (a e : ℕ) → a < e
+    → factored m x (takesOf (slots k p w a (e - a)))
+    ≡ factored m (times x (getD k a 0) (getD w a 0) (held m (getD p a 0))) (takesOf (slots k p w (a + 1) (e - (a + 1))))
+factored-turn m x k p w a e h =
+    ap (λ (ls : List Slot). factored m x (takesOf ls)) (slots-step k p w a e h)
+    ∙ factored-slot m x (slotAt k p w a) (slots k p w (a + 1) (e - (a + 1)))
+
+-- the marking is as good as the counts: the places of the slots stand in it
+module _ (places : ℕ) (counts k p w : List ℕ) (b : Below places p) where
+  factored-marking : (n a : ℕ) (x : Float)
+      → factored counts x (takesOf (slots k p w a n)) ≡ factored (marking places counts) x (takesOf (slots k p w a n))
+  factored-marking zero a x = refl
+  factored-marking (suc n) a x =
+      let ls = slots k p w (a + 1) n in
+      let l = slotAt k p w a in
+      factored-slot counts x l ls
+      ∙ factored-marking n (a + 1) _
+      ∙ ap (λ (c : ℕ). factored (marking places counts) (times x (l .kind) (l .weight) c) (takesOf ls)) (sym (held-marking places counts (l .place) (b a)))
+      ∙ sym (factored-slot (marking places counts) x l ls)
+
+module _ (n : NetRecord) (counts : List ℕ) (j : ℕ) where
+  abbrev worth : Float
+  worth = propensity (readable n) (marking (n .places) counts) (transition n j)
+
+  abbrev ready : Bool
+  ready = enabled (readable n) (marking (n .places) counts) (transition n j)
+
+  pub prop-stop : (r : Bool) → r ≡ ready → r ≡ false → zero64 ≡ worth
+  prop-stop r e f = sym (pick-false ready _ zero64 (sym e ∙ f))
+
+  pub prop-go : Below (n .places) (n .place) → (r : Bool) (x y : Float) → r ≡ ready → r ≡ true → x ≡ rateOf (transition n j)
+      → y ≡ factored counts x (takesOf (span n j)) → y ≡ worth
+  prop-go b r x y e f g h =
+      h
+      ∙ ap (λ (ls : List Slot). factored counts x (takesOf ls)) (slots-of n j)
+      ∙ factored-marking (n .places) counts (n .kind) (n .place) (n .weight) b (getD (n .arcs) j 0) (16 * j) x
+      ∙ ap (λ (z : Float). factored (marking (n .places) counts) z (takesOf (slotsOf n j))) g
+      ∙ sym (pick-true ready _ zero64 (sym e ∙ f))

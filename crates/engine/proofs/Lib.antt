@@ -1,0 +1,11 @@
+pub mod Arcs
+pub mod Open
+pub mod Room
+pub mod Limits
+pub mod Lists
+pub mod Copying
+pub mod Tidying
+pub mod Marks
+pub mod OneWay
+pub mod Factors
+pub mod Totals

@@ -1,0 +1,272 @@
+// The counts: which transitions they enable, with what propensity, and what a transition does to them.
+ghost use mathlib.Core.Path.{_≡_};
+ghost use Prim.Native.Nat.{_+_, _-_, _*_, _^_, _<_, _≤_};
+ghost use lib.Dec.{eqb, leb};
+ghost use lib.Ieee.{binary64, mul, lt, eq};
+ghost use lib.ListN.{length, getD};
+ghost use Rattle.net.specs.Net as Reader;
+ghost use Rattle.net.specs.Readable as Record;
+ghost use Rattle.net.specs.Record.{lent};
+ghost use Rattle.net.specs.declared.Net.{Net as NetRecord};
+ghost use Rattle.rules.specs.Enabled as Enabled;
+ghost use Rattle.rules.specs.Propensity as Propensity;
+ghost use Rattle.rules.specs.Moves as Moves;
+ghost use Rattle.engine.specs.Engine as Engine;
+ghost use Rattle.engine.specs.Limits as Limits;
+use crate::slots;
+use combinations::Ways;
+
+// Does a slot of this limit let its transition run, at the count of its place? Below 2^63 it is an upper limit, else 2^64 less a lower one (specs/Limits);
+// compiled, the two are one comparison.
+fn slot_open(limit: u64, count: u64) -> bool
+    ensures { λ r. ⌜ r ≡ Limits.slotOpen limit count ⌝ }
+{
+    if limit < 0x8000_0000_0000_0000 {
+        return count < limit;
+    }
+    0xFFFF_FFFF_FFFF_FFFF - count < limit
+}
+
+// May transition j run, at these counts? By the table of limits; slots behind a stop are puts without a limit.
+pub fn enabled<'a>(
+    places: usize,
+    transitions: usize,
+    initial: &'a [u64; 32],
+    capacity: &'a [u64; 32],
+    rate: &'a [f64; 64],
+    delay: &'a [f64; 64],
+    arcs: &'a [usize; 64],
+    kind: &'a [u64; 1024],
+    place: &'a [usize; 1024],
+    weight: &'a [u64; 1024],
+    limit: &'a [u64; 1024],
+    counts: &[u64; 32],
+    j: usize,
+) -> bool
+    ghost { NetRecord }
+    requires { λ net. ⌜ lent places transitions (now initial) (now capacity) (now rate) (now delay) (now arcs) (now kind) (now place) (now weight) ≡ net ⌝ }
+    requires { λ net. ⌜ (j < transitions) × Engine.Tidy net × Limits.Limits net (now limit) × Engine.Counts (now counts) ⌝ }
+    ensures { λ net r. ⌜ r ≡ Enabled.enabled (Record.readable net) (Engine.marking places (now (counts .entry))) (Record.transition net j) ⌝ }
+{
+    let from = 16 * j;
+    let end = from + arcs[j];
+    let mut a = from;
+    while a < end {
+        let p = place[a];
+        let l = limit[a];
+        if !slot_open(l, counts[p]) {
+            return l == slots::STOP;
+        }
+        a += 1;
+    }
+    true
+}
+
+// How many ways there are to choose w of m tokens, as a float.
+fn ways(m: u64, w: u64) -> f64
+    requires { ⌜ (m ≤ 2 ^ 53) × (w ≤ 1_000_000) ⌝ }
+    ensures { λ r. ⌜ r ≡ Propensity.ways m w ⌝ }
+{
+    let answer = combinations::combinations(m as i64, w as i64);
+    match answer {
+        Ways::Value(x) => x,
+        Ways::Refused => 0.0 / 0.0,
+    }
+}
+
+// The rate of a transition: 0 where it runs by a timer, and 1 where none is given.
+fn rate_of(rate: f64, delay: f64) -> f64
+    ensures { λ r. ⌜ r ≡ Reader.pick (lt Reader.zero64 delay) Reader.zero64 (Reader.pick (eq rate Reader.zero64) Reader.one64 rate) ⌝ }
+{
+    if 0.0 < delay {
+        return 0.0;
+    }
+    if rate == 0.0 {
+        return 1.0;
+    }
+    rate
+}
+
+// x times the ways of one slot, at the count of its place: only a kinetic take has them. A single token is taken in as many ways as there are tokens.
+fn times(x: f64, kind: u64, weight: u64, count: u64) -> f64
+    requires { ⌜ (count ≤ 2 ^ 53) × (weight ≤ 1_000_000) ⌝ }
+    ensures { λ r. ⌜ r ≡ Reader.pick (eqb kind 0) (mul binary64 x (Propensity.ways count (Reader.amount weight))) x ⌝ }
+{
+    if kind == 0 {
+        if weight <= 1 {
+            return x * (count as i64 as f64);
+        }
+        return x * ways(count, weight);
+    }
+    x
+}
+
+// The propensity of transition j, at these counts: its rate times the ways of its slots, and 0 where one is not open.
+fn propensity<'a>(
+    places: usize,
+    transitions: usize,
+    initial: &'a [u64; 32],
+    capacity: &'a [u64; 32],
+    rate: &'a [f64; 64],
+    delay: &'a [f64; 64],
+    arcs: &'a [usize; 64],
+    kind: &'a [u64; 1024],
+    place: &'a [usize; 1024],
+    weight: &'a [u64; 1024],
+    limit: &'a [u64; 1024],
+    counts: &[u64; 32],
+    j: usize,
+) -> f64
+    ghost { NetRecord }
+    requires { λ net. ⌜ lent places transitions (now initial) (now capacity) (now rate) (now delay) (now arcs) (now kind) (now place) (now weight) ≡ net ⌝ }
+    requires { λ net. ⌜ (j < transitions) × Engine.Tidy net × Limits.Limits net (now limit) × Engine.Counts (now counts) ⌝ }
+    ensures { λ net r. ⌜ r ≡ Propensity.propensity (Record.readable net) (Engine.marking places (now (counts .entry))) (Record.transition net j) ⌝ }
+{
+    let from = 16 * j;
+    let end = from + arcs[j];
+    let mut x = rate_of(rate[j], delay[j]);
+    let mut a = from;
+    while a < end {
+        let p = place[a];
+        let c = counts[p];
+        let l = limit[a];
+        if !slot_open(l, c) {
+            if l == slots::STOP {
+                return x;
+            }
+            return 0.0;
+        }
+        x = times(x, kind[a], weight[a], c);
+        a += 1;
+    }
+    x
+}
+
+// Fills the table of propensities, and answers their total.
+pub fn propensities<'a>(
+    places: usize,
+    transitions: usize,
+    initial: &'a [u64; 32],
+    capacity: &'a [u64; 32],
+    rate: &'a [f64; 64],
+    delay: &'a [f64; 64],
+    arcs: &'a [usize; 64],
+    kind: &'a [u64; 1024],
+    place: &'a [usize; 1024],
+    weight: &'a [u64; 1024],
+    limit: &'a [u64; 1024],
+    counts: &[u64; 32],
+    props: &mut [f64; 64],
+) -> f64
+    ghost { NetRecord }
+    requires { λ net. ⌜ lent places transitions (now initial) (now capacity) (now rate) (now delay) (now arcs) (now kind) (now place) (now weight) ≡ net ⌝ }
+    requires { λ net. ⌜ Engine.Tidy net × Limits.Limits net (now limit) × Engine.Counts (now counts) × (length (now props) ≡ 64) ⌝ }
+    ensures { λ net r. ⌜ Engine.Totalled net (now (counts .entry)) (now (props .exit)) r ⌝ }
+{
+    let mut sum = 0.0;
+    let mut j: usize = 0;
+    while j < transitions {
+        let k = j + 1;
+        let x = propensity(
+            places,
+            transitions,
+            initial,
+            capacity,
+            rate,
+            delay,
+            arcs,
+            kind,
+            place,
+            weight,
+            limit,
+            counts,
+            j,
+        );
+        props[j] = x;
+        sum = sum + x;
+        j = k;
+    }
+    sum
+}
+
+// What is left of a count once a slot has taken. Like a difference of the rules it stops at 0.
+fn left(count: u64, kind: u64, weight: u64) -> u64
+    ensures { λ r. ⌜ r ≡ count - Reader.pick (leb kind 1) (Reader.amount weight) 0 ⌝ }
+{
+    if kind <= 1 {
+        let a = slots::amount(weight);
+        if count < a {
+            return 0;
+        }
+        return count - a;
+    }
+    count
+}
+
+// Takes what transition j takes.
+pub fn take<'a>(
+    places: usize,
+    arcs: &'a [usize; 64],
+    kind: &'a [u64; 1024],
+    place: &'a [usize; 1024],
+    weight: &'a [u64; 1024],
+    counts: &mut [u64; 32],
+    j: usize,
+)
+    requires { ⌜ (j < 64) × (places ≤ 32) × Engine.AtMost 16 (now arcs) × Engine.Below places (now place) × Engine.Counts (now counts) ⌝ }
+    ensures { λ _. ⌜ (Engine.marking places (now (counts .exit)) ≡ Moves.taking (Engine.marking places (now (counts .entry)))
+        (Record.takesOf (Record.slots (now (kind .entry)) (now (place .entry)) (now (weight .entry)) (16 * j) (getD (now (arcs .entry)) j 0))))
+        × Engine.Counts (now (counts .exit)) ⌝ }
+{
+    let from = 16 * j;
+    let end = from + arcs[j];
+    let mut a = from;
+    while a < end {
+        let p = place[a];
+        let c = left(counts[p], kind[a], weight[a]);
+        counts[p] = c;
+        a += 1;
+    }
+}
+
+// A count once a slot has put.
+fn more(count: u64, kind: u64, weight: u64) -> u64
+    requires { ⌜ (count ≤ 2 ^ 53) × (weight ≤ 1_000_000) ⌝ }
+    ensures { λ r. ⌜ r ≡ count + Reader.pick (Record.isPut kind) (Reader.amount weight) 0 ⌝ }
+{
+    if kind == 2 {
+        return count + slots::amount(weight);
+    }
+    count
+}
+
+// Puts what transition j puts. False where a count would pass 2^53; then the counts are of no use.
+pub fn put<'a>(
+    places: usize,
+    arcs: &'a [usize; 64],
+    kind: &'a [u64; 1024],
+    place: &'a [usize; 1024],
+    weight: &'a [u64; 1024],
+    counts: &mut [u64; 32],
+    j: usize,
+) -> bool
+    requires { ⌜ (j < 64) × (places ≤ 32) × Engine.AtMost 16 (now arcs) × Engine.Below places (now place) × Engine.AtMost 1_000_000 (now weight) × Engine.Counts (now counts) ⌝ }
+    ensures { λ r. ⌜ Engine.PutBy r (Moves.putting (Engine.marking places (now (counts .entry)))
+        (Record.arcsOf Record.isPut (Record.slots (now (kind .entry)) (now (place .entry)) (now (weight .entry)) (16 * j) (getD (now (arcs .entry)) j 0))))
+        (Engine.marking places (now (counts .exit)))
+        × Engine.Counts (now (counts .exit)) ⌝ }
+{
+    let from = 16 * j;
+    let end = from + arcs[j];
+    let mut a = from;
+    while a < end {
+        let p = place[a];
+        let c = more(counts[p], kind[a], weight[a]);
+        if 9_007_199_254_740_992 < c {
+            return false;
+        }
+        counts[p] = c;
+        a += 1;
+    }
+    true
+}

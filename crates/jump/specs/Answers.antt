@@ -1,0 +1,27 @@
+-- What a call is told of the running timers, and what its answer stands for in the rules' words (rules, Step and Jump).
+use Prim.Native.Nat.{ℕ, _<_}
+use mathlib.Core.Path.{_≡_}
+use mathlib.Core.List.{List}
+use mathlib.Core.Option.{Option, none, some}
+use lib.ListN.{length}
+use lib.Ieee.{Float}
+use Rattle.rules.specs.Step as Step
+use Rattle.rules.specs.Timers.{Timer, first}
+use Rattle.jump.specs.declared.Next.{Next as NextEnum}
+use Rattle.jump.specs.declared.Next.the-variants.{Nothing, Race, Completion}
+use Rattle.jump.specs.declared.Choice.{Choice}
+use Rattle.jump.specs.declared.Choice.the-variants.{Nobody, Chosen}
+
+-- so many timers run, and where one does, the first to leave completes at `at`
+pub record Told (timers : List Timer) (running : ℕ) (at : Float) : Type 0 where
+  pub many : length timers ≡ running
+  pub leads : 0 < running → first timers .at ≡ at
+
+abbrev pub nextOf : NextEnum → Step.Next
+nextOf Nothing = Step.nothingLeft
+nextOf (Race dt) = Step.race dt
+nextOf (Completion at) = Step.completion at
+
+abbrev pub choiceOf : Choice → Option ℕ
+choiceOf Nobody = none
+choiceOf (Chosen j) = some j
