@@ -75,7 +75,7 @@ fn ways(m: u64, w: u64) -> f64
 }
 
 // The rate of a transition: 0 where it runs by a timer, and 1 where none is given.
-fn rate_of(rate: f64, delay: f64) -> f64
+pub fn rate_of(rate: f64, delay: f64) -> f64
     ensures { λ r. ⌜ r ≡ Reader.pick (lt Reader.zero64 delay) Reader.zero64 (Reader.pick (eq rate Reader.zero64) Reader.one64 rate) ⌝ }
 {
     if 0.0 < delay {

@@ -155,9 +155,9 @@ const NO_LIMIT: u64 = 0x7FFF_FFFF_FFFF_FFFF;
 pub const STOP: u64 = 0x8000_0000_0000_0000;
 
 // What a transition puts into a place, and takes from it.
-struct Change {
-    put: u64,
-    taken: u64,
+pub struct Change {
+    pub put: u64,
+    pub taken: u64,
 }
 
 // What one slot puts into place p.
@@ -185,7 +185,7 @@ fn taken_slot(kind: u64, place: usize, weight: u64, p: usize) -> u64
 }
 
 // What the slots from `from` to before `end` put into place p and take from it.
-fn change_at<'a>(
+pub fn change_at<'a>(
     kind: &'a [u64; 1024],
     place: &'a [usize; 1024],
     weight: &'a [u64; 1024],
@@ -193,7 +193,7 @@ fn change_at<'a>(
     end: usize,
     p: usize,
 ) -> Change
-    requires { ⌜ (end ≤ 1024) × Engine.AtMost 1_000_000 (now weight) ⌝ }
+    requires { ⌜ (end ≤ 1024) × Arcs.Light from end (now weight) ⌝ }
     ensures { λ r. ⌜ (r .put ≡ Reader.moved (Record.arcsOf Record.isPut (Record.slots (now (kind .entry)) (now (place .entry)) (now (weight .entry)) from (end - from))) p)
         × (r .taken ≡ Reader.takenBy (Record.takesOf (Record.slots (now (kind .entry)) (now (place .entry)) (now (weight .entry)) from (end - from))) p) ⌝ }
 {

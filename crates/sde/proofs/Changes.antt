@@ -15,7 +15,7 @@ use Rattle.net.specs.Readable.{Slot, slotAt, slots, takesOf, arcsOf, isPut, tra
 use Rattle.net.proofs.Slots.{slots-step, slots-end}
 use Rattle.sde.specs.Diffusion.{lessTakes, plusPuts, change}
 use Rattle.sde.specs.Slots.{lessSlot, moreSlot}
-use Rattle.sde.proofs.Arcs.{ap-pick, on-bool, span, slots-of}
+use Rattle.engine.proofs.Arcs.{ap-pick, on-bool, span, slots-of}
 
 less-slot : (p : ℕ) (d : Float) (l : Slot) (ls : List Slot)
     → lessTakes p d (takesOf (l ∷ ls)) ≡ lessTakes p (lessSlot d (l .kind) (l .place) (l .weight) p) (takesOf ls)

@@ -12,7 +12,7 @@ use lib.Ieee.{Float, nan}
 use borrow.Author.Tests.{eqb-true, eqb-false}
 use Rattle.sde.specs.Diffusion.{eachFrom}
 use Rattle.sde.specs.Engine.{Mapped}
-use Rattle.sde.proofs.Arcs.{on-bool}
+use Rattle.engine.proofs.Arcs.{on-bool}
 
 -- ---- the list
 

@@ -14,7 +14,7 @@ use Rattle.net.specs.Net.{Take, pick, rateOf}
 use Rattle.net.specs.Readable.{Slot, slots, takesOf, transition}
 use Rattle.sde.specs.Diffusion.{kineticOf, factored, propensity}
 use Rattle.sde.specs.Slots.{KineticEnd}
-use Rattle.sde.proofs.Arcs.{on-bool}
+use Rattle.engine.proofs.Arcs.{on-bool}
 use Rattle.sde.proofs.Factors.{left, propensity-made}
 
 abbrev kinetics : List Slot → List Take

@@ -8,7 +8,7 @@ use lib.Dec.{eqb}
 use lib.ListN.{getD, take}
 use lib.Seq.{getD-take}
 use lib.IntN.{pos}
-use lib.Ieee.{Float, nan, binary64, ofBits, div, le}
+use lib.Ieee.{Float, nan, le}
 use mir.Syntax.{w64}
 use mir.Val.{toZ}
 use mir.Facts.{toZ-pos}
@@ -23,18 +23,13 @@ use Rattle.combinations.specs.Combinations.{meaning, combinationsReal}
 use Rattle.rules.specs.Propensity.{asFloat}
 use Rattle.sde.specs.Diffusion.{at, waysAt, kineticOf, factored, propensity}
 use Rattle.sde.specs.Slots.{Inside, timesSlot}
-use Rattle.sde.proofs.Arcs.{span, slots-of}
+use Rattle.engine.proofs.Arcs.{span, slots-of}
 
 -- what the answer of `combinations_real` says of a number that is the same signed
 pub ways-answer : (x : Float) (w : ℕ) → w ≤ 1_000_000 → (r : Ways) → meaning r ≡ combinationsReal x (toZ w64 w) → asFloat (meaning r) ≡ waysAt x w
 ways-answer x w h r e =
     let b : toZ w64 w ≡ pos w = toZ-pos w64 (omega arith) in
     ap asFloat (e ∙ ap (combinationsReal x) b)
-
--- 0 over 0
-pub no-number : div binary64 zero64 zero64 ≡ nan
-unfolding div ofBits
-no-number = refl
 
 -- one slot
 abbrev pub left : List Float → Float → List Slot → Float

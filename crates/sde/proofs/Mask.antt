@@ -17,7 +17,7 @@ use Rattle.net.specs.Readable.{isRead, isBlock, placesFrom, transitionsFrom, re
 use Rattle.sde.specs.declared.Gates.{Gates as GatesStruct}
 use Rattle.sde.specs.Gated.{raises, bitsFrom, boundedFrom, gates, gatesOf, gated}
 use Rattle.sde.specs.Slots.{oneIf, countFrom, boundedAt, maskFrom}
-use Rattle.sde.proofs.Arcs.{on-bool}
+use Rattle.engine.proofs.Arcs.{on-bool}
 use Rattle.sde.proofs.Counted.{reads-all, inhibitors-all, non-kinetic-all}
 
 pub one-most : (b : Bool) → oneIf b ≤ 1

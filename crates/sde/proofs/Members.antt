@@ -27,7 +27,7 @@ use Rattle.sde.specs.Diffusion.{stepOf, walked, cellsOf}
 use Rattle.sde.specs.Call.{member, membersFrom, Outcome, averaged, stopped, Call, tabulated}
 use Rattle.sde.specs.Engine.{unless, Beyond}
 use Rattle.sde.specs.Summed.{SummedBy, all, halted}
-use Rattle.sde.proofs.Arcs.{on-bool}
+use Rattle.engine.proofs.Arcs.{on-bool}
 
 -- ---- one path
 

@@ -12,11 +12,10 @@ use lib.Ieee.{Float, nan, inf, fin, Format, binary64, prec, emax, low, unlike, u
 use lib.Ieee.Exact.{HasValue, round-exact}
 use lib.Ieee.Fits.{down-pos, up-pos, round-fits, and-l, and-r}
 use borrow.Author.Tests.{le-ltb, leb-true, leb-false}
-use Rattle.net.specs.Net.{amount}
 use Rattle.combinations.specs.Combinations.{one64}
 use Rattle.rules.specs.Propensity.{float}
 use Rattle.sde.specs.Diffusion.{waysAt}
-use Rattle.sde.proofs.Arcs.{on-bool}
+use Rattle.engine.proofs.Arcs.{on-bool}
 
 -- ---- the one way to write a number
 
@@ -217,9 +216,3 @@ one-way x t =
     ∙ ap (λ (z : Float). div binary64 (mul binary64 (fin false 1 (pos 0)) z) (fin false 1 (pos 0))) (less-zero x t)
     ∙ ap (λ (z : Float). div binary64 z (fin false 1 (pos 0))) (times-one x t)
     ∙ over-one x t
-
--- "weight 0 means 1"
-pub one-amount : (w : ℕ) → w ≤ 1 → amount w ≡ 1
-one-amount zero h = refl
-one-amount (suc zero) h = refl
-one-amount (suc (suc w)) h = absurd (omega arith)

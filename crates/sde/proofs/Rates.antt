@@ -19,7 +19,7 @@ use Rattle.normals.specs.Normal.{Sampler, seededSampler, normal}
 use Rattle.sde.specs.Diffusion.{State, Going, andThen, kineticOf, factored, spread, pushed, pushedAll, begun, afterDrift, substep, repeated, overInterval, further, firstState, stepOf, cellsOf}
 use Rattle.sde.specs.Call.{member, membersFrom}
 use Rattle.sde.specs.Slots.{tidy, Tidied, Rated}
-use Rattle.sde.proofs.Arcs.{on-bool}
+use Rattle.engine.proofs.Arcs.{on-bool}
 
 -- ---- a rate
 

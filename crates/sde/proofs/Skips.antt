@@ -13,7 +13,7 @@ use borrow.Author.Tests.{eqb-true, eqb-false, ltb-true, ltb-false}
 use Rattle.net.specs.Net.{pick, zero64}
 use Rattle.sde.specs.Diffusion.{noiseBy, driftBy}
 use Rattle.sde.specs.Slots.{Skip, Skips, SkipsOf}
-use Rattle.sde.proofs.Arcs.{on-bool}
+use Rattle.engine.proofs.Arcs.{on-bool}
 use Rattle.sde.proofs.Each.{MapTo}
 
 -- ---- the table

@@ -10,6 +10,7 @@ use Rattle.net.specs.declared.Net.{Net as NetRecord}
 use Rattle.net.specs.Net.{Place, pick, amount, zero64, one64, rateOf}
 use Rattle.net.specs.Readable.{Slot, slotsOf, transition, transitionsFrom, isPut, isRead, isBlock}
 use Rattle.rules.specs.Propensity.{float}
+pub use Rattle.engine.specs.Arcs.{Light}
 use Rattle.sde.specs.Gated.{bounded}
 use Rattle.sde.specs.Diffusion.{change, waysAt}
 use Rattle.sde.specs.declared.gated.Gate.{Gate}
@@ -33,19 +34,6 @@ countIf f (l ∷ ls) = oneIf (f (l .kind)) + countIf f ls
 abbrev pub countFrom : (ℕ → Bool) → NetRecord → ℕ → ℕ → ℕ
 countFrom f n j zero = 0
 countFrom f n j (suc k) = countIf f (slotsOf n j) + countFrom f n (suc j) k
-
--- ---- what a transition puts into a place and takes from it
-
--- no slot from `from` to before `end` weighs more than 1,000,000
-abbrev pub Light : ℕ → ℕ → List ℕ → Type 0
-Light from end weight = (a : ℕ) → from ≤ a → a < end → getD weight a 0 ≤ 1_000_000
-
--- what a slot puts into place p, and takes from it
-abbrev pub putSlot : ℕ → ℕ → ℕ → ℕ → ℕ
-putSlot kind place weight p = pick (isPut kind) (pick (eqb place p) (amount weight) 0) 0
-
-abbrev pub takenSlot : ℕ → ℕ → ℕ → ℕ → ℕ
-takenSlot kind place weight p = pick (leb kind 1) (pick (eqb place p) (amount weight) 0) 0
 
 -- ---- the bounded places
 

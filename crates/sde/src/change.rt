@@ -1,18 +1,15 @@
 // The net changes of the transitions as floats, once a call: that of transition j at place p is cell 32 * j + p.
 ghost use mathlib.Core.Path.{_≡_};
-ghost use Prim.Native.Nat.{ℕ, _+_, _-_, _*_, _/_, _%_, _<_, _≤_};
-ghost use lib.Ieee.{binary64, add, sub};
-ghost use lib.Dec.{eqb, leb};
+ghost use Prim.Native.Nat.{_+_, _-_, _*_, _/_, _%_, _<_, _≤_};
 ghost use lib.ListN.{length};
 ghost use Rattle.net.specs.Net as Reader;
 ghost use Rattle.net.specs.declared.Net.{Net as NetRecord};
 ghost use Rattle.net.specs.Readable as Record;
 ghost use Rattle.net.specs.Record.{lent};
 ghost use Rattle.net.specs.Sound as Sound;
-ghost use Rattle.rules.specs.Propensity.{float};
 ghost use Rattle.sde.specs.Diffusion as Diffusion;
 ghost use Rattle.sde.specs.Slots as Slots;
-use crate::slots;
+use engine::slots;
 
 // d less what one slot takes from place p.
 fn less(d: f64, kind: u64, place: usize, weight: u64, p: usize) -> f64

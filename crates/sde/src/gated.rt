@@ -1,7 +1,6 @@
 // What a continuous run cannot express: reads, inhibitors, takes that are not kinetic, capacities that bound, delays.
 ghost use mathlib.Core.Path.{_≡_};
-ghost use Prim.Native.Nat.{ℕ, _+_, _-_, _*_, _^_, _<_, _≤_};
-ghost use lib.ListN.{getD};
+ghost use Prim.Native.Nat.{_+_, _-_, _*_, _<_, _≤_};
 ghost use Rattle.net.specs.Net as Reader;
 ghost use Rattle.net.specs.Tests as Tests;
 ghost use Rattle.net.specs.declared.Net.{Net as NetRecord};
@@ -11,7 +10,7 @@ ghost use Rattle.net.specs.Sound as Sound;
 ghost use Rattle.sde.specs.Gated as Spec;
 ghost use Rattle.sde.specs.Slots as Slots;
 use crate::Gates;
-use crate::slots;
+use engine::slots;
 
 enum Gate {
     Read,
@@ -98,66 +97,6 @@ fn count<'a>(
     n
 }
 
-// What a transition puts into a place, and takes from it.
-struct Change {
-    put: u64,
-    taken: u64,
-}
-
-// What one slot puts into place p.
-fn put_slot(kind: u64, place: usize, weight: u64, p: usize) -> u64
-    ensures { λ r. ⌜ r ≡ Slots.putSlot kind place weight p ⌝ }
-{
-    if kind == net::PUT {
-        if place == p {
-            return slots::amount(weight);
-        }
-    }
-    0
-}
-
-// What one slot takes from place p.
-fn taken_slot(kind: u64, place: usize, weight: u64, p: usize) -> u64
-    ensures { λ r. ⌜ r ≡ Slots.takenSlot kind place weight p ⌝ }
-{
-    if kind <= net::TAKE {
-        if place == p {
-            return slots::amount(weight);
-        }
-    }
-    0
-}
-
-// What the slots from `from` to before `end` put into place p and take from it.
-fn change_at<'a>(
-    kind: &'a [u64; 1024],
-    place: &'a [usize; 1024],
-    weight: &'a [u64; 1024],
-    from: usize,
-    end: usize,
-    p: usize,
-) -> Change
-    requires { ⌜ (end ≤ 1024) × Slots.Light from end (now weight) ⌝ }
-    ensures { λ r. ⌜ (r .put ≡ Reader.moved (Record.arcsOf Record.isPut (Record.slots (now (kind .entry)) (now (place .entry)) (now (weight .entry)) from (end - from))) p)
-        × (r .taken ≡ Reader.takenBy (Record.takesOf (Record.slots (now (kind .entry)) (now (place .entry)) (now (weight .entry)) from (end - from))) p) ⌝ }
-{
-    let mut put = 0;
-    let mut taken = 0;
-    let mut a = from;
-    while a < end {
-        let k = kind[a];
-        let q = place[a];
-        let w = weight[a];
-        put = put + put_slot(k, q, w, p);
-        taken = taken + taken_slot(k, q, w, p);
-        a += 1;
-    }
-    Change {
-        put: put,
-        taken: taken,
-    }
-}
-
 // Does some transition put more into place p than it takes from it?
 fn raised<'a>(
     places: usize,
@@ -181,7 +120,7 @@ fn raised<'a>(
     while j < transitions {
         let from = 16 * j;
         let end = from + arcs[j];
-        let c = change_at(kind, place, weight, from, end, p);
+        let c = slots::change_at(kind, place, weight, from, end, p);
         if c.taken < c.put {
             return true;
         }

@@ -4,7 +4,6 @@ mod change;
 mod gated;
 mod paths;
 mod propensity;
-mod slots;
 mod substep;
 mod walk;
 

@@ -13,6 +13,7 @@ ghost use Rattle.net.specs.Sound as Sound;
 ghost use Rattle.sde.specs.Diffusion as Diffusion;
 ghost use Rattle.sde.specs.Slots as Slots;
 use combinations::Ways;
+use engine::marking;
 
 // How many ways there are to choose w of x, as a float.
 fn ways(x: f64, w: u64) -> f64
@@ -80,19 +81,6 @@ fn product<'a>(
     a
 }
 
-// The rate of a transition: 0 where it runs by a timer, and 1 where none is given.
-fn rate_of(rate: f64, delay: f64) -> f64
-    ensures { λ r. ⌜ r ≡ Slots.tidy rate delay ⌝ }
-{
-    if 0.0 < delay {
-        return 0.0;
-    }
-    if rate == 0.0 {
-        return 1.0;
-    }
-    rate
-}
-
 // Tidies the rates, once a call.
 pub fn fill_rates<'a>(
     transitions: usize,
@@ -105,7 +93,7 @@ pub fn fill_rates<'a>(
 {
     let mut j: usize = 0;
     while j < transitions {
-        let r = rate_of(rate[j], delay[j]);
+        let r = marking::rate_of(rate[j], delay[j]);
         rates[j] = r;
         j += 1;
     }

@@ -1,8 +1,8 @@
 // One substep: each transition's noise goes into the state at once, and the drift after all of them.
 ghost use mathlib.Core.Path.{_≡_};
 ghost use mathlib.Core.Bool.{true, false};
-ghost use Prim.Native.Nat.{ℕ, _-_, _*_, _+_, _<_, _≤_};
-ghost use lib.Ieee.{Float, binary64, add, nan};
+ghost use Prim.Native.Nat.{_-_, _*_, _+_, _<_, _≤_};
+ghost use lib.Ieee.{binary64, add, nan};
 ghost use lib.ListN.{length, getD};
 ghost use Rattle.net.specs.Net as Reader;
 ghost use Rattle.net.specs.declared.Net.{Net as NetRecord};

@@ -2,7 +2,7 @@
 ghost use mathlib.Core.Path.{_≡_};
 ghost use mathlib.Core.List.{_∷_, []};
 ghost use Prim.Native.Nat.{ℕ, _-_, _*_, _+_, _^_, _<_, _≤_};
-ghost use lib.Ieee.{Float, nan};
+ghost use lib.Ieee.{nan};
 ghost use lib.ListN.{length, getD};
 ghost use lib.ListN as ListN;
 ghost use Rattle.net.specs.declared.Net.{Net as NetRecord};
@@ -11,7 +11,6 @@ ghost use Rattle.net.specs.Record.{lent};
 ghost use Rattle.net.specs.Sound as Sound;
 ghost use Rattle.root.specs.Root.{rootOf};
 ghost use Rattle.rules.specs.Propensity.{float};
-ghost use Rattle.normals.specs.Normal as Normal;
 ghost use Rattle.sde.specs.Diffusion as Diffusion;
 ghost use Rattle.sde.specs.Engine as Engine;
 ghost use Rattle.sde.specs.Slots as Slots;

@@ -55,7 +55,7 @@ element-copy-out-q c =
     omega (arith, s .pre .1 .place (s .args .a), s .pre .1 .places)
 
 change-at-requires : tie.Need-change-at-requires
-change-at-requires c κs = let s = c .before .before .before .before .before in (omega (arith, s .pre .1 .arcs (s .args .a / 16)), s .pre .1 .weight)
+change-at-requires c κs = let s = c .before .before .before .before .before in (omega (arith, s .pre .1 .arcs (s .args .a / 16)), λ b _ _. s .pre .1 .weight b)
 
 room-limit-requires : tie.Need-room-limit-requires
 room-limit-requires c κs = search needs

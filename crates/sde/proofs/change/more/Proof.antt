@@ -2,7 +2,7 @@
 use native.Mathlib.Omega.{arith}
 use borrow.Author.Tests.{eq-eqb, ne-eqb}
 use Rattle.combinations.proofs.Product.{in-f64}
-use Rattle.sde.proofs.Arcs.{amount-most}
+use Rattle.engine.proofs.Arcs.{amount-most}
 use borrow.Author.Needs.{needs}
 use Rattle.sde.proofs.change.more.Statement.{statement}
 use Rattle.sde.proofs.change.more.Tie as tie

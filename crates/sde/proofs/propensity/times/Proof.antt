@@ -5,8 +5,8 @@ use lib.Dec.{T}
 use lib.Ieee.{binary64, fits}
 use borrow.Author.Tests.{eq-eqb, ne-eqb}
 use borrow.Author.Needs.{needs}
-use Rattle.sde.proofs.Arcs.{amount-pos}
-use Rattle.sde.proofs.OneWay.{one-way, one-amount}
+use Rattle.engine.proofs.Arcs.{amount-pos, amount-one}
+use Rattle.sde.proofs.OneWay.{one-way}
 use Rattle.sde.proofs.propensity.times.Statement.{statement}
 use Rattle.sde.proofs.propensity.times.Tie as tie
 
@@ -17,7 +17,7 @@ held c = subst T (sym (c .good .1 .1 .1 .0 .1)) tt
 returns : tie.Need-returns
 returns c =
     let s = c .before .before in
-    simp (eq-eqb _ _ (c .before .if1 .taken), one-amount (s .args .weight) (c .if2 .taken), one-way (s .args .v) (held s))
+    simp (eq-eqb _ _ (c .before .if1 .taken), amount-one (s .args .weight) (c .if2 .taken), one-way (s .args .v) (held s))
 
 ways-requires : tie.Need-ways-requires
 ways-requires c κs = search needs

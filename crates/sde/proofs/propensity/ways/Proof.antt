@@ -3,7 +3,8 @@ use mathlib.Core.Path.{sym, ap, _∙_}
 use Rattle.combinations.specs.declared.Ways.{Ways}
 use Rattle.combinations.specs.Combinations.{meaning}
 use Rattle.rules.specs.Propensity.{asFloat}
-use Rattle.sde.proofs.Factors.{ways-answer, no-number}
+use Rattle.engine.proofs.Factors.{no-number}
+use Rattle.sde.proofs.Factors.{ways-answer}
 use borrow.Author.Needs.{needs}
 use Rattle.sde.proofs.propensity.ways.Statement.{statement}
 use Rattle.sde.proofs.propensity.ways.Tie as tie
