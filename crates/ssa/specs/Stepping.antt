@@ -10,17 +10,15 @@ use Rattle.net.specs.declared.Net.{Net as NetRecord}
 use Rattle.net.specs.Net.{pick}
 use Rattle.net.specs.Readable.{readable}
 use Rattle.rng.specs.State.{words}
-use Rattle.rules.specs.Timers.{Timer}
 use Rattle.rules.specs.Step as Rule
 use Rattle.rules.specs.Step.{State, state, Answer, refused, given, Event, Step, still, sets}
+use Rattle.engine.specs.Engine.{Tidy, Counts, marking}
+use Rattle.engine.specs.Limits.{Limits}
 use Rattle.ssa.specs.declared.step.Ending.{Ending}
 use Rattle.ssa.specs.declared.step.Ending.the-variants.{GoesOn, Quiet, Reached, Refused}
-use Rattle.ssa.specs.declared.step.Advanced.{Advanced}
 use Rattle.ssa.specs.declared.step.Due.{Due}
 use Rattle.ssa.specs.declared.step.Due.the-variants.{Nothing, Event as Follows, Full}
-use Rattle.engine.specs.Engine.{Tidy, Counts, marking}
 use Rattle.ssa.specs.TimerArrays.{timers}
-use Rattle.engine.specs.Limits.{Limits}
 
 -- the arrays of a run are as long as they should be, and hold what they should
 pub record Ready (n : NetRecord) (limit tokens : List ℕ) (times : List Float) (owners : List ℕ) (running : ℕ) : Type 0 where
