@@ -37,7 +37,7 @@ product-within m (suc i) h k l =
     (rw (← minus-pos m i (omega arith)) (whole-within (m - i) 53 (omega arith) (omega arith) (omega arith))))
     (whole-within (i + 1) 4 (omega arith) (omega arith) (omega arith)))
 
-pub ways-within : (m w : ℕ) → 0 < w → w ≤ m → m ≤ 2 ^ 53 → w ≤ 16 → Within (4 * w) (53 * w) (ways m w)
+ways-within : (m w : ℕ) → 0 < w → w ≤ m → m ≤ 2 ^ 53 → w ≤ 16 → Within (4 * w) (53 * w) (ways m w)
 ways-within m w z h k l =
     rw (lt-leb w 0 z, le-ltb m w h, le-ltb 16 w l, le-ltb (2 ^ 53) m k) (product-within m w h k l)
 
@@ -127,21 +127,21 @@ pub data Sized : Float → Type 0 where
 
 module _ (n : Net) (m : Marking) (small : (p : ℕ) → held m p ≤ 2 ^ 53) (t : Transition) (f : rateFits (t .rate) ≡ true) (k : kineticTotal (t .takes) ≤ 16) where
   -- "rate times combinations over kinetic inputs" of what can race
-  pub ready-within : enabled n m t ≡ true → timed t ≡ false → Within 164 948 (propensity n m t)
+  ready-within : enabled n m t ≡ true → timed t ≡ false → Within 164 948 (propensity n m t)
   ready-within e u =
       rw e (factored-within m small (t .takes) (rateOf t) 0 (omega arith) (both (inputsHold m (t .takes)) (gatesOpen n m t) e .0) (untimed-rate t u f))
 
-  pub timed-zero : timed t ≡ true → propensity n m t ≡ zero64
+  timed-zero : timed t ≡ true → propensity n m t ≡ zero64
   timed-zero u = go (enabled n m t) refl
     where
       go : (c : Bool) → enabled n m t ≡ c → pick c (factored m (rateOf t) (t .takes)) zero64 ≡ zero64
       go false e = refl
       go true e = rw u (factored-zero m small (t .takes) k (both (inputsHold m (t .takes)) (gatesOpen n m t) e .0))
 
-  pub not-ready-zero : enabled n m t ≡ false → propensity n m t ≡ zero64
+  not-ready-zero : enabled n m t ≡ false → propensity n m t ≡ zero64
   not-ready-zero e = rw e
 
-  pub propensity-sized : Sized (propensity n m t)
+  propensity-sized : Sized (propensity n m t)
   propensity-sized = go (enabled n m t) refl (timed t) refl
     where
       zeroed : propensity n m t ≡ zero64 → Sized (propensity n m t)
@@ -175,7 +175,7 @@ one-more k s x h none-yet none-at-all = rw zero-and-zero none-yet
 one-more k s x h (some-sum w) none-at-all = some-sum (still-within k s x h w none-at-all)
 one-more k s x h v (some-size w) = some-sum (now-within k s x h v w)
 
-pub SizedAll : List Float → Type 0
+SizedAll : List Float → Type 0
 SizedAll [] = Unit
 SizedAll (x ∷ xs) = Sized x × SizedAll xs
 
