@@ -1,5 +1,5 @@
--- The program's net record: the readable net that it stands for, and its test. A record has room for 32 places, 64 transitions and 16 arcs a
--- transition. Arc i of transition j stands in slot 16 × j + i. Slots past the counts are not looked at.
+-- The program's net record: the readable net that it stands for, the labels beside it, and its test. A record has room for 32 places, 64 transitions and 16
+-- arcs a transition. Arc i of transition j stands in slot 16 × j + i. Slots past the counts are not looked at.
 use Prim.Native.Nat.{ℕ, zero, suc, _+_, _*_}
 use mathlib.Core.Bool.{Bool, true, false}
 use mathlib.Core.List.{List, [], _∷_}
@@ -12,7 +12,9 @@ use Rattle.net.specs.declared.Net.{Net as NetRecord}
 use Rattle.net.specs.declared.Verdict.{Verdict}
 use Rattle.net.specs.declared.Verdict.the-variants.{Accepted, Refused}
 use Rattle.net.specs.Net.{Place, Arc, Take, Transition, Net, pick}
+use Rattle.text.specs.Text.{Bytes}
 use Rattle.net.specs.Tests.{firstOf, any, empty, placeTests, moveTests, orElse}
+use Rattle.net.specs.Labels.{labelTests, labelAt, labelsFrom}
 
 -- ---- arcs
 
@@ -82,11 +84,22 @@ readable n =
       transitions = transitionsFrom n 0 (n .transitions);
     }
 
+-- the labels of its places, in their order
+abbrev pub labels : NetRecord → List Bytes
+labels n = labelsFrom (n .label) (n .lengths) 0 (n .places)
+
 -- ---- its test, place by place, then 2 where there is no place, then transition by transition
 
-abbrev pub placesFault : ℕ → List Place → Option ℕ
-placesFault before [] = none
-placesFault before (q ∷ qs) = orElse (firstOf (placeTests before false q)) (placesFault (suc before) qs)
+-- place p, by 2 and 4, and its label by 17 and 18: "both follow 4 on the place's line, and in a net given to any operation"
+abbrev pub placeFault : List ℕ → List ℕ → List ℕ → List ℕ → ℕ → Option ℕ
+placeFault initial capacity label lengths p =
+    orElse (firstOf (placeTests p false (record { initial = getD initial p 0; capacity = getD capacity p 0 })))
+    (firstOf (labelTests (labelsFrom label lengths 0 p) (labelAt label lengths p)))
+
+-- k places from number p on
+abbrev pub placesFault : List ℕ → List ℕ → List ℕ → List ℕ → ℕ → ℕ → Option ℕ
+placesFault initial capacity label lengths p zero = none
+placesFault initial capacity label lengths p (suc k) = orElse (placeFault initial capacity label lengths p) (placesFault initial capacity label lengths (suc p) k)
 
 abbrev pub moveFault : NetRecord → ℕ → Option ℕ
 moveFault n j = firstOf (moveTests (n .places) j (strange (slotsOf n j)) (transition n j))
@@ -99,7 +112,7 @@ movesFault n j (suc k) = orElse (moveFault n j) (movesFault n (suc j) k)
 -- the first number that applies; none where the net is accepted
 unfoldable pub fault : NetRecord → Option ℕ
 fault n =
-    orElse (placesFault 0 (readable n .places))
+    orElse (placesFault (n .initial) (n .capacity) (n .label) (n .lengths) 0 (n .places))
     (orElse (firstOf ((Refusal.badSize, empty (readable n .places)) ∷ []))
     (movesFault n 0 (n .transitions)))
 

@@ -7,6 +7,8 @@ use lib.ListN.{getD}
 use lib.Ieee.{nan}
 use Rattle.net.specs.declared.Net.{Net as NetRecord}
 use Rattle.net.specs.Tests.{rateFits, delayFits, takenTwice, delayedForNothing, kineticTotal}
+use Rattle.text.specs.Text.{same}
+use Rattle.net.specs.Labels.{labelFits, labelAt}
 use Rattle.net.specs.Readable.{transition}
 
 pub record Sound (n : NetRecord) : Type 0 where
@@ -17,6 +19,9 @@ pub record Sound (n : NetRecord) : Type 0 where
   -- "Initial and capacity 0..2^53", of place p
   pub initial : (p : ℕ) → p < n .places → getD (n .initial) p 0 ≤ 2 ^ 53
   pub capacity : (p : ℕ) → p < n .places → getD (n .capacity) p 0 ≤ 2 ^ 53
+  -- a label of 1 to 16 bytes, of place p, which no earlier place has
+  pub label : (p : ℕ) → p < n .places → labelFits (labelAt (n .label) (n .lengths) p) ≡ true
+  pub labelled-once : (p q : ℕ) → q < p → p < n .places → same (labelAt (n .label) (n .lengths) p) (labelAt (n .label) (n .lengths) q) ≡ false
   -- "arcs per transition 0..16"; rate and delay within their domains, of transition j
   pub arcs : (j : ℕ) → j < n .transitions → getD (n .arcs) j 0 ≤ 16
   pub rate : (j : ℕ) → j < n .transitions → rateFits (getD (n .rate) j nan) ≡ true
