@@ -1,6 +1,6 @@
 pub mod Net
 pub mod Tests
 pub mod Labels
-pub mod Readable
 pub mod Record
+pub mod Readable
 pub mod Sound

@@ -39,6 +39,11 @@ abbrev pub pick : {A : Type 0} → Bool → A → A → A
 pick true a b = a
 pick false a b = b
 
+-- what k numbers have, from number j on
+abbrev pub numbered : {A : Type 0} → (ℕ → A) → ℕ → ℕ → List A
+numbered f j zero = []
+numbered f j (suc k) = f j ∷ numbered f (suc j) k
+
 abbrev pub zero64 : Float
 zero64 = ofBits binary64 0
 

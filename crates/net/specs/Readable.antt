@@ -1,7 +1,8 @@
--- The program's net record: the readable net that it stands for, the labels beside it, and its test. A record has room for 32 places, 64 transitions and 16
--- arcs a transition. Arc i of transition j stands in slot 16 × j + i. Slots past the counts are not looked at.
+-- The program's net record: the readable net that it stands for, the labels beside it, and its test. A record has room for 32 places, 64
+-- transitions and 16 arcs a transition. Arc i of transition j stands in slot 16 × j + i. Slots past the counts are not looked at.
 use Prim.Native.Nat.{ℕ, zero, suc, _+_, _*_}
-use mathlib.Core.Bool.{Bool, true, false}
+use mathlib.Core.Path.{_≡_}
+use mathlib.Core.Bool.{Bool, true, false, _||_}
 use mathlib.Core.List.{List, [], _∷_}
 use mathlib.Core.Option.{Option, none, some}
 use lib.Dec.{eqb, leb, ltb}
@@ -11,10 +12,11 @@ use Rattle.refusals.specs as Refusal
 use Rattle.net.specs.declared.Net.{Net as NetRecord}
 use Rattle.net.specs.declared.Verdict.{Verdict}
 use Rattle.net.specs.declared.Verdict.the-variants.{Accepted, Refused}
-use Rattle.net.specs.Net.{Place, Arc, Take, Transition, Net, pick}
 use Rattle.text.specs.Text.{Bytes}
-use Rattle.net.specs.Tests.{firstOf, any, empty, placeTests, moveTests, orElse}
-use Rattle.net.specs.Labels.{labelTests, labelAt, labelsFrom}
+use Rattle.net.specs.Net.{Place, Arc, Take, Transition, Net, pick, numbered}
+use Rattle.net.specs.Tests.{firstOf, any, empty, placeTests, moveTests, orElse, faultFrom}
+use Rattle.net.specs.Labels.{labelsFrom, labelFault}
+use Rattle.net.specs.Record.{labelled}
 
 -- ---- arcs
 
@@ -69,8 +71,7 @@ transition n j = transitionOf (getD (n .rate) j nan) (getD (n .delay) j nan) (sl
 
 -- k transitions from number j on
 abbrev pub transitionsFrom : NetRecord → ℕ → ℕ → List Transition
-transitionsFrom n j zero = []
-transitionsFrom n j (suc k) = transition n j ∷ transitionsFrom n (suc j) k
+transitionsFrom n j k = numbered (transition n) j k
 
 -- k places from number p on
 abbrev pub placesFrom : List ℕ → List ℕ → ℕ → ℕ → List Place
@@ -94,20 +95,18 @@ labels n = labelsFrom (n .label) (n .lengths) 0 (n .places)
 abbrev pub placeFault : List ℕ → List ℕ → List ℕ → List ℕ → ℕ → Option ℕ
 placeFault initial capacity label lengths p =
     orElse (firstOf (placeTests p false (record { initial = getD initial p 0; capacity = getD capacity p 0 })))
-    (firstOf (labelTests (labelsFrom label lengths 0 p) (labelAt label lengths p)))
+    (labelFault label lengths p)
 
 -- k places from number p on
 abbrev pub placesFault : List ℕ → List ℕ → List ℕ → List ℕ → ℕ → ℕ → Option ℕ
-placesFault initial capacity label lengths p zero = none
-placesFault initial capacity label lengths p (suc k) = orElse (placeFault initial capacity label lengths p) (placesFault initial capacity label lengths (suc p) k)
+placesFault initial capacity label lengths p k = faultFrom (placeFault initial capacity label lengths) p k
 
 abbrev pub moveFault : NetRecord → ℕ → Option ℕ
 moveFault n j = firstOf (moveTests (n .places) j (strange (slotsOf n j)) (transition n j))
 
 -- k transitions from number j on
 abbrev pub movesFault : NetRecord → ℕ → ℕ → Option ℕ
-movesFault n j zero = none
-movesFault n j (suc k) = orElse (moveFault n j) (movesFault n (suc j) k)
+movesFault n j k = faultFrom (moveFault n) j k
 
 -- the first number that applies; none where the net is accepted
 unfoldable pub fault : NetRecord → Option ℕ
@@ -120,3 +119,21 @@ fault n =
 abbrev pub meaning : Verdict → Option ℕ
 meaning Accepted = none
 meaning (Refused c) = some c
+
+-- ---- labels decide 17 and 18, and nothing else: "The figures match those of the text without labels"
+
+-- the net with other labels
+abbrev pub relabelled : NetRecord → List ℕ → List ℕ → NetRecord
+relabelled n label lengths =
+    labelled (n .places) (n .transitions) (n .initial) (n .capacity) label lengths (n .rate) (n .delay) (n .arcs) (n .kind) (n .place) (n .weight)
+
+-- a refusal that comes from a label
+abbrev pub byLabel : Option ℕ → Bool
+byLabel none = false
+byLabel (some c) = eqb c Refusal.badLabel || eqb c Refusal.usedLabel
+
+-- What proofs/Apart.antt shows of every net and of any other labels for it: the rules see the same net, and where no label is at fault on
+-- either side, both are accepted or both refused by one number.
+pub record LabelsApart (n : NetRecord) (label lengths : List ℕ) : Type 0 where
+  pub same-net : readable (relabelled n label lengths) ≡ readable n
+  pub same-fault : byLabel (fault n) ≡ false → byLabel (fault (relabelled n label lengths)) ≡ false → fault (relabelled n label lengths) ≡ fault n

@@ -24,7 +24,7 @@ labelled places transitions initial capacity label lengths rate delay arcs kind 
       weight = weight;
     }
 
--- the record whose fields a function is lent, but for the labels, which no rule of a run sees: it has none
+-- the record of a function that is lent every field but the labels, which no rule of a run sees
 abbrev pub lent : ℕ → ℕ → List ℕ → List ℕ → List Float → List Float → List ℕ → List ℕ → List ℕ → List ℕ → NetRecord
 lent places transitions initial capacity rate delay arcs kind place weight =
     labelled places transitions initial capacity [] [] rate delay arcs kind place weight

@@ -14,8 +14,9 @@ ghost use Rattle.net.specs.Readable as Readable;
 ghost use Rattle.net.specs.Record.{labelled, blank};
 ghost use Rattle.net.specs.Labels as Labels;
 
-// Up to 32 places, 64 transitions and 16 arcs a transition. The label of place p stands in lengths[p] bytes of label from 16 * p on. Arc i of transition j stands in slot 16 * j + i of kind, place and weight; arcs[j] says
-// how many it has. Slots past the counts are not looked at.
+// Up to 32 places, 64 transitions and 16 arcs a transition. The label of place p stands in label from byte 16 * p on; lengths[p] says how many
+// bytes it has. Arc i of transition j stands in slot 16 * j + i of kind, place and weight; arcs[j] says how many it has. Slots past the counts
+// and bytes past the lengths are not looked at.
 pub struct Net {
     pub places: usize,
     pub transitions: usize,
@@ -69,15 +70,16 @@ pub fn place_fault(before: usize, strange: bool, initial: u64, capacity: u64) ->
 
 // The first of 17 and 18 that applies to the label of place p, behind those of the places before it.
 pub fn label_fault<'a>(label: &'a [u8; 512], lengths: &'a [usize; 32], p: usize) -> Verdict
-    ensures { λ r. ⌜ Readable.meaning r ≡ Tests.firstOf (Labels.labelTests (Labels.labelsFrom (now (label .entry)) (now (lengths .entry)) 0 p) (Labels.labelAt (now (label .entry)) (now (lengths .entry)) p)) ⌝ }
+    ensures { λ r. ⌜ Readable.meaning r ≡ Labels.labelFault (now (label .entry)) (now (lengths .entry)) p ⌝ }
 {
+    let bytes: &[u8] = label;
     if bounds::MOST_PLACES <= p {
         return Verdict::Refused(refusals::BAD_LABEL);
     }
-    if !labels::label_fits(label, lengths, p) {
+    if !labels::label_fits(bytes, lengths, p) {
         return Verdict::Refused(refusals::BAD_LABEL);
     }
-    if labels::used_before(label, lengths, p) {
+    if labels::used_before(bytes, lengths, p) {
         return Verdict::Refused(refusals::USED_LABEL);
     }
     Verdict::Accepted

@@ -1,54 +1,56 @@
+-- The invariant: the test of the bytes that are left is that of all. Assumes nothing.
+use Prim.Native.Nat.{_+_, _-_}
+use mathlib.Core.Path.{_≡_, sym, _∙_}
 use borrow.Author.Needs.{needs}
-use native.Mathlib.Omega.{arith}
-use mathlib.Core.Path.{_≡_, refl, sym, ap, _∙_}
-use Prim.Native.Nat.{ℕ, _+_, _-_, _*_, _≤_, _<_}
+use borrow.Author.Tests.{not-true, not-false}
+use Rattle.net.specs.Labels.{labelByte, every}
+use Rattle.net.proofs.Bytes.{part, and-stop, and-go, every-begin, every-turn, every-end}
 use Rattle.net.proofs.labels.label_bytes.Statement.{statement}
 use Rattle.net.proofs.labels.label_bytes.Tie as tie
-use Rattle.net.proofs.labels.label_bytes.Reads as reads
-use Rattle.net.proofs.labels.label_bytes.Lts as lts
-use Rattle.net.proofs.labels.label_byte.Reads as label-byte-reads
 
 abbrev Inv-loop : tie.InvT-loop
-Inv-loop label from n end i₀ i = ?
+Inv-loop label from n end i₀ i = every labelByte (part i (end - i) label) ≡ every labelByte (part from n label)
 
 abbrev μ-loop : tie.MeasureT-loop
-μ-loop label from n end i₀ i = ?
+μ-loop label from n end i₀ i = end - i
 
--- src/labels.rt:35:15
 add-end : tie.Need-add-end Inv-loop μ-loop
 add-end c = search needs
 
--- src/labels.rt:37:5
 loop-holds : tie.Need-loop-holds Inv-loop μ-loop
-loop-holds c = ?
+loop-holds c = let s = c .before .args in every-begin (s .label .now) (s .from) (s .n)
 
--- src/labels.rt:38:24
-element-copy-out-label-byte : tie.Need-element-copy-out-label-byte Inv-loop μ-loop
-element-copy-out-label-byte c = search needs
+shared-slice-read-label-byte : tie.Need-shared-slice-read-label-byte Inv-loop μ-loop
+shared-slice-read-label-byte c = search needs
 
--- src/labels.rt:38:13
 label-byte-requires : tie.Need-label-byte-requires Inv-loop μ-loop
 label-byte-requires c κs = search needs
 
--- src/labels.rt:39:13
 returns : tie.Need-returns Inv-loop μ-loop
-returns c = ?
+returns c =
+    let l = c .before .before .before in
+    let s = l .before .before .before .args in
+    and-stop _ _ (every-turn (s .label .now) (l .before .loop .i) (s .from + s .n) (l .loop-test .taken) (search needs) (l .before .loop .inv))
+    (sym (c .before .label-byte .ensures) ∙ not-true _ (c .if1 .taken))
 
--- src/labels.rt:41:9
 add-i : tie.Need-add-i Inv-loop μ-loop
 add-i c = search needs
 
--- src/labels.rt:37:5
 loop-less : tie.Need-loop-less Inv-loop μ-loop
 loop-less c = search needs
 
--- src/labels.rt:37:5
 loop-again : tie.Need-loop-again Inv-loop μ-loop
-loop-again c = ?
+loop-again c =
+    let l = c .before .before .before in
+    let s = l .before .before .before .args in
+    and-go _ _ (every-turn (s .label .now) (l .before .loop .i) (s .from + s .n) (l .loop-test .taken) (search needs) (l .before .loop .inv))
+    (sym (c .before .label-byte .ensures) ∙ not-false _ (c .if1 .left))
 
--- src/labels.rt:31:1
 returns-2 : tie.Need-returns-2 Inv-loop μ-loop
-returns-2 c = ?
+returns-2 c =
+    let l = c .before in
+    let s = l .before .before .args in
+    every-end (s .label .now) (l .loop .i) (s .from + s .n) (c .loop-test .left) (l .loop .inv)
 
 pub label-bytes-spec : {M : Type 1} → statement M
 label-bytes-spec =
@@ -58,7 +60,7 @@ label-bytes-spec =
     μ-loop
     add-end
     loop-holds
-    element-copy-out-label-byte
+    shared-slice-read-label-byte
     label-byte-requires
     returns
     add-i
