@@ -23,7 +23,7 @@ returns-3 c =
 returns-4 : tie.Need-returns-4
 returns-4 c =
     let b = c .before .before .before .before .args .b in
-    simp (lt-leb 97 b (c .if4 .taken), lt-leb b 57 (c .before .if3 .left), le-leb 48 b (c .before .before .if2 .left), ne-eqb b 45 (c .before .before .before .if1 .left))
+    simp (lt-leb 97 b (omega arith), lt-leb b 57 (c .before .if3 .left), le-leb 48 b (c .before .before .if2 .left), ne-eqb b 45 (c .before .before .before .if1 .left))
 
 returns-5 : tie.Need-returns-5
 returns-5 c =

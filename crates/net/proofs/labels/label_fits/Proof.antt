@@ -16,7 +16,7 @@ returns : tie.Need-returns
 returns c = let s = c .before .before .before .args in absent (s .label .now) (s .lengths .now) (s .p) (c .if1 .taken)
 
 returns-2 : tie.Need-returns-2
-returns-2 c = let s = c .before .before .before .before .args in long (s .label .now) (s .lengths .now) (s .p) (c .if2 .taken)
+returns-2 c = let s = c .before .before .before .before .args in long (s .label .now) (s .lengths .now) (s .p) (omega arith)
 
 mul-label-bytes : tie.Need-mul-label-bytes
 mul-label-bytes c = search needs
