@@ -31,7 +31,7 @@ module _ (label lengths : List ℕ) (p : ℕ) where
   label-over : 16 < n → l ≡ []
   label-over h = ap (λ (b : Bool). pick b (part (16 * p) n label) []) (lt-leb n 16 h)
 
-  label-part : n ≤ 16 → l ≡ part (16 * p) n label
+  pub label-part : n ≤ 16 → l ≡ part (16 * p) n label
   label-part h = ap (λ (b : Bool). pick b (part (16 * p) n label) []) (le-leb n 16 h)
 
   -- a place behind the bytes has none
@@ -43,7 +43,7 @@ module _ (label lengths : List ℕ) (p : ℕ) where
       same-pick true = refl
       same-pick false = refl
 
-  length-label : 16 * p + 16 ≤ length label → length l ≡ pick (leb n 16) n 0
+  pub length-label : 16 * p + 16 ≤ length label → length l ≡ pick (leb n 16) n 0
   length-label h = go (leb n 16) refl
     where
       go : (b : Bool) → leb n 16 ≡ b → length (pick b (part (16 * p) n label) []) ≡ pick b n 0

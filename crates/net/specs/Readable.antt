@@ -136,4 +136,5 @@ byLabel (some c) = eqb c Refusal.badLabel || eqb c Refusal.usedLabel
 -- either side, both are accepted or both refused by one number.
 pub record LabelsApart (n : NetRecord) (label lengths : List ℕ) : Type 0 where
   pub same-net : readable (relabelled n label lengths) ≡ readable n
-  pub same-fault : byLabel (fault n) ≡ false → byLabel (fault (relabelled n label lengths)) ≡ false → fault (relabelled n label lengths) ≡ fault n
+  pub same-fault : byLabel (fault n) ≡ false → byLabel (fault (relabelled n label lengths)) ≡ false
+      → fault (relabelled n label lengths) ≡ fault n

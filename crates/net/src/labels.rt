@@ -77,7 +77,8 @@ fn same_bytes(label: &[u8], a: usize, b: usize, n: usize) -> bool
 // Do places p and q have the same label? That of p is 1 to 16 bytes long.
 fn same_labels<'a>(label: &'a [u8], lengths: &'a [usize; 32], p: usize, q: usize) -> bool
     requires { ⌜ (length (now label) ≡ 512) × (p < 32) × (q < 32) × (0 < getD (now lengths) p 0) × (getD (now lengths) p 0 ≤ 16) ⌝ }
-    ensures { λ r. ⌜ r ≡ same (Labels.labelAt (now (label .entry)) (now (lengths .entry)) p) (Labels.labelAt (now (label .entry)) (now (lengths .entry)) q) ⌝ }
+    ensures { λ r. ⌜ r ≡ same (Labels.labelAt (now (label .entry)) (now (lengths .entry)) p)
+        (Labels.labelAt (now (label .entry)) (now (lengths .entry)) q) ⌝ }
 {
     let n = lengths[p];
     if lengths[q] != n {
@@ -89,7 +90,8 @@ fn same_labels<'a>(label: &'a [u8], lengths: &'a [usize; 32], p: usize, q: usize
 // Does a place before p have the label of p, which is 1 to 16 bytes long?
 pub fn used_before<'a>(label: &'a [u8], lengths: &'a [usize; 32], p: usize) -> bool
     requires { ⌜ (length (now label) ≡ 512) × (p < 32) × (0 < getD (now lengths) p 0) × (getD (now lengths) p 0 ≤ 16) ⌝ }
-    ensures { λ r. ⌜ r ≡ Tests.any (same (Labels.labelAt (now (label .entry)) (now (lengths .entry)) p)) (Labels.labelsFrom (now (label .entry)) (now (lengths .entry)) 0 p) ⌝ }
+    ensures { λ r. ⌜ r ≡ Tests.any (same (Labels.labelAt (now (label .entry)) (now (lengths .entry)) p))
+        (Labels.labelsFrom (now (label .entry)) (now (lengths .entry)) 0 p) ⌝ }
 {
     let mut q: usize = 0;
     while q < p {

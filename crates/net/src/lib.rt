@@ -141,8 +141,9 @@ pub fn fields_fault<'a>(
     place: &'a [usize; 1024],
     weight: &'a [u64; 1024],
 ) -> Verdict
-    ensures { λ r. ⌜ Readable.meaning r ≡ Readable.fault (labelled places transitions (now (initial .entry)) (now (capacity .entry)) (now (label .entry)) (now (lengths .entry)) (now (rate .entry)) (now (delay .entry))
-        (now (arcs .entry)) (now (kind .entry)) (now (place .entry)) (now (weight .entry))) ⌝ }
+    ensures { λ r. ⌜ Readable.meaning r ≡ Readable.fault (labelled places transitions (now (initial .entry)) (now (capacity .entry))
+        (now (label .entry)) (now (lengths .entry)) (now (rate .entry)) (now (delay .entry)) (now (arcs .entry))
+        (now (kind .entry)) (now (place .entry)) (now (weight .entry))) ⌝ }
 {
     if let Verdict::Refused(c) = places::places_fault(places, initial, capacity, label, lengths) {
         return Verdict::Refused(c);

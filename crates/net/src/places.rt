@@ -12,7 +12,8 @@ fn place_at<'a>(
     lengths: &'a [usize; 32],
     p: usize,
 ) -> Verdict
-    ensures { λ r. ⌜ Readable.meaning r ≡ Readable.placeFault (now (initial .entry)) (now (capacity .entry)) (now (label .entry)) (now (lengths .entry)) p ⌝ }
+    ensures { λ r. ⌜ Readable.meaning r ≡ Readable.placeFault (now (initial .entry)) (now (capacity .entry)) (now (label .entry))
+        (now (lengths .entry)) p ⌝ }
 {
     if bounds::MOST_PLACES <= p {
         return Verdict::Refused(refusals::BAD_SIZE);
@@ -31,7 +32,8 @@ pub fn places_fault<'a>(
     label: &'a [u8; 512],
     lengths: &'a [usize; 32],
 ) -> Verdict
-    ensures { λ r. ⌜ Readable.meaning r ≡ Readable.placesFault (now (initial .entry)) (now (capacity .entry)) (now (label .entry)) (now (lengths .entry)) 0 places ⌝ }
+    ensures { λ r. ⌜ Readable.meaning r ≡ Readable.placesFault (now (initial .entry)) (now (capacity .entry)) (now (label .entry))
+        (now (lengths .entry)) 0 places ⌝ }
 {
     let mut p: usize = 0;
     while p < places {

@@ -160,7 +160,7 @@ fn lettered(at: usize, b: u8) -> Net
     n
 }
 
-// q0 twice: the bytes behind the second are x.
+// q0 twice, with byte x behind the second.
 fn twice(x: u8) -> Net {
     let mut n = lettered(17, 48);
     n.label[18] = x;
@@ -185,7 +185,7 @@ fn unnamed(p: usize, q: usize) -> Net
     n
 }
 
-// As many places and transitions, and the 32nd place without a label.
+// So many places and transitions, the 32nd place without a label.
 fn unlabelled(places: usize, transitions: usize) -> Net {
     let mut n = long(31, 0);
     n.places = places;
@@ -220,10 +220,19 @@ fn labels() {
         b"label used already, with another byte behind it",
         twice(65),
     );
-    show(b"label used by the place before last", third());
-    show(b"no label at place 0, place 1 out of its domain", unnamed(0, 1));
-    show(b"place 0 out of its domain, no label at place 1", unnamed(1, 0));
-    show(b"place 1 out of its domain and without a label", unnamed(1, 1));
+    show(b"label used two places before", third());
+    show(
+        b"no label at place 0, place 1 out of its domain",
+        unnamed(0, 1),
+    );
+    show(
+        b"place 0 out of its domain, no label at place 1",
+        unnamed(1, 0),
+    );
+    show(
+        b"place 1 out of its domain and without a label",
+        unnamed(1, 1),
+    );
     show(b"31 places, the 32nd without a label", unlabelled(31, 1));
     show(b"33 places, the 32nd without a label", unlabelled(33, 1));
     show(
