@@ -16,7 +16,7 @@ use lib.Ieee.{Float, nan}
 use Rattle.rules.specs.Step.{Answer, refused, given}
 use Rattle.averages.specs.Tables.{row, rowsFrom}
 use Rattle.sde.specs.Diffusion.{State, andThen, at, cellsOf, further}
-use Rattle.sde.specs.Engine.{unless, preceded, Column, Beyond}
+use Rattle.sde.specs.Arrays.{unless, preceded, Column, Beyond}
 use Rattle.sde.proofs.Substeps.{then-stop, then-go}
 
 -- ---- where a cell lies

@@ -11,7 +11,7 @@ use lib.Seq.{getD-set-same, getD-set-other, getD-take, length-take-le, ext-getD}
 use lib.Ieee.{Float, nan}
 use borrow.Author.Tests.{eqb-true, eqb-false}
 use Rattle.sde.specs.Diffusion.{eachFrom}
-use Rattle.sde.specs.Engine.{Mapped}
+use Rattle.sde.specs.Arrays.{Mapped}
 use Rattle.engine.proofs.Arcs.{on-bool}
 
 -- ---- the list

@@ -25,7 +25,7 @@ use Rattle.averages.proofs.Members.{withAll, with-more, with-refused, with-none
 use Rattle.averages.proofs.Sums.{cellsFrom-length, tableBy-length, onFront-const, sums-none, sums-more, means-made, deviations-made, deviations-none}
 use Rattle.sde.specs.Diffusion.{stepOf, walked, cellsOf}
 use Rattle.sde.specs.Call.{member, membersFrom, Outcome, averaged, stopped, Call, tabulated}
-use Rattle.sde.specs.Engine.{unless, Beyond}
+use Rattle.sde.specs.Arrays.{unless, Beyond}
 use Rattle.sde.specs.Summed.{SummedBy, all, halted}
 use Rattle.engine.proofs.Arcs.{on-bool}
 

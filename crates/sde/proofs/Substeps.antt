@@ -22,7 +22,7 @@ use Rattle.normals.specs.declared.Normal.{Normal}
 use Rattle.normals.specs.Normal.{Drawn, samplerOf, answerOf, drawnOf, normal}
 use Rattle.sde.specs.Diffusion.{State, Going, andThen, change, propensity, driftBy, noiseBy, drifted, noised, spread, pushed, pushedAll, begun, aboveZero, afterDrift, substep, repeated, overInterval, at}
 use Rattle.sde.specs.Slots.{Changes}
-use Rattle.sde.specs.Engine.{stateOf, goingOf, unless, Mapped}
+use Rattle.sde.specs.Arrays.{stateOf, goingOf, unless, Mapped}
 use Rattle.sde.proofs.Each.{each-same, each-one}
 
 -- ---- answers

@@ -14,7 +14,7 @@ use Rattle.rules.specs.Step.{Answer, refused, given}
 use Rattle.normals.specs.declared.GaussianSampler.{GaussianSampler}
 use Rattle.normals.specs.Normal.{samplerOf, seededSampler}
 use Rattle.sde.specs.Diffusion.{State, andThen, eachFrom, further, overInterval, firstState, walked, cellsOf}
-use Rattle.sde.specs.Engine.{stateOf, preceded, Mapped, Beyond}
+use Rattle.sde.specs.Arrays.{stateOf, preceded, Mapped, Beyond}
 
 counts-from : (initial capacity : List ℕ) (p k : ℕ) (xs : List Float) → length xs ≡ k
     → eachFrom (λ (q : ℕ) (v : Float). float (getD initial q 0)) p xs ≡ map (λ (q : Place). float (q .initial)) (placesFrom initial capacity p k)

@@ -2,5 +2,5 @@ pub mod Gated
 pub mod Diffusion
 pub mod Call
 pub mod Slots
-pub mod Engine
+pub mod Arrays
 pub mod Summed

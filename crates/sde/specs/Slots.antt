@@ -108,7 +108,7 @@ abbrev pub Ends : NetRecord → List ℕ → Type 0
 Ends n ends = EndsOf (n .transitions) (n .arcs) (n .kind) ends
 
 -- the three tables, over a net whose rates are tidy
-pub record Tables (n : NetRecord) (changes : List Float) (skips ends : List ℕ) : Type 0 where
+pub record Prepared (n : NetRecord) (changes : List Float) (skips ends : List ℕ) : Type 0 where
   pub of-rates : Rated n
   pub of-changes : Changes n changes
   pub of-skips : Skips (n .places) (n .transitions) changes skips

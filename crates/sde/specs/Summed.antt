@@ -9,7 +9,7 @@ use Rattle.net.specs.Net.{zero64}
 use Rattle.averages.specs.Moments.{plus, plusSquare, summedUp, tableBy}
 use Rattle.averages.specs.Members.{Members, refusedAt, members, lastOf}
 use Rattle.averages.specs.Tables.{Tables}
-use Rattle.sde.specs.Engine.{Beyond}
+use Rattle.sde.specs.Arrays.{Beyond}
 
 -- so many paths were walked: all, with their sums and the last of them in the tables; or those before the first that was refused
 pub data SummedBy (cells realizations : ℕ) (paths : Members (List Float)) (before : Tables) (mean deviation path : List Float) (walked : ℕ) : Type 0 where

@@ -66,7 +66,7 @@ fn sum_paths<'a>(
 ) -> u64
     ghost { NetRecord }
     requires { λ net. ⌜ lent places transitions (now initial) (now capacity) (now rate) (now delay) (now arcs) (now kind) (now place) (now weight) ≡ net ⌝ }
-    requires { λ net. ⌜ Sound.Sound net × Slots.Tables net (now changes) (now skips) (now ends)
+    requires { λ net. ⌜ Sound.Sound net × Slots.Prepared net (now changes) (now skips) (now ends)
         × (dt ≡ Diffusion.stepOf n horizon) × (root ≡ rootOf dt)
         × (1 ≤ n) × (n ≤ 1024) × (1 ≤ realizations)
         × (places * n ≤ length (now mean)) × (places * n ≤ length (now deviation)) × (places * n ≤ length (now path)) ⌝ }
@@ -166,7 +166,7 @@ fn averaged<'a>(
 ) -> DiffusionAnswer
     ghost { NetRecord }
     requires { λ net. ⌜ lent places transitions (now initial) (now capacity) (now rate) (now delay) (now arcs) (now kind) (now place) (now weight) ≡ net ⌝ }
-    requires { λ net. ⌜ Sound.Sound net × Slots.Tables net (now changes) (now skips) (now ends)
+    requires { λ net. ⌜ Sound.Sound net × Slots.Prepared net (now changes) (now skips) (now ends)
         × (dt ≡ Diffusion.stepOf n horizon) × (root ≡ rootOf dt)
         × (1 ≤ n) × (n ≤ 1024) × (1 ≤ realizations) × (realizations ≤ 65_535)
         × (places * n ≤ length (now mean)) × (places * n ≤ length (now deviation)) × (places * n ≤ length (now path)) ⌝ }

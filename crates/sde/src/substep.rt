@@ -11,7 +11,7 @@ ghost use Rattle.net.specs.Record.{lent};
 ghost use Rattle.net.specs.Sound as Sound;
 ghost use Rattle.root.specs.Root.{rootOf};
 ghost use Rattle.sde.specs.Diffusion as Diffusion;
-ghost use Rattle.sde.specs.Engine as Engine;
+ghost use Rattle.sde.specs.Arrays as Arrays;
 ghost use Rattle.sde.specs.Slots as Slots;
 use crate::propensity;
 use normals::Draw;
@@ -35,9 +35,9 @@ fn spread(
     x: &mut [f64; 32],
     drift: &mut [f64; 32],
 )
-    requires { ⌜ (j < 64) × (places ≤ 32) × Engine.Lengths (now x) (now drift) × Slots.SkipsOf places j (now changes) (now skips) ⌝ }
-    ensures { λ _. ⌜ Engine.Mapped places (λ p. Diffusion.noiseBy (getD (now (changes .entry)) (32 * j + p) nan) noise) (now (x .entry)) (now (x .exit))
-        × Engine.Mapped places (λ p. Diffusion.driftBy (getD (now (changes .entry)) (32 * j + p) nan) a dt) (now (drift .entry)) (now (drift .exit)) ⌝ }
+    requires { ⌜ (j < 64) × (places ≤ 32) × Arrays.Lengths (now x) (now drift) × Slots.SkipsOf places j (now changes) (now skips) ⌝ }
+    ensures { λ _. ⌜ Arrays.Mapped places (λ p. Diffusion.noiseBy (getD (now (changes .entry)) (32 * j + p) nan) noise) (now (x .entry)) (now (x .exit))
+        × Arrays.Mapped places (λ p. Diffusion.driftBy (getD (now (changes .entry)) (32 * j + p) nan) a dt) (now (drift .entry)) (now (drift .exit)) ⌝ }
 {
     let from = 32 * j;
     let first = 33 * j;
@@ -56,7 +56,7 @@ fn spread(
 // Sets the drift to +0.
 fn clear(places: usize, drift: &mut [f64; 32])
     requires { ⌜ (places ≤ 32) × (length (now drift) ≡ 32) ⌝ }
-    ensures { λ _. ⌜ Engine.Mapped places (λ p v. Reader.zero64) (now (drift .entry)) (now (drift .exit)) ⌝ }
+    ensures { λ _. ⌜ Arrays.Mapped places (λ p v. Reader.zero64) (now (drift .entry)) (now (drift .exit)) ⌝ }
 {
     let mut p: usize = 0;
     while p < places {
@@ -79,7 +79,7 @@ fn after_drift(v: f64, d: f64) -> f64
 // Adds the drift to the state.
 fn add_drift(places: usize, drift: &[f64; 32], x: &mut [f64; 32])
     requires { ⌜ (places ≤ 32) × (length (now x) ≡ 32) ⌝ }
-    ensures { λ _. ⌜ Engine.Mapped places (λ p v. Diffusion.aboveZero (add binary64 v (getD (now (drift .entry)) p nan))) (now (x .entry)) (now (x .exit)) ⌝ }
+    ensures { λ _. ⌜ Arrays.Mapped places (λ p v. Diffusion.aboveZero (add binary64 v (getD (now (drift .entry)) p nan))) (now (x .entry)) (now (x .exit)) ⌝ }
 {
     let mut p: usize = 0;
     while p < places {
@@ -112,11 +112,11 @@ fn push_all<'a>(
 ) -> Pushed
     ghost { NetRecord }
     requires { λ net. ⌜ lent places transitions (now initial) (now capacity) (now rate) (now delay) (now arcs) (now kind) (now place) (now weight) ≡ net ⌝ }
-    requires { λ net. ⌜ Sound.Sound net × Slots.Tables net (now changes) (now skips) (now ends)
-        × (root ≡ rootOf dt) × Engine.Lengths (now x) (now drift) ⌝ }
-    ensures { λ net r. ⌜ (Engine.unless (r .stopped) (Engine.goingOf places (now (x .exit)) (now (drift .exit)) (r .sampler))
-        ≡ Diffusion.pushedAll dt (Record.transitionsFrom net 0 transitions) (Engine.goingOf places (now (x .entry)) (now (drift .entry)) sampler))
-        × Engine.Lengths (now (x .exit)) (now (drift .exit)) ⌝ }
+    requires { λ net. ⌜ Sound.Sound net × Slots.Prepared net (now changes) (now skips) (now ends)
+        × (root ≡ rootOf dt) × Arrays.Lengths (now x) (now drift) ⌝ }
+    ensures { λ net r. ⌜ (Arrays.unless (r .stopped) (Arrays.goingOf places (now (x .exit)) (now (drift .exit)) (r .sampler))
+        ≡ Diffusion.pushedAll dt (Record.transitionsFrom net 0 transitions) (Arrays.goingOf places (now (x .entry)) (now (drift .entry)) sampler))
+        × Arrays.Lengths (now (x .exit)) (now (drift .exit)) ⌝ }
 {
     let mut s = sampler;
     let mut j: usize = 0;
@@ -185,11 +185,11 @@ pub fn substep<'a>(
 ) -> Pushed
     ghost { NetRecord }
     requires { λ net. ⌜ lent places transitions (now initial) (now capacity) (now rate) (now delay) (now arcs) (now kind) (now place) (now weight) ≡ net ⌝ }
-    requires { λ net. ⌜ Sound.Sound net × Slots.Tables net (now changes) (now skips) (now ends)
-        × (root ≡ rootOf dt) × Engine.Lengths (now x) (now drift) ⌝ }
-    ensures { λ net r. ⌜ (Engine.unless (r .stopped) (Engine.stateOf places (now (x .exit)) (r .sampler))
-        ≡ Diffusion.substep (Record.readable net) dt (Engine.stateOf places (now (x .entry)) sampler))
-        × Engine.Lengths (now (x .exit)) (now (drift .exit)) ⌝ }
+    requires { λ net. ⌜ Sound.Sound net × Slots.Prepared net (now changes) (now skips) (now ends)
+        × (root ≡ rootOf dt) × Arrays.Lengths (now x) (now drift) ⌝ }
+    ensures { λ net r. ⌜ (Arrays.unless (r .stopped) (Arrays.stateOf places (now (x .exit)) (r .sampler))
+        ≡ Diffusion.substep (Record.readable net) dt (Arrays.stateOf places (now (x .entry)) sampler))
+        × Arrays.Lengths (now (x .exit)) (now (drift .exit)) ⌝ }
 {
     clear(places, drift);
     let p = push_all(
@@ -244,11 +244,11 @@ pub fn over_interval<'a>(
 ) -> Pushed
     ghost { NetRecord }
     requires { λ net. ⌜ lent places transitions (now initial) (now capacity) (now rate) (now delay) (now arcs) (now kind) (now place) (now weight) ≡ net ⌝ }
-    requires { λ net. ⌜ Sound.Sound net × Slots.Tables net (now changes) (now skips) (now ends)
-        × (root ≡ rootOf dt) × Engine.Lengths (now x) (now drift) ⌝ }
-    ensures { λ net r. ⌜ (Engine.unless (r .stopped) (Engine.stateOf places (now (x .exit)) (r .sampler))
-        ≡ Diffusion.overInterval (Record.readable net) dt (Engine.stateOf places (now (x .entry)) sampler))
-        × Engine.Lengths (now (x .exit)) (now (drift .exit)) ⌝ }
+    requires { λ net. ⌜ Sound.Sound net × Slots.Prepared net (now changes) (now skips) (now ends)
+        × (root ≡ rootOf dt) × Arrays.Lengths (now x) (now drift) ⌝ }
+    ensures { λ net r. ⌜ (Arrays.unless (r .stopped) (Arrays.stateOf places (now (x .exit)) (r .sampler))
+        ≡ Diffusion.overInterval (Record.readable net) dt (Arrays.stateOf places (now (x .entry)) sampler))
+        × Arrays.Lengths (now (x .exit)) (now (drift .exit)) ⌝ }
 {
     let mut s = sampler;
     if 0.0 < dt {

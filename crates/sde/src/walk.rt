@@ -12,7 +12,7 @@ ghost use Rattle.net.specs.Sound as Sound;
 ghost use Rattle.root.specs.Root.{rootOf};
 ghost use Rattle.rules.specs.Propensity.{float};
 ghost use Rattle.sde.specs.Diffusion as Diffusion;
-ghost use Rattle.sde.specs.Engine as Engine;
+ghost use Rattle.sde.specs.Arrays as Arrays;
 ghost use Rattle.sde.specs.Slots as Slots;
 use crate::substep;
 use normals::GaussianSampler;
@@ -20,7 +20,7 @@ use normals::GaussianSampler;
 // Writes the state into the cells of instant i of n.
 fn show(places: usize, n: usize, i: usize, x: &[f64; 32], table: &mut [f64])
     requires { ⌜ (places ≤ 32) × (i < n) × (n ≤ 1024) × (places * n ≤ length (now table)) ⌝ }
-    ensures { λ _. ⌜ Engine.Column n i places (now (x .entry)) (now (table .entry)) (now (table .exit)) ⌝ }
+    ensures { λ _. ⌜ Arrays.Column n i places (now (x .entry)) (now (table .entry)) (now (table .exit)) ⌝ }
 {
     let mut p: usize = 0;
     while p < places {
@@ -32,7 +32,7 @@ fn show(places: usize, n: usize, i: usize, x: &[f64; 32], table: &mut [f64])
 // The initial counts, as floats.
 fn first_state(places: usize, initial: &[u64; 32], x: &mut [f64; 32])
     requires { ⌜ (places ≤ 32) × ((p : ℕ) → p < places → getD (now initial) p 0 ≤ 2 ^ 53) × (length (now x) ≡ 32) ⌝ }
-    ensures { λ _. ⌜ Engine.Mapped places (λ p v. float (getD (now (initial .entry)) p 0)) (now (x .entry)) (now (x .exit)) ⌝ }
+    ensures { λ _. ⌜ Arrays.Mapped places (λ p v. float (getD (now (initial .entry)) p 0)) (now (x .entry)) (now (x .exit)) ⌝ }
 {
     let mut p: usize = 0;
     while p < places {
@@ -67,14 +67,14 @@ fn walk_on<'a>(
 ) -> bool
     ghost { NetRecord }
     requires { λ net. ⌜ lent places transitions (now initial) (now capacity) (now rate) (now delay) (now arcs) (now kind) (now place) (now weight) ≡ net ⌝ }
-    requires { λ net. ⌜ Sound.Sound net × Slots.Tables net (now changes) (now skips) (now ends)
-        × (root ≡ rootOf dt) × Engine.Lengths (now x) (now drift)
+    requires { λ net. ⌜ Sound.Sound net × Slots.Prepared net (now changes) (now skips) (now ends)
+        × (root ≡ rootOf dt) × Arrays.Lengths (now x) (now drift)
         × (1 ≤ n) × (n ≤ 1024) × (places * n ≤ length (now table))
         × ((p : ℕ) → p < places → getD (now table) (p * n + 0) nan ≡ getD (now x) p nan) ⌝ }
-    ensures { λ net r. ⌜ (Engine.unless r (ListN.take (places * n) (now (table .exit)))
-        ≡ Diffusion.cellsOf places (Engine.preceded (ListN.take places (now (x .entry)) ∷ []) (Diffusion.further (n - 1) (Diffusion.overInterval (Record.readable net) dt) (Engine.stateOf places (now (x .entry)) sampler))))
-        × Engine.Beyond (places * n) (now (table .entry)) (now (table .exit))
-        × Engine.Lengths (now (x .exit)) (now (drift .exit)) ⌝ }
+    ensures { λ net r. ⌜ (Arrays.unless r (ListN.take (places * n) (now (table .exit)))
+        ≡ Diffusion.cellsOf places (Arrays.preceded (ListN.take places (now (x .entry)) ∷ []) (Diffusion.further (n - 1) (Diffusion.overInterval (Record.readable net) dt) (Arrays.stateOf places (now (x .entry)) sampler))))
+        × Arrays.Beyond (places * n) (now (table .entry)) (now (table .exit))
+        × Arrays.Lengths (now (x .exit)) (now (drift .exit)) ⌝ }
 {
     let mut s = sampler;
     let mut i: usize = 1;
@@ -135,13 +135,13 @@ pub fn walk<'a>(
 ) -> bool
     ghost { NetRecord }
     requires { λ net. ⌜ lent places transitions (now initial) (now capacity) (now rate) (now delay) (now arcs) (now kind) (now place) (now weight) ≡ net ⌝ }
-    requires { λ net. ⌜ Sound.Sound net × Slots.Tables net (now changes) (now skips) (now ends)
-        × (root ≡ rootOf dt) × Engine.Lengths (now x) (now drift)
+    requires { λ net. ⌜ Sound.Sound net × Slots.Prepared net (now changes) (now skips) (now ends)
+        × (root ≡ rootOf dt) × Arrays.Lengths (now x) (now drift)
         × (1 ≤ n) × (n ≤ 1024) × (places * n ≤ length (now table)) ⌝ }
-    ensures { λ net r. ⌜ (Engine.unless r (ListN.take (places * n) (now (table .exit)))
+    ensures { λ net r. ⌜ (Arrays.unless r (ListN.take (places * n) (now (table .exit)))
         ≡ Diffusion.cellsOf places (Diffusion.walked (Record.readable net) dt n seed))
-        × Engine.Beyond (places * n) (now (table .entry)) (now (table .exit))
-        × Engine.Lengths (now (x .exit)) (now (drift .exit)) ⌝ }
+        × Arrays.Beyond (places * n) (now (table .entry)) (now (table .exit))
+        × Arrays.Lengths (now (x .exit)) (now (drift .exit)) ⌝ }
 {
     first_state(places, initial, x);
     show(places, n, 0, x, table);

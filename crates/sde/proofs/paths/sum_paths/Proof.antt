@@ -6,7 +6,7 @@ use Rattle.net.specs.Record.{lent}
 use Rattle.net.specs.Readable.{readable}
 use Rattle.averages.specs.Request.{Request}
 use Rattle.averages.specs.Moments.{plus, plusSquare}
-use Rattle.sde.specs.Engine.{Lengths}
+use Rattle.sde.specs.Arrays.{Lengths}
 use Rattle.sde.proofs.Members.{member-is, table-beyond, Sums, none-yet, sums-first, summed-from, sums-stop, sums-next, sums-all}
 use borrow.Author.Needs.{needs}
 use native.Mathlib.Omega.{arith}

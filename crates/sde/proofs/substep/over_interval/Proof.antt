@@ -3,7 +3,7 @@ use Rattle.net.specs.declared.Net.{Net as NetRecord}
 use Rattle.net.specs.Record.{lent}
 use Rattle.net.specs.Readable.{readable}
 use Rattle.sde.specs.Diffusion.{substep, repeated, overInterval}
-use Rattle.sde.specs.Engine.{stateOf, Lengths}
+use Rattle.sde.specs.Arrays.{stateOf, Lengths}
 use Rattle.sde.proofs.Substeps.{repeated-end, repeated-stop, repeated-go, interval-some, interval-none}
 use borrow.Author.Needs.{needs}
 use native.Mathlib.Omega.{arith}

@@ -5,7 +5,7 @@ use Rattle.net.specs.declared.Net.{Net as NetRecord}
 use Rattle.net.specs.Record.{lent}
 use Rattle.net.specs.Readable.{transitionsFrom}
 use Rattle.sde.specs.Diffusion.{pushedAll}
-use Rattle.sde.specs.Engine.{goingOf, Lengths}
+use Rattle.sde.specs.Arrays.{goingOf, Lengths}
 use Rattle.sde.proofs.Skips.{skips-of}
 use Rattle.sde.proofs.Substeps.{push-nothing, push-refused, push-value, all-whole, all-end, all-stop, all-go}
 use borrow.Author.Needs.{needs}

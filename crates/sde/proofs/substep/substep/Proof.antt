@@ -2,7 +2,7 @@
 use Rattle.net.specs.declared.Net.{Net as NetRecord}
 use Rattle.net.specs.Record.{lent}
 use Rattle.net.specs.Readable.{readable}
-use Rattle.sde.specs.Engine.{stateOf}
+use Rattle.sde.specs.Arrays.{stateOf}
 use Rattle.sde.proofs.Substeps.{begun-is, after-drift-is, substep-stop, substep-go}
 use Rattle.sde.proofs.substep.substep.Statement.{statement}
 use Rattle.sde.proofs.substep.substep.Tie as tie

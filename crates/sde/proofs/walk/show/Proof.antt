@@ -1,7 +1,7 @@
 -- The loop writes the cells of one instant, place by place. Assumes nothing.
 use mathlib.Core.Path.{subst, _≡_}
 use native.Mathlib.Nat.{mul-le-mul}
-use Rattle.sde.specs.Engine.{Column}
+use Rattle.sde.specs.Arrays.{Column}
 use Rattle.sde.proofs.Cells.{cell-in, column-none, column-more}
 use borrow.Author.Needs.{needs}
 use native.Mathlib.Omega.{arith}

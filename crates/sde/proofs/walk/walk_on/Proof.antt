@@ -6,7 +6,7 @@ use Rattle.net.specs.Record.{lent}
 use Rattle.net.specs.Readable.{readable}
 use Rattle.rules.specs.Step.{Answer}
 use Rattle.sde.specs.Diffusion.{State, further, overInterval}
-use Rattle.sde.specs.Engine.{stateOf, preceded, Lengths}
+use Rattle.sde.specs.Arrays.{stateOf, preceded, Lengths}
 use Rattle.sde.proofs.Cells.{Progress, progress-first, progress-stop, progress-more, progress-end}
 use borrow.Author.Needs.{needs}
 use native.Mathlib.Omega.{arith}

@@ -1,4 +1,4 @@
--- What the engine's arrays and private answers stand for. The rules of a run are in Diffusion; nothing here adds to them.
+-- What the program's arrays and private answers stand for. The rules of a run are in Diffusion; nothing here adds to them.
 use Prim.Native.Nat.{ℕ, _+_, _*_, _<_}
 use mathlib.Core.Path.{_≡_}
 use mathlib.Core.Bool.{Bool, true, false}
