@@ -227,8 +227,10 @@ fn inside_line(
         if p.next < line.len() {
             return Taken::Fault(refusals::WRONG_FORM);
         }
+        let from = p.from;
+        let end = p.end;
         let v = take_place(
-            &line[p.from..p.end],
+            &line[from..end],
             places,
             transitions,
             p.strange,
