@@ -2,24 +2,23 @@
 -- as they were. Assumes nothing.
 use Prim.Native.Nat.{ℕ, zero, suc, _+_, _-_, _*_, _≤_, _<_}
 use mathlib.Core.Path.{_≡_, refl, sym, ap, ap₂, _∙_}
-use mathlib.Core.Bool.{Bool, true, false, _&&_, not}
+use mathlib.Core.Bool.{Bool, true, false, _&&_}
 use mathlib.Core.List.{List, [], _∷_, _++_, append-assoc}
 use mathlib.Core.Option.{some}
 use native.Mathlib.Omega.{arith}
 use native.Mathlib.Numerals.{add-one}
 use lib.Dec.{eqb, leb}
-use lib.ListN.{length, getD, take, drop, set, length-append, length-drop, take-append-drop, drop-of-length-le}
+use lib.ListN.{length, getD, take, drop, set, length-drop, take-append-drop}
 use lib.Seq.{getD-set-same, getD-set-other, getD-drop, length-take-le, take-append-le, drop-append-le, take-at, drop-at, drop-length}
 use borrow.Author.Tests.{le-leb, lt-leb, leb-true, eq-eqb, ne-eqb, eqb-true}
 use Rattle.net.specs.Net.{pick, numbered}
-use Rattle.net.specs.Tests.{Test, firstOf}
-use Rattle.net.specs.Labels.{labelByte, every, labelFits, labelTests, labelAt, labelsFrom, labelFault}
+use Rattle.net.specs.Tests.{firstOf}
+use Rattle.net.specs.Labels.{labelByte, every, labelTests, labelAt, labelsFrom, labelFault}
 use Rattle.text.specs.Text.{Bytes, bytes}
 use Rattle.text.specs.Buffer.{placed, written}
 use Rattle.text.specs.declared.Written.{Written}
-use Rattle.text.specs.declared.Written.the-variants.{Next}
 use Rattle.text.proofs.Places.{fitted}
-use Rattle.net_text.specs.Forms.{Met, wrong, met, behind, exactly, upToLast, labelForm}
+use Rattle.net_text.specs.Forms.{wrong, met, exactly, upToLast, labelForm}
 use Rattle.net_text.specs.Scanned.{found}
 use Rattle.net_text.specs.Seen.{part, LabelRead, noLabel}
 use Rattle.net_text.proofs.Parts.{found-met, found-wrong, word-inside}

@@ -49,7 +49,8 @@ abbrev pub withMove : NetRecord → ℕ → ℕ → List Slot → NetRecord
 withMove n rate delay ls =
     let j = n .transitions in
     labelled (n .places) (j + 1) (n .initial) (n .capacity) (n .label) (n .lengths) (set (n .rate) j (ofBits binary64 rate))
-    (set (n .delay) j (ofBits binary64 delay)) (set (n .arcs) j (length ls)) (kindSlots (16 * j) ls (n .kind)) (placeSlots (16 * j) ls (n .place)) (weightSlots (16 * j) ls (n .weight))
+    (set (n .delay) j (ofBits binary64 delay)) (set (n .arcs) j (length ls)) (kindSlots (16 * j) ls (n .kind)) (placeSlots (16 * j) ls (n .place))
+    (weightSlots (16 * j) ls (n .weight))
 
 -- `(net`, the run line and `)` put nothing into the record
 abbrev pub withLine : NetRecord → Option RawLine → NetRecord

@@ -186,14 +186,20 @@ pub data RawLine : Type 0 where
   rawMove : ℕ → ℕ → List RawArc → RawLine
   rawRun : Decimal → Decimal → Decimal → ℕ → RawLine
 
--- The label: "it is all between the space after the capacity and the `)` that ends the line". "17 label absent …(no longer 1)": a line that ends
--- behind the capacity has the right form, and its label has no byte.
-abbrev pub labelForm : Form Bytes
-labelForm = (do
+-- The label: "it is all between the space after the capacity and the `)` that ends the line". "17 label absent or malformed (no longer 1)": a line
+-- that ends behind the capacity has the right form too, and a label of no byte.
+abbrev pub writtenLabel : Form Bytes
+writtenLabel = do
   quoted " "
-  upToLast) or (do
-    quoted ")"
-    say [])
+  upToLast
+
+abbrev pub absentLabel : Form Bytes
+absentLabel = do
+  quoted ")"
+  say []
+
+abbrev pub labelForm : Form Bytes
+labelForm = writtenLabel or absentLabel
 
 -- "Place: initial, capacity", and "a third part, its label"
 abbrev pub placeForm : Form RawLine

@@ -9,7 +9,7 @@ use lib.Dec.{eqb}
 use lib.ListN.{length, getD, take, drop, set}
 use lib.Ieee.{Float, binary64, ofBits}
 use Rattle.refusals.specs as Refusal
-use Rattle.net.specs.Net.{Net, Place}
+use Rattle.net.specs.Net.{Place}
 use Rattle.net.specs.Tests.{Test, firstOf, placeTests}
 use Rattle.net.specs.Labels.{labelTests, labelsFrom}
 use Rattle.net.specs.Record.{labelled}
@@ -118,7 +118,7 @@ abbrev pub dueOf : Position → Tables → Due
 dueOf p t = dueAt (p .stage) (netAt (p .places) (p .transitions) t) (runOf (p .run))
 
 abbrev pub insideOf : ℕ → ℕ → Tables → Due
-insideOf places transitions t = dueAt Inside (netAt places transitions t) (runOf noRun)
+insideOf places transitions t = inside (readable (netAt places transitions t)) (labels (netAt places transitions t))
 
 -- before `(net` there is no place and no transition; behind the run line the net is accepted as data
 abbrev pub stageHolds : Stage → NetRecord → Type 0
@@ -153,19 +153,19 @@ pub record LineTaken (due : Due) (n : NetRecord) (line : Bytes) (t : Tables) (r 
   pub holds : standing r t
   pub fills : holding r t (withLine n (lineOf line))
 
--- a place line of the right form, by the values that 64 bits hold: 1 behind a move, then 2 and 4, then 17 and 18 behind the labels so far
-abbrev pub placeLineTests : ℕ → ℕ → Bool → Place → List Bytes → Bytes → List Test
-placeLineTests places transitions strange q earlier l =
-    (Refusal.wrongForm, not (eqb transitions 0)) ∷ (placeTests places strange q ++ labelTests earlier l)
-
--- a label of place p
+-- the label of place p
 pub record LabelTaken (p : ℕ) (l : Bytes) (label₀ lengths₀ label lengths : List ℕ) (r : Verdict) : Type 0 where
   pub fault : meaning r ≡ firstOf (labelTests (labelsFrom label₀ lengths₀ 0 p) l)
   pub stored-label : meaning r ≡ none → label ≡ placed label₀ (16 * p) l
   pub stored-lengths : meaning r ≡ none → lengths ≡ set lengths₀ p (length l)
 
-pub record PlaceTaken (places transitions : ℕ) (strange : Bool) (i c : ℕ) (l : Bytes) (initial₀ capacity₀ label₀ lengths₀ initial capacity label lengths : List ℕ)
-    (r : Verdict) : Type 0 where
+-- a place line of the right form, by the values that 64 bits hold: 1 behind a move, then 2 and 4, then 17 and 18 behind the labels so far
+abbrev pub placeLineTests : ℕ → ℕ → Bool → Place → List Bytes → Bytes → List Test
+placeLineTests places transitions strange q earlier l =
+    (Refusal.wrongForm, not (eqb transitions 0)) ∷ (placeTests places strange q ++ labelTests earlier l)
+
+pub record PlaceTaken (places transitions : ℕ) (strange : Bool) (i c : ℕ) (l : Bytes) (initial₀ capacity₀ label₀ lengths₀ : List ℕ)
+    (initial capacity label lengths : List ℕ) (r : Verdict) : Type 0 where
   pub fault : meaning r ≡ firstOf (placeLineTests places transitions strange (record { initial = i; capacity = c }) (labelsFrom label₀ lengths₀ 0 places) l)
   pub stored-initial : meaning r ≡ none → initial ≡ set initial₀ places i
   pub stored-capacity : meaning r ≡ none → capacity ≡ set capacity₀ places c

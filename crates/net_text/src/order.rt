@@ -90,7 +90,7 @@ fn no_run() -> RunLine
     }
 }
 
-// The label of place p, below 32: refused by 17 or 18, or stored. One of over 16 bytes has no room.
+// The label of place p, below 32: refused by 17 or 18, or stored. One over 16 bytes would not fit its slots.
 fn take_label(l: &[u8], p: usize, label: &mut [u8; 512], lengths: &mut [usize; 32]) -> net::Verdict
     requires { ⌜ (p < 32) × (length (now label) ≡ 512) × (length (now lengths) ≡ 32) ⌝ }
     ensures { λ r. ⌜ Spec.LabelTaken p (now (l .entry)) (now (label .entry)) (now (lengths .entry)) (now (label .exit)) (now (lengths .exit)) r ⌝ }
