@@ -4,3 +4,4 @@ pub mod Call
 pub mod Slots
 pub mod Engine
 pub mod Summed
+pub mod Labels
