@@ -1,5 +1,5 @@
 #!/usr/bin/env python3
-"""A second reader of net texts, written from document 01 alone, and the texts on which the proved reader is held to it.
+"""A second reader of net texts, written from documents 01 and 02 alone, and the texts on which the proved reader is held to it.
 
     net_text.py record FOLDER          writes FOLDER/stdin and FOLDER/stdout: the fixed cases and their answers
     net_text.py random SEED COUNT OUT  writes OUT.in and OUT.out: damaged texts drawn from the seed, and their answers
@@ -19,7 +19,9 @@ if hasattr(sys, "set_int_max_str_digits"):
 
 DECIMAL = rb"([0-9]+)"
 FLOAT = rb"([0-9a-f]{16})"
-PLACE = re.compile(rb"\(place " + DECIMAL + rb" " + DECIMAL + rb"\)")
+# the label is all between the space after the capacity and the bracket that ends the line; without that space there is none
+PLACE = re.compile(rb"\(place " + DECIMAL + rb" " + DECIMAL + rb"(?: (.*))?\)", re.DOTALL)
+LABEL = re.compile(rb"[a-z0-9-]{1,16}")
 ARC = re.compile(rb" \((?:take " + DECIMAL + rb" " + DECIMAL + rb" " + DECIMAL + rb"|(put|read|block) " + DECIMAL + rb" " + DECIMAL + rb")\)")
 MOVE = re.compile(rb"\(move " + FLOAT + rb" " + FLOAT + rb"((?:" + ARC.pattern.replace(rb"(", rb"(?:").replace(rb"(?:?:", rb"(?:").replace(rb"\(?:", rb"\(") + rb")*)\)")
 RUN = re.compile(rb"\(run " + DECIMAL + rb" " + DECIMAL + rb" " + DECIMAL + rb" " + FLOAT + rb"\)")
@@ -61,12 +63,14 @@ def first(tests):
 
 
 def place_line(net, match):
-    initial, capacity = match.groups()
+    initial, capacity, label = match.groups()
     number = first([
         (1, net["moves"]),
         (2, len(net["places"]) >= 32),
-        (4, badly(initial) or badly(capacity) or int(initial) > 2**53 or int(capacity) > 2**53)])
-    net["places"].append((int(initial), int(capacity)))
+        (4, badly(initial) or badly(capacity) or int(initial) > 2**53 or int(capacity) > 2**53),
+        (17, label is None or not LABEL.fullmatch(label)),
+        (18, any(label == earlier for _, _, earlier in net["places"]))])
+    net["places"].append((int(initial), int(capacity), label))
     return number
 
 
@@ -128,8 +132,8 @@ def read(text):
     if stage != "done" or rest:
         return f"refused 1 {len(lines) + 1}"
     out = ["given", str(len(net["places"])), str(len(net["moves"]))]
-    for initial, capacity in net["places"]:
-        out += [str(initial), str(capacity)]
+    for initial, capacity, label in net["places"]:
+        out += [str(initial), str(capacity), label.decode()]
     for rate, delay, arcs in net["moves"]:
         out += [f"{rate:016x}", f"{delay:016x}", str(len(arcs))]
         for arc in arcs:
@@ -139,8 +143,8 @@ def read(text):
 
 
 SAMPLE = b"""(net
-(place 2 0)
-(place 0 0)
+(place 2 0 q0)
+(place 0 0 q1)
 (move 3ff0000000000000 3ff0000000000000 (take 0 1 1) (put 1 1))
 (run 3 1 1 4000000000000000)
 )
@@ -149,7 +153,8 @@ ONE = "3ff0000000000000"
 
 
 def net(places=("0 0",), moves=(), run=f"3 1 1 {ONE}", tail=")\n"):
-    lines = ["(net"] + [f"(place {p})" for p in places] + [f"(move {m})" for m in moves] + [f"(run {run})"]
+    """A text; the places have the labels q0, q1 and so on behind what is given of them."""
+    lines = ["(net"] + [f"(place {p} q{i})" for i, p in enumerate(places)] + [f"(move {m})" for m in moves] + [f"(run {run})"]
     return ("\n".join(lines) + "\n" + tail).encode()
 
 
@@ -172,6 +177,24 @@ def cases():
               "-1 0", "+1 0", "1", "1 2 3", " 1 2", "1  2", "0x1 0", "a 0", "1\t2"):
         yield net(places=(p,))
         yield net(places=("5 6", p))
+    # labels: absent, empty, of each length, each kind of byte, where they begin and end
+    def labelled(*ends, head=()):
+        lines = ["(net", *head, *(f"(place 0 0{end}" for end in ends), f"(run 3 1 1 {ONE})", ")", ""]
+        return "\n".join(lines).encode("latin-1")
+    for end in (")", " )", "  )", " q)", "q)", " q", " q ", " q) ", " q))", "))", ") q)", " -)", " 0)", " a-0)", " q0 q1)", " q0 )", "  q0)", " Q)", " q\xc8)", " \xff)", " \0)",
+                " q\t)", " q\r)", " (q)", " q_0)", " q.0)", " `)", " {)", " /)", " :)", " @)", " [)", "\tq)", " " + "q" * 15 + ")", " " + "q" * 16 + ")", " " + "q" * 17 + ")",
+                " " + "q" * 300 + ")", " " + "9" * 16 + ")", " " + "-" * 17 + ")"):
+        yield labelled(end)
+        yield labelled(" x)", end)
+    # 18 at the later of two, after 17; 4 first, and 1 and 2 before it
+    for ends in ((" q)", " q)"), (" q)", " r)", " q)"), (" q)", " qq)"), (" qq)", " q)"), (" " + "q" * 16 + ")", " " + "q" * 16 + ")"), (" Q)", " Q)"), (" q)", ")"), (" q)", " q)", ")")):
+        yield labelled(*ends)
+    for head in ("(place 00 0 q)", "(place 00 0)", "(place 00 0 Q)", "(place 9007199254740993 0)", "(place 0 01 q q)", "(place 0)", "(place 0 0 q", "(place x 0 Q)"):
+        yield labelled(" q)", head=(head,))
+        yield labelled(" q)", head=("(place 0 0 q)", head))
+    yield labelled(*([f" q{i})" for i in range(32)] + [")"]))
+    yield labelled(*([f" q{i})" for i in range(31)] + [" q0)"]))
+    yield net(places=["0 0", "0 0 q0"], moves=[f"{ONE} {zero} (put 9 1)"])
     # how many
     yield net(places=["0 0"] * 32)
     yield net(places=["0 0"] * 33)
@@ -217,13 +240,14 @@ def cases():
     yield net(places=("0 0", "00 0", f"{2**53 + 1} 0"), moves=["x"])
     yield net(moves=[f"{ONE} {ONE}", f"{ONE} {zero} (put 3 1)", "x"], run="x")
     # the order of lines
-    yield b"(net\n(place 0 0)\n(move 3ff0000000000000 0000000000000000)\n(place 0 0)\n(run 3 1 1 3ff0000000000000)\n)\n"
-    yield b"(net\n(place 0 0)\n(run 3 1 1 3ff0000000000000)\n(place 0 0)\n)\n"
-    yield b"(net\n(place 0 0)\n(run 3 1 1 3ff0000000000000)\n(run 3 1 1 3ff0000000000000)\n)\n"
+    yield b"(net\n(place 0 0 a)\n(move 3ff0000000000000 0000000000000000)\n(place 0 0 b)\n(run 3 1 1 3ff0000000000000)\n)\n"
+    yield b"(net\n(place 0 0 a)\n(move 3ff0000000000000 0000000000000000)\n(place 0 0)\n(run 3 1 1 3ff0000000000000)\n)\n"
+    yield b"(net\n(place 0 0 a)\n(run 3 1 1 3ff0000000000000)\n(place 0 0 b)\n)\n"
+    yield b"(net\n(place 0 0 a)\n(run 3 1 1 3ff0000000000000)\n(run 3 1 1 3ff0000000000000)\n)\n"
     yield b"(net\n(net\n)\n"
     yield b"(net\n)\n"
-    yield b"(net\n(place 0 0)\n)\n"
-    yield b"(place 0 0)\n"
+    yield b"(net\n(place 0 0 a)\n)\n"
+    yield b"(place 0 0 a)\n"
     yield b")\n"
     yield b"\n"
     yield b"(net \n"
@@ -236,7 +260,7 @@ def cases():
         yield net(tail=tail)
     # how long
     for size in (8191, 8192, 8193):
-        head, end = b"(net\n(place ", b" 0)\n"
+        head, end = b"(net\n(place ", b" 0 q)\n"
         yield head + b"9" * (size - len(head) - len(end)) + end
     pad = net(moves=[f"{ONE} {zero}" + " (put 0 1)" * 11] * 55)
     yield pad
@@ -249,7 +273,11 @@ def drawn(rng):
     """A net text that is often right, then damaged in up to three places."""
     places = rng.choice((1, 2, 3, 32))
     text = ["(net"]
-    text += [f"(place {rng.choice((0, 1, 5, 2**53))} {rng.choice((0, 3, 2**53))}" + ")" for _ in range(places)]
+    for p in range(places):
+        label = rng.choice((f"q{p}", f"q{p}", f"{p}-abcdefghijklm"))
+        if rng.random() < 0.02:
+            label = rng.choice(("", "Q", "q q", "q" * 17, "q0", "q0"))
+        text.append(f"(place {rng.choice((0, 1, 5, 2**53))} {rng.choice((0, 3, 2**53))} {label})")
     for _ in range(rng.choice((0, 1, 2, 5))):
         arcs = []
         for _ in range(rng.choice((0, 1, 2, 3, 16, 17))):
@@ -265,7 +293,7 @@ def drawn(rng):
         if what == 0:
             del text[at : at + rng.choice((1, 1, 2, 8))]
         elif what == 1:
-            text[at:at] = rng.choice((b"0", b" ", b"\n", b")", b"(", b"1", b"f", b"-", b"(put 0 1)", b" (read 0 1)"))
+            text[at:at] = rng.choice((b"0", b" ", b"\n", b")", b"(", b"1", b"f", b"-", b"Q", b"\xc8", b" q0", b"(put 0 1)", b" (read 0 1)"))
         elif what == 2 and at < len(text):
             text[at] = rng.choice(b"0123456789abcdefF ()\n\r\t") if rng.random() < 0.9 else rng.randrange(256)
         elif what == 3:

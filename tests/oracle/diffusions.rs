@@ -2,7 +2,7 @@
 //! the source, the refusals and the parts of a gated net, is worked out here.
 use crate::draw::Draw;
 use crate::ensembles::{fault, holds, Case};
-use crate::nets::{Arc, Move, Net, Place};
+use crate::nets::{Arc, Label, Move, Net, Place};
 use crate::paths::{self, BEFORE, CELLS};
 use crate::rattle;
 use crate::report::{same, Report};
@@ -110,7 +110,7 @@ fn drawn_net(draw: &mut Draw) -> Net {
     let places = 1 + draw.below(most_places) as usize;
     let moves = draw.below(most_moves);
     let places: Vec<Place> = (0..places)
-        .map(|_| Place {
+        .map(|p| Place {
             initial: match draw.below(12) {
                 0 => 0,
                 1 => draw.below(1 << 53) as i64,
@@ -119,6 +119,7 @@ fn drawn_net(draw: &mut Draw) -> Net {
             },
             // a bound that no transition can reach gates nothing
             capacity: if draw.below(60) == 0 { 1 + draw.below(9) as i64 } else { 0 },
+            label: Label::numbered(p),
         })
         .collect();
     let moves = (0..moves)

@@ -41,7 +41,7 @@ fn turned_down(number: u64) -> Answer {
     Answer { outcome: Outcome::TurnedDown(number), tables: None, zero: false }
 }
 
-/// The first of 2 to 7, 8, 9, 10 and 11 that applies, with tables of 2,048 cells.
+/// The first of the net's refusals, 8, 9, 10 and 11 that applies, with tables of 2,048 cells.
 pub fn fault(case: &Case) -> Option<u64> {
     let tests = [
         (8, !(2..=1024).contains(&case.samples)),
@@ -126,7 +126,7 @@ pub fn holds(table: &[f64], cells: &[f64]) -> bool {
 pub fn text(case: &Case) -> String {
     let mut out = String::from("(net\n");
     for p in &case.net.places {
-        writeln!(out, "(place {} {})", p.initial, p.capacity).unwrap();
+        writeln!(out, "(place {} {} {})", p.initial, p.capacity, p.label.text()).unwrap();
     }
     for m in &case.net.moves {
         write!(out, "(move {:016x} {:016x}", m.rate.to_bits(), m.delay.to_bits()).unwrap();
@@ -149,15 +149,15 @@ pub fn text(case: &Case) -> String {
 pub fn printed(case: &Case, answer: &Answer) -> String {
     let mut out = String::new();
     match answer.outcome {
-        Outcome::TurnedDown(number @ 8..) | Outcome::Stopped(number, _) => writeln!(out, "(refused {number} 0)").unwrap(),
+        Outcome::TurnedDown(number @ 8..=16) | Outcome::Stopped(number, _) => writeln!(out, "(refused {number} 0)").unwrap(),
         Outcome::TurnedDown(_) => unreachable!("such texts are damaged, and are not drawn here"),
         Outcome::Averaged(_) => {
             let n = case.samples as usize;
             let [mean, deviation, _] = answer.tables.as_ref().unwrap();
             writeln!(out, "(result {} {n} {})", case.net.places.len(), case.realizations).unwrap();
             let mut lines = |word: &str, table: &[f64]| {
-                for (p, row) in table.chunks(n).enumerate() {
-                    write!(out, "({word} {p}").unwrap();
+                for (place, row) in case.net.places.iter().zip(table.chunks(n)) {
+                    write!(out, "({word} {}", place.label.text()).unwrap();
                     row.iter().for_each(|x| write!(out, " {:016x}", x.to_bits()).unwrap());
                     out.push_str(")\n");
                 }

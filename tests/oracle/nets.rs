@@ -9,10 +9,42 @@ pub enum Arc {
     Block { place: usize, weight: i64 },
 }
 
+/// A label as the record holds it: room for sixteen bytes, of which the first `length` count. A longer one has no room, and is known by its length.
+#[derive(Clone, Copy, Debug)]
+pub struct Label {
+    pub room: [u8; 16],
+    pub length: usize,
+}
+
+impl Label {
+    pub fn new(text: &[u8]) -> Label {
+        let mut room = [0; 16];
+        for (a, b) in room.iter_mut().zip(text) {
+            *a = *b;
+        }
+        Label { room, length: text.len() }
+    }
+
+    /// q0, q1 and so on.
+    pub fn numbered(p: usize) -> Label {
+        Label::new(format!("q{p}").as_bytes())
+    }
+
+    /// The bytes that count, of a label that has room.
+    pub fn bytes(&self) -> &[u8] {
+        &self.room[..self.length.min(16)]
+    }
+
+    pub fn text(&self) -> &str {
+        std::str::from_utf8(self.bytes()).unwrap()
+    }
+}
+
 #[derive(Clone, Copy)]
 pub struct Place {
     pub initial: i64,
     pub capacity: i64,
+    pub label: Label,
 }
 
 #[derive(Clone)]
@@ -32,8 +64,8 @@ pub struct Net {
 pub fn example() -> Net {
     Net {
         places: vec![
-            Place { initial: 2, capacity: 0 },
-            Place { initial: 0, capacity: 0 },
+            Place { initial: 2, capacity: 0, label: Label::numbered(0) },
+            Place { initial: 0, capacity: 0, label: Label::numbered(1) },
         ],
         moves: vec![Move {
             rate: 1.0,

@@ -2,7 +2,7 @@
 //! second player, written from document 01 and apart from both sides; where the source's `realization`
 //! has an answer, which is the counts and the generator after it, the two are held to be equal first.
 use crate::draw::Draw;
-use crate::nets::{example, Arc, Move, Net, Place};
+use crate::nets::{example, Arc, Label, Move, Net, Place};
 use crate::rattle;
 use crate::ssa::inside::filled;
 use crate::ssa::{plog, realization, Xoshiro256};
@@ -51,7 +51,12 @@ fn amount(weight: i64) -> i64 {
     weight.max(1)
 }
 
-/// The first of 2 to 7 that applies, place by place and then transition by transition.
+/// Is it 1 to 16 letters a to z, digits or hyphens?
+fn label_fits(label: &Label) -> bool {
+    (1..=16).contains(&label.length) && label.bytes().iter().all(|&b| b.is_ascii_lowercase() || b.is_ascii_digit() || b == b'-')
+}
+
+/// The first of 2 to 7, 17 and 18 that applies, place by place and then transition by transition.
 pub fn fault(net: &Net) -> Option<u64> {
     for (i, p) in net.places.iter().enumerate() {
         if i >= 32 {
@@ -59,6 +64,12 @@ pub fn fault(net: &Net) -> Option<u64> {
         }
         if !(0..=MOST_TOKENS).contains(&p.initial) || !(0..=MOST_TOKENS).contains(&p.capacity) {
             return Some(4);
+        }
+        if !label_fits(&p.label) {
+            return Some(17);
+        }
+        if net.places[..i].iter().any(|q| q.label.bytes() == p.label.bytes()) {
+            return Some(18);
         }
     }
     if net.places.is_empty() {
@@ -279,6 +290,8 @@ pub fn put_net(out: &mut String, net: &Net) {
     for p in net.places.iter().take(32) {
         n(p.initial as u64);
         n(p.capacity as u64);
+        n(p.label.length as u64);
+        p.label.room.chunks(8).for_each(|half| n(u64::from_be_bytes(half.try_into().unwrap())));
     }
     for m in net.moves.iter().take(64) {
         n(m.rate.to_bits());
@@ -372,7 +385,7 @@ fn block(place: usize, weight: i64) -> Arc {
 
 fn net(initial: &[i64], moves: Vec<(f64, f64, Vec<Arc>)>) -> Net {
     Net {
-        places: initial.iter().map(|&initial| Place { initial, capacity: 0 }).collect(),
+        places: initial.iter().enumerate().map(|(p, &initial)| Place { initial, capacity: 0, label: Label::numbered(p) }).collect(),
         moves: moves.into_iter().map(|(rate, delay, arcs)| Move { rate, delay, arcs }).collect(),
     }
 }
@@ -527,6 +540,28 @@ pub fn edges() -> Vec<Case> {
     v.push(case(net(&[1], vec![(1.0, 1.0, vec![put(0, 1)])]), most, &sample));
     v.push(case(net(&[1], vec![(1.0, 0.0, vec![take(0, 1), plain(0, 1)])]), most, &sample));
     v.push(case(net(&[1], vec![(1.0, 0.0, vec![take(1, 1)])]), most, &sample));
+    // labels: 17 and 18 behind 4, place by place and before the transitions; bytes behind a length do not matter
+    let labelled = |labels: &[&[u8]]| {
+        let mut net = net(&vec![1; labels.len()], vec![(1.0, 0.0, vec![put(0, 1)])]);
+        net.places.iter_mut().zip(labels).for_each(|(p, l)| p.label = Label::new(l));
+        case(net, most, &sample)
+    };
+    let sixteen = b"0123456789-abcde";
+    for labels in [&[&b"a"[..]][..], &[b"-"], &[sixteen], &[b""], &[b"0123456789-abcdef"], &[b"A"], &[b"a b"], &[b"a)"], &[b"\xc8"], &[b"a\n"], &[b"a", b"a"]] {
+        v.push(labelled(labels));
+    }
+    for labels in [&[&b"a"[..], b"b", b"a"][..], &[b"ab", b"a"], &[b"a", b"ab"], &[b"a", b""], &[b"", b""], &[sixteen, sixteen], &[b"a", b"A", b"a"]] {
+        v.push(labelled(labels));
+    }
+    let mut behind = labelled(&[b"a", b"a"]);
+    behind.net.places[1].label.room[1] = b'b';
+    v.push(behind.clone());
+    behind.net.places[0].label.length = 17;
+    v.push(behind.clone());
+    behind.net.places[1].initial = MOST_TOKENS + 1;
+    v.push(behind.clone());
+    behind.net.places[0].initial = MOST_TOKENS + 1;
+    v.push(behind);
     v
 }
 
@@ -581,7 +616,7 @@ pub fn drawn_net(draw: &mut Draw) -> Net {
     let crowded = draw.below(6) == 0;
     let with_delays = draw.below(3) > 0;
     let places: Vec<Place> = (0..places)
-        .map(|_| Place {
+        .map(|p| Place {
             initial: match draw.below(20) {
                 0..=3 => 0,
                 4 => draw.below(1000) as i64,
@@ -594,6 +629,7 @@ pub fn drawn_net(draw: &mut Draw) -> Net {
                 3 => MOST_TOKENS - draw.below(3) as i64,
                 _ => 0,
             },
+            label: Label::numbered(p as usize),
         })
         .collect();
     let moves = (0..moves)
@@ -639,6 +675,39 @@ pub fn spoil(draw: &mut Draw, net: &mut Net) {
             }
         }
     }
+}
+
+/// A label that is accepted: one that no place has whose label is numbered.
+pub fn drawn_label(draw: &mut Draw, p: usize) -> Label {
+    let mut text = format!("{p}-").into_bytes();
+    for _ in 0..draw.below(17 - text.len() as u64) {
+        text.push(one_of(draw, b"abcdefghijklmnopqrstuvwxyz0123456789-"));
+    }
+    let mut label = Label::new(&text);
+    // bytes behind the length do not matter
+    label.room[text.len()..].iter_mut().for_each(|b| *b = draw.below(256) as u8);
+    label
+}
+
+/// A label damaged in one of the ways that 17 and 18 speak of.
+pub fn spoil_label(draw: &mut Draw, net: &mut Net) {
+    let p = draw.below(net.places.len() as u64) as usize;
+    let q = draw.below(net.places.len() as u64) as usize;
+    let mut label = net.places[p].label;
+    let at = draw.below(label.length.clamp(1, 16) as u64) as usize;
+    match draw.below(6) {
+        0 => label.length = 0,
+        1 => label.length = 17 + draw.below(3) as usize,
+        2 => label.room[at] = one_of(draw, b"AZ ()_.\n\0/:@[`{\x7f\xc8\xff"),
+        3 => label.length = one_of(draw, &[16, 1 << 20, usize::MAX]),
+        // the label of another place, or equal to it but for bytes behind its length
+        4 => label = net.places[q].label,
+        _ => {
+            label = net.places[q].label;
+            label.room[label.length.min(16)..].iter_mut().for_each(|b| *b = draw.below(256) as u8);
+        }
+    }
+    net.places[p].label = label;
 }
 
 fn drawn_instants(draw: &mut Draw, places: usize) -> Vec<f64> {

@@ -26,6 +26,8 @@ mod c {
             transitions: usize,
             initial: *const [u64; 32],
             capacity: *const [u64; 32],
+            label: *const [u8; 512],
+            lengths: *const [usize; 32],
             rate: *const [f64; 64],
             delay: *const [f64; 64],
             arcs: *const [usize; 64],
@@ -45,6 +47,8 @@ mod c {
             transitions: usize,
             initial: *const [u64; 32],
             capacity: *const [u64; 32],
+            label: *const [u8; 512],
+            lengths: *const [usize; 32],
             rate: *const [f64; 64],
             delay: *const [f64; 64],
             arcs: *const [usize; 64],
@@ -68,6 +72,8 @@ mod c {
             transitions: usize,
             initial: *const [u64; 32],
             capacity: *const [u64; 32],
+            label: *const [u8; 512],
+            lengths: *const [usize; 32],
             rate: *const [f64; 64],
             delay: *const [f64; 64],
             arcs: *const [usize; 64],
@@ -174,6 +180,8 @@ pub struct Fields {
     transitions: usize,
     initial: [u64; 32],
     capacity: [u64; 32],
+    label: [u8; 512],
+    lengths: [usize; 32],
     rate: [f64; 64],
     delay: [f64; 64],
     arcs: [usize; 64],
@@ -189,6 +197,8 @@ impl Fields {
             transitions: net.moves.len(),
             initial: [0; 32],
             capacity: [0; 32],
+            label: [0; 512],
+            lengths: [0; 32],
             rate: [0.0; 64],
             delay: [0.0; 64],
             arcs: [0; 64],
@@ -198,6 +208,8 @@ impl Fields {
         };
         for (p, place) in net.places.iter().enumerate().take(32) {
             (f.initial[p], f.capacity[p]) = (place.initial as u64, place.capacity as u64);
+            f.label[16 * p..][..16].copy_from_slice(&place.label.room);
+            f.lengths[p] = place.label.length;
         }
         for (j, m) in net.moves.iter().enumerate().take(64) {
             (f.rate[j], f.delay[j], f.arcs[j]) = (m.rate, m.delay, m.arcs.len());
@@ -214,7 +226,7 @@ impl Fields {
 macro_rules! lend {
     ($function:ident, $f:expr, $($more:expr),*) => {
         unsafe {
-            c::$function($f.places, $f.transitions, &$f.initial, &$f.capacity, &$f.rate, &$f.delay, &$f.arcs, &$f.kind, &$f.place, &$f.weight, $($more),*)
+            c::$function($f.places, $f.transitions, &$f.initial, &$f.capacity, &$f.label, &$f.lengths, &$f.rate, &$f.delay, &$f.arcs, &$f.kind, &$f.place, &$f.weight, $($more),*)
         }
     };
 }

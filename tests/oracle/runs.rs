@@ -26,6 +26,22 @@ pub fn compare(report: &mut Report, seed: u64, count: u64) {
             case(ours == answer.line(&c), &|| format!("{ours}harness {}", answer.line(&c)));
         }
     });
+    report.compare("labels by the library", |case| {
+        let mut draw = Draw::new(seed);
+        for _ in 0..count {
+            // other labels, the same figures
+            let (mut c, answer) = paths::drawn(&mut draw);
+            for (p, place) in c.net.places.iter_mut().enumerate() {
+                place.label = paths::drawn_label(&mut draw, p);
+            }
+            let ours = paths::by_library(&c);
+            case(ours == answer.line(&c), &|| format!("{ours}with other labels {}", answer.line(&c)));
+            // damaged ones
+            paths::spoil_label(&mut draw, &mut c.net);
+            let (ours, theirs) = (paths::by_library(&c), paths::play(&c).line(&c));
+            case(ours == theirs, &|| format!("{ours}harness {theirs}"));
+        }
+    });
     report.compare("ensembles by the library", |case| {
         let mut draw = Draw::new(seed);
         for k in 0..count {

@@ -1,6 +1,6 @@
 // The diffusion, its answer told in numbers.
 ghost use mathlib.Core.Path.{_≡_};
-ghost use Rattle.net.specs.Record.{lent};
+ghost use Rattle.net.specs.Record.{labelled};
 ghost use Rattle.sde.specs.Call as Call;
 ghost use Rattle.c_face.specs.Diffused as Diffused;
 use net::Net;
@@ -34,6 +34,8 @@ pub extern "C" fn cild_diffusion(
     transitions: usize,
     initial: &[u64; 32],
     capacity: &[u64; 32],
+    label: &[u8; 512],
+    lengths: &[usize; 32],
     rate: &[f64; 64],
     delay: &[f64; 64],
     arcs: &[usize; 64],
@@ -49,8 +51,8 @@ pub extern "C" fn cild_diffusion(
     path: &mut [f64],
     told: &mut [u64; 7],
 )
-    ensures { λ _. ⌜ Diffused.Left (Call.called (lent places transitions (now (initial .entry)) (now (capacity .entry)) (now (rate .entry)) (now (delay .entry))
-        (now (arcs .entry)) (now (kind .entry)) (now (place .entry)) (now (weight .entry)))
+    ensures { λ _. ⌜ Diffused.Left (Call.called (labelled places transitions (now (initial .entry)) (now (capacity .entry)) (now (label .entry)) (now (lengths .entry))
+        (now (rate .entry)) (now (delay .entry)) (now (arcs .entry)) (now (kind .entry)) (now (place .entry)) (now (weight .entry)))
         (record { samples = samples; realizations = realizations; seed = seed; horizon = horizon })
         (record { mean = now (mean .entry); deviation = now (deviation .entry); path = now (path .entry) }))
         (now (told .exit)) (now (mean .exit)) (now (deviation .exit)) (now (path .exit)) ⌝ }
@@ -60,6 +62,8 @@ pub extern "C" fn cild_diffusion(
         transitions: transitions,
         initial: *initial,
         capacity: *capacity,
+        label: *label,
+        lengths: *lengths,
         rate: *rate,
         delay: *delay,
         arcs: *arcs,

@@ -1,6 +1,6 @@
 // The ensemble, its answer told in numbers.
 ghost use mathlib.Core.Path.{_≡_};
-ghost use Rattle.net.specs.Record.{lent};
+ghost use Rattle.net.specs.Record.{labelled};
 ghost use Rattle.ssa.specs.Ensemble as Ensemble;
 ghost use Rattle.c_face.specs.Averaged as Averaged;
 use net::Net;
@@ -24,6 +24,8 @@ pub extern "C" fn cild_ensemble(
     transitions: usize,
     initial: &[u64; 32],
     capacity: &[u64; 32],
+    label: &[u8; 512],
+    lengths: &[usize; 32],
     rate: &[f64; 64],
     delay: &[f64; 64],
     arcs: &[usize; 64],
@@ -39,8 +41,8 @@ pub extern "C" fn cild_ensemble(
     path: &mut [f64],
     told: &mut [u64; 3],
 )
-    ensures { λ _. ⌜ Averaged.Left (Ensemble.called (lent places transitions (now (initial .entry)) (now (capacity .entry)) (now (rate .entry)) (now (delay .entry))
-        (now (arcs .entry)) (now (kind .entry)) (now (place .entry)) (now (weight .entry)))
+    ensures { λ _. ⌜ Averaged.Left (Ensemble.called (labelled places transitions (now (initial .entry)) (now (capacity .entry)) (now (label .entry)) (now (lengths .entry))
+        (now (rate .entry)) (now (delay .entry)) (now (arcs .entry)) (now (kind .entry)) (now (place .entry)) (now (weight .entry)))
         (record { samples = samples; realizations = realizations; seed = seed; horizon = horizon })
         (record { mean = now (mean .entry); deviation = now (deviation .entry); path = now (path .entry) }))
         (now (told .exit)) (now (mean .exit)) (now (deviation .exit)) (now (path .exit)) ⌝ }
@@ -50,6 +52,8 @@ pub extern "C" fn cild_ensemble(
         transitions: transitions,
         initial: *initial,
         capacity: *capacity,
+        label: *label,
+        lengths: *lengths,
         rate: *rate,
         delay: *delay,
         arcs: *arcs,

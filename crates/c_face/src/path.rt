@@ -1,6 +1,6 @@
 // The path, its answer told in numbers.
 ghost use mathlib.Core.Path.{_≡_};
-ghost use Rattle.net.specs.Record.{lent};
+ghost use Rattle.net.specs.Record.{labelled};
 ghost use Rattle.rng.specs.State.{words};
 ghost use Rattle.ssa.specs.Path as Path;
 ghost use Rattle.c_face.specs.Played as Played;
@@ -28,6 +28,8 @@ pub extern "C" fn cild_path(
     transitions: usize,
     initial: &[u64; 32],
     capacity: &[u64; 32],
+    label: &[u8; 512],
+    lengths: &[usize; 32],
     rate: &[f64; 64],
     delay: &[f64; 64],
     arcs: &[usize; 64],
@@ -40,8 +42,8 @@ pub extern "C" fn cild_path(
     table: &mut [f64],
     told: &mut [u64; 4],
 )
-    ensures { λ _. ⌜ Played.Left (Path.called (lent places transitions (now (initial .entry)) (now (capacity .entry)) (now (rate .entry)) (now (delay .entry))
-        (now (arcs .entry)) (now (kind .entry)) (now (place .entry)) (now (weight .entry))) (words (now (state .entry))) (now (instants .entry)) limit (now (table .entry)))
+    ensures { λ _. ⌜ Played.Left (Path.called (labelled places transitions (now (initial .entry)) (now (capacity .entry)) (now (label .entry)) (now (lengths .entry))
+        (now (rate .entry)) (now (delay .entry)) (now (arcs .entry)) (now (kind .entry)) (now (place .entry)) (now (weight .entry))) (words (now (state .entry))) (now (instants .entry)) limit (now (table .entry)))
         (now (told .exit)) (words (now (state .exit))) (now (table .exit)) ⌝ }
 {
     let net = Net {
@@ -49,6 +51,8 @@ pub extern "C" fn cild_path(
         transitions: transitions,
         initial: *initial,
         capacity: *capacity,
+        label: *label,
+        lengths: *lengths,
         rate: *rate,
         delay: *delay,
         arcs: *arcs,

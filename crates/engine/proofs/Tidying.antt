@@ -18,7 +18,7 @@ use Rattle.net.specs.Net.{Arc, Take, Transition, Net, pick}
 use Rattle.net.specs.declared.Net.{Net as NetRecord}
 use Rattle.net.specs.Readable.{Slot, slotAt, slots, slotsOf, takesOf, arcsOf, isPut, isRead, isBlock, transition, transitionOf, transitionsFrom, placesFrom, readable}
 use Rattle.net.specs.Sound.{Sound}
-use Rattle.net.specs.Record.{lent}
+use Rattle.net.specs.Record.{lent, labelled}
 use Rattle.engine.specs.Engine.{AtMost, Below, Tidy}
 use Rattle.engine.specs.Arcs.{group, ofGroup, Copied}
 use Rattle.engine.proofs.Arcs.{on-bool}
@@ -287,7 +287,7 @@ module _ (n : NetRecord) (s : Sound n) where
 
 module _ (n : NetRecord) (arcs kind place weight : List ℕ) (j : ℕ) (d : Done n arcs kind place weight j) where
   abbrev made : NetRecord
-  made = lent (n .places) (n .transitions) (n .initial) (n .capacity) (n .rate) (n .delay) arcs kind place weight
+  made = labelled (n .places) (n .transitions) (n .initial) (n .capacity) (n .label) (n .lengths) (n .rate) (n .delay) arcs kind place weight
 
   abbrev with-transitions : List Transition → Net
   with-transitions ts = record { places = placesFrom (n .initial) (n .capacity) 0 (n .places); transitions = ts }
@@ -309,3 +309,10 @@ module _ (n : NetRecord) (arcs kind place weight : List ℕ) (j : ℕ) (d : Done
 
   pub made-tidy : Sound n → Tidy made
   made-tidy s = record { places = s .places; transitions = s .transitions; arcs = d .few; place = d .low; weight = d .light; capacity = s .capacity }
+
+-- ---- the same net without its labels
+
+pub tidy-unlabelled : (n : NetRecord) → Tidy n
+    → Tidy (lent (n .places) (n .transitions) (n .initial) (n .capacity) (n .rate) (n .delay) (n .arcs) (n .kind) (n .place) (n .weight))
+tidy-unlabelled n t =
+    record { places = t .places; transitions = t .transitions; arcs = t .arcs; place = t .place; weight = t .weight; capacity = t .capacity }

@@ -82,7 +82,7 @@ fn copy_slots<'a>(
 }
 
 // The same net with the puts of a transition behind its other arcs, so that a test may end before them, and with every slot that is not used at 0,
-// so that the bounds of an accepted net hold in all slots. It reads as the same net: the order among takes, reads, blocks and puts stays.
+// so that the bounds of an accepted net hold in all slots. It reads as the same net: the order among takes, reads, blocks and puts stays. Labels stay.
 pub fn tidied(net: Net) -> Net
     requires { ⌜ Record.fault net ≡ none ⌝ }
     ensures { λ r. ⌜ (Record.readable r ≡ Record.readable net) × Engine.Tidy r × (r .places ≡ net .places) × (r .initial ≡ net .initial) ⌝ }
@@ -125,6 +125,8 @@ pub fn tidied(net: Net) -> Net
     }
     let initial = net.initial;
     let capacity = net.capacity;
+    let label = net.label;
+    let lengths = net.lengths;
     let rate = net.rate;
     let delay = net.delay;
     Net {
@@ -132,6 +134,8 @@ pub fn tidied(net: Net) -> Net
         transitions: transitions,
         initial: initial,
         capacity: capacity,
+        label: label,
+        lengths: lengths,
         rate: rate,
         delay: delay,
         arcs: arcs,

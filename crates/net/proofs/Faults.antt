@@ -6,12 +6,11 @@ use mathlib.Core.List.{List, [], _∷_}
 use mathlib.Core.Option.{Option, none, some}
 use native.Mathlib.Numerals.{add-one}
 use native.Mathlib.Omega.{arith}
-use lib.ListN.{getD}
 use Rattle.refusals.specs as Refusal
 use Rattle.net.specs.declared.Net.{Net as NetRecord}
 use Rattle.net.specs.Net.{pick}
-use Rattle.net.specs.Tests.{firstOf, empty, placeTests, orElse}
-use Rattle.net.specs.Readable.{placesFrom, placesFault, moveFault, movesFault, fault}
+use Rattle.net.specs.Tests.{firstOf, empty, orElse, faultFrom}
+use Rattle.net.specs.Readable.{placesFrom, placesFault, movesFault, fault}
 
 -- a test that applies
 pub stop : {b : Bool} (c : ℕ) (later : Option ℕ) → b ≡ true → some c ≡ pick b (some c) later
@@ -28,39 +27,19 @@ else-stop later e f = sym (e ∙ ap (λ (o : Option ℕ). orElse o later) f)
 pub else-go : {t first : Option ℕ} (later : Option ℕ) → t ≡ orElse first later → first ≡ none → later ≡ t
 else-go later e f = sym (e ∙ ap (λ (o : Option ℕ). orElse o later) f)
 
--- the places that are left, from p up to n: one and the rest, or none
-abbrev left : List ℕ → List ℕ → ℕ → ℕ → Option ℕ
-left initial capacity n q = placesFault q (placesFrom initial capacity q (n - q))
-
-module _ (initial capacity : List ℕ) (p n : ℕ) {t : Option ℕ} where
-  pub places-turn : p < n → left initial capacity n p ≡ t
-      → t ≡ orElse (firstOf (placeTests p false (record { initial = getD initial p 0; capacity = getD capacity p 0 }))) (left initial capacity n (p + 1))
-  places-turn h inv =
-      let d : n - p ≡ suc (n - (p + 1)) = omega arith in
-      sym inv
-      ∙ ap (λ (k : ℕ). placesFault p (placesFrom initial capacity p k)) d
-      ∙ ap
-      (λ (q : ℕ). orElse (firstOf (placeTests p false (record { initial = getD initial p 0; capacity = getD capacity p 0 }))) (placesFault q (placesFrom initial capacity q (n - (p + 1)))))
-      (sym (add-one p))
-
-  pub places-end : n ≤ p → left initial capacity n p ≡ t → none ≡ t
-  places-end h inv =
-      let d : n - p ≡ 0 = omega arith in
-      sym (ap (λ (k : ℕ). placesFault p (placesFrom initial capacity p k)) d) ∙ inv
-
--- the transitions that are left
-module _ (n : NetRecord) (j k : ℕ) {t : Option ℕ} where
-  pub moves-turn : j < k → movesFault n j (k - j) ≡ t → t ≡ orElse (moveFault n j) (movesFault n (j + 1) (k - (j + 1)))
-  moves-turn h inv =
+-- the places or transitions that are left, from j up to k: one and the rest, or none
+module _ (f : ℕ → Option ℕ) (j k : ℕ) {t : Option ℕ} where
+  pub faults-turn : j < k → faultFrom f j (k - j) ≡ t → t ≡ orElse (f j) (faultFrom f (j + 1) (k - (j + 1)))
+  faults-turn h inv =
       let d : k - j ≡ suc (k - (j + 1)) = omega arith in
       sym inv
-      ∙ ap (movesFault n j) d
-      ∙ ap (λ (i : ℕ). orElse (moveFault n j) (movesFault n i (k - (j + 1)))) (sym (add-one j))
+      ∙ ap (faultFrom f j) d
+      ∙ ap (λ (i : ℕ). orElse (f j) (faultFrom f i (k - (j + 1)))) (sym (add-one j))
 
-  pub moves-end : k ≤ j → movesFault n j (k - j) ≡ t → none ≡ t
-  moves-end h inv =
+  pub faults-end : k ≤ j → faultFrom f j (k - j) ≡ t → none ≡ t
+  faults-end h inv =
       let d : k - j ≡ 0 = omega arith in
-      sym (ap (movesFault n j) d) ∙ inv
+      sym (ap (faultFrom f j) d) ∙ inv
 
 pub minus-zero : (n : ℕ) → n - 0 ≡ n
 minus-zero n = omega arith
@@ -73,7 +52,7 @@ some-place initial capacity p (suc k) h = refl
 
 module _ (n : NetRecord) where
   abbrev placed : Option ℕ
-  placed = placesFault 0 (placesFrom (n .initial) (n .capacity) 0 (n .places))
+  placed = placesFault (n .initial) (n .capacity) (n .label) (n .lengths) 0 (n .places)
 
   abbrev placeless : Bool → Option ℕ
   placeless b = orElse (firstOf ((Refusal.badSize, b) ∷ [])) (movesFault n 0 (n .transitions))

@@ -1,5 +1,5 @@
--- A record with no fault is sound. No fault of the whole is none of any place or transition, that is none of any of its tests, and a test
--- over arcs that does not apply holds of no slot. Assumes nothing.
+-- A record with no fault is sound, and its labels are. No fault of the whole is none of any place or transition, that is none of any of its
+-- tests, and a test over arcs or labels that does not apply holds of none of them. Assumes nothing.
 use Prim.Native.Nat.{ℕ, zero, suc, _+_, _-_, _*_, _^_, _≤_, _<_}
 use mathlib.Core.Path.{_≡_, refl, sym, ap, _∙_}
 use mathlib.Core.Bool.{Bool, true, false, _||_, not}
@@ -11,11 +11,14 @@ use lib.Dec.{eqb, leb, ltb}
 use lib.ListN.{getD, length}
 use lib.Ieee.{nan}
 use Rattle.refusals.specs as Refusal
+use Rattle.text.specs.Text.{Bytes, same}
 use Rattle.net.specs.declared.Net.{Net as NetRecord}
 use Rattle.net.specs.Net.{Place, Arc, Transition, pick}
-use Rattle.net.specs.Tests.{firstOf, any, empty, placeTests, moveTests, tooMany, noSuchPlace, outside, rateFits, delayFits, takenTwice, delayedForNothing, kineticTotal, arcs, orElse}
-use Rattle.net.specs.Readable.{Slot, slotAt, slots, slotsOf, strange, transition, placesFrom, placesFault, moveFault, movesFault, fault}
-use Rattle.net.specs.Sound.{Sound}
+use Rattle.net.specs.Tests.{firstOf, any, empty, placeTests, moveTests, tooMany, noSuchPlace, outside, rateFits, delayFits, takenTwice, delayedForNothing, kineticTotal, arcs, orElse, faultFrom}
+use Rattle.net.specs.Labels.{labelFits, labelAt, labelsFrom, labelFault}
+use Rattle.net.specs.Readable.{Slot, slotAt, slots, slotsOf, strange, transition, placesFrom, placeFault, placesFault, moveFault, movesFault, fault}
+use Rattle.net.specs.Record.{lent}
+use Rattle.net.specs.Sound.{Sound, Labelled}
 use Rattle.net.proofs.Slots.{not-first, not-second, any-arcs, length-arcs, length-slots}
 
 -- ---- none of a choice
@@ -48,26 +51,14 @@ bounded (suc k) m h = h k (omega arith)
 abbrev placeAt : List ℕ → List ℕ → ℕ → Place
 placeAt initial capacity p = record { initial = getD initial p 0; capacity = getD capacity p 0 }
 
-no-place : (initial capacity : List ℕ) (b k : ℕ) → placesFault b (placesFrom initial capacity b k) ≡ none
-    → (i : ℕ) → i < k → firstOf (placeTests (b + i) false (placeAt initial capacity (b + i))) ≡ none
-no-place initial capacity b zero e i h = let f : ⊥ = omega arith in absurd f
-no-place initial capacity b (suc k) e zero h =
+no-fault : (f : ℕ → Option ℕ) (b k : ℕ) → faultFrom f b k ≡ none → (i : ℕ) → i < k → f (b + i) ≡ none
+no-fault f b zero e i h = let z : ⊥ = omega arith in absurd z
+no-fault f b (suc k) e zero h =
     let d : b ≡ b + 0 = omega arith in
-    ap (λ (q : ℕ). firstOf (placeTests q false (placeAt initial capacity q))) (sym d)
-    ∙ first-none _ (placesFault (suc b) (placesFrom initial capacity (suc b) k)) e
-no-place initial capacity b (suc k) e (suc i) h =
+    ap f (sym d) ∙ first-none (f b) (faultFrom f (suc b) k) e
+no-fault f b (suc k) e (suc i) h =
     let d : suc b + i ≡ b + suc i = omega arith in
-    ap (λ (q : ℕ). firstOf (placeTests q false (placeAt initial capacity q))) (sym d)
-    ∙ no-place initial capacity (suc b) k (later-none (firstOf (placeTests b false (placeAt initial capacity b))) _ e) i (omega arith)
-
-no-move : (n : NetRecord) (b k : ℕ) → movesFault n b k ≡ none → (i : ℕ) → i < k → moveFault n (b + i) ≡ none
-no-move n b zero e i h = let f : ⊥ = omega arith in absurd f
-no-move n b (suc k) e zero h =
-    let d : b ≡ b + 0 = omega arith in
-    ap (moveFault n) (sym d) ∙ first-none (moveFault n b) (movesFault n (suc b) k) e
-no-move n b (suc k) e (suc i) h =
-    let d : suc b + i ≡ b + suc i = omega arith in
-    ap (moveFault n) (sym d) ∙ no-move n (suc b) k (later-none (moveFault n b) (movesFault n (suc b) k) e) i (omega arith)
+    ap f (sym d) ∙ no-fault f (suc b) k (later-none (f b) (faultFrom f (suc b) k) e) i (omega arith)
 
 no-slot : (f : Slot → Bool) (k p w : List ℕ) (a n : ℕ) → any f (slots k p w a n) ≡ false → (i : ℕ) → i < n → f (slotAt k p w (a + i)) ≡ false
 no-slot f k p w a zero e i h = let z : ⊥ = omega arith in absurd z
@@ -78,6 +69,17 @@ no-slot f k p w a (suc n) e (suc i) h =
     let d : a + 1 + i ≡ a + suc i = omega arith in
     ap (λ (q : ℕ). f (slotAt k p w q)) (sym d)
     ∙ no-slot f k p w (a + 1) n (not-second (f (slotAt k p w a)) (any f (slots k p w (a + 1) n)) e) i (omega arith)
+
+no-label : (f : Bytes → Bool) (label lengths : List ℕ) (p n : ℕ) → any f (labelsFrom label lengths p n) ≡ false → (i : ℕ) → i < n
+    → f (labelAt label lengths (p + i)) ≡ false
+no-label f label lengths p zero e i h = let z : ⊥ = omega arith in absurd z
+no-label f label lengths p (suc n) e zero h =
+    let d : p ≡ p + 0 = omega arith in
+    ap (λ (q : ℕ). f (labelAt label lengths q)) (sym d) ∙ not-first (f (labelAt label lengths p)) (any f (labelsFrom label lengths (suc p) n)) e
+no-label f label lengths p (suc n) e (suc i) h =
+    let d : suc p + i ≡ p + suc i = omega arith in
+    ap (λ (q : ℕ). f (labelAt label lengths q)) (sym d)
+    ∙ no-label f label lengths (suc p) n (not-second (f (labelAt label lengths p)) (any f (labelsFrom label lengths (suc p) n)) e) i (omega arith)
 
 -- ---- a transition with no fault
 
@@ -187,7 +189,7 @@ one-place initial capacity (suc k) e = omega arith
 
 module _ (n : NetRecord) (e : fault n ≡ none) where
   abbrev placed : Option ℕ
-  placed = placesFault 0 (placesFrom (n .initial) (n .capacity) 0 (n .places))
+  placed = placesFault (n .initial) (n .capacity) (n .label) (n .lengths) 0 (n .places)
 
   abbrev placeless : Option ℕ
   placeless = firstOf ((Refusal.badSize, empty (placesFrom (n .initial) (n .capacity) 0 (n .places))) ∷ [])
@@ -202,27 +204,38 @@ module _ (n : NetRecord) (e : fault n ≡ none) where
   rest : orElse placeless moves ≡ none
   rest = later-none placed (orElse placeless moves) opened
 
-  at-place : (p : ℕ) → p < n .places → firstOf (placeTests p false (placeAt (n .initial) (n .capacity) p)) ≡ none
+  abbrev placeAtFault : ℕ → Option ℕ
+  placeAtFault p = placeFault (n .initial) (n .capacity) (n .label) (n .lengths) p
+
+  at-place : (p : ℕ) → p < n .places → placeAtFault p ≡ none
   at-place p h =
       let d : p ≡ 0 + p = omega arith in
-      ap (λ (q : ℕ). firstOf (placeTests q false (placeAt (n .initial) (n .capacity) q))) d
-      ∙ no-place (n .initial) (n .capacity) 0 (n .places) (first-none placed (orElse placeless moves) opened) p h
+      ap placeAtFault d ∙ no-fault placeAtFault 0 (n .places) (first-none placed (orElse placeless moves) opened) p h
+
+  abbrev byNumbers : ℕ → Option ℕ
+  byNumbers p = firstOf (placeTests p false (placeAt (n .initial) (n .capacity) p))
+
+  numbers : (p : ℕ) → p < n .places → byNumbers p ≡ none
+  numbers p h = first-none (byNumbers p) (labelFault (n .label) (n .lengths) p) (at-place p h)
+
+  labels : (p : ℕ) → p < n .places → labelFault (n .label) (n .lengths) p ≡ none
+  labels p h = later-none (byNumbers p) (labelFault (n .label) (n .lengths) p) (at-place p h)
 
   at-move : (j : ℕ) → j < n .transitions → moveFault n j ≡ none
   at-move j h =
       let d : j ≡ 0 + j = omega arith in
-      ap (moveFault n) d ∙ no-move n 0 (n .transitions) (later-none placeless moves rest) j h
+      ap (moveFault n) d ∙ no-fault (moveFault n) 0 (n .transitions) (later-none placeless moves rest) j h
 
   tokens : (p : ℕ) → p < n .places → (ltb (2 ^ 53) (getD (n .initial) p 0) || ltb (2 ^ 53) (getD (n .capacity) p 0)) ≡ false
   tokens p h =
       fails (ltb (2 ^ 53) (getD (n .initial) p 0) || ltb (2 ^ 53) (getD (n .capacity) p 0)) 4 none
-      (others (leb 32 p) 2 _ (at-place p h))
+      (others (leb 32 p) 2 _ (numbers p h))
 
   pub sound : Sound n
   sound =
       record {
         place-one = one-place (n .initial) (n .capacity) (n .places) (fails (empty (placesFrom (n .initial) (n .capacity) 0 (n .places))) 2 none (first-none placeless moves rest));
-        places = bounded (n .places) 32 (λ p h. leb-false 32 p (fails (leb 32 p) 2 _ (at-place p h)));
+        places = bounded (n .places) 32 (λ p h. leb-false 32 p (fails (leb 32 p) 2 _ (numbers p h)));
         transitions = bounded (n .transitions) 64 (λ j h. move-few n j (at-move j h));
         initial =
             λ p h. ltb-false (2 ^ 53) (getD (n .initial) p 0) (not-first (ltb (2 ^ 53) (getD (n .initial) p 0)) (ltb (2 ^ 53) (getD (n .capacity) p 0)) (tokens p h));
@@ -238,3 +251,43 @@ module _ (n : NetRecord) (e : fault n ≡ none) where
         delayed = λ j h. move-delayed n j (at-move j h);
         kinetic = λ j h. move-kinetic n j (at-move j h);
       }
+
+  abbrev mark : ℕ → Bytes
+  mark p = labelAt (n .label) (n .lengths) p
+
+  abbrev used : ℕ → Bool
+  used p = any (same (mark p)) (labelsFrom (n .label) (n .lengths) 0 p)
+
+  pub labelled : Labelled n
+  labelled =
+      record {
+        label = λ p h. not-false (labelFits (mark p)) (fails (not (labelFits (mark p))) 17 (pick (used p) (some 18) none) (labels p h));
+        once =
+            λ p q g h.
+            let d : q ≡ 0 + q = omega arith in
+            ap (λ (r : ℕ). same (mark p) (mark r)) d
+            ∙ no-label (same (mark p)) (n .label) (n .lengths) 0 p
+            (fails (used p) 18 none (others (not (labelFits (mark p))) 17 (pick (used p) (some 18) none) (labels p h))) q g;
+      }
+
+-- ---- the same net without its labels
+
+pub unlabelled : (n : NetRecord) → Sound n
+    → Sound (lent (n .places) (n .transitions) (n .initial) (n .capacity) (n .rate) (n .delay) (n .arcs) (n .kind) (n .place) (n .weight))
+unlabelled n s =
+    record {
+      place-one = s .place-one;
+      places = s .places;
+      transitions = s .transitions;
+      initial = s .initial;
+      capacity = s .capacity;
+      arcs = s .arcs;
+      rate = s .rate;
+      delay = s .delay;
+      kind = s .kind;
+      place = s .place;
+      weight = s .weight;
+      once = s .once;
+      delayed = s .delayed;
+      kinetic = s .kinetic;
+    }

@@ -1,5 +1,6 @@
 pub mod Net
 pub mod Tests
-pub mod Readable
+pub mod Labels
 pub mod Record
+pub mod Readable
 pub mod Sound

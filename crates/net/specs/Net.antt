@@ -40,6 +40,11 @@ abbrev pub pick : {A : Type 0} → Bool → A → A → A
 pick true a b = a
 pick false a b = b
 
+-- what k numbers have, from number j on
+abbrev pub numbered : {A : Type 0} → (ℕ → A) → ℕ → ℕ → List A
+numbered f j zero = []
+numbered f j (suc k) = f j ∷ numbered f (suc j) k
+
 -- "weight 0 means 1"
 abbrev pub amount : ℕ → ℕ
 amount zero = 1

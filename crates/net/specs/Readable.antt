@@ -1,6 +1,7 @@
--- The program's net record: the readable net that it stands for, and its test. A record has room for 32 places, 64 transitions and 16 arcs a
--- transition. Arc i of transition j stands in slot 16 × j + i. Slots past the counts are not looked at.
+-- The program's net record: the readable net that it stands for, the labels beside it, and its test. A record has room for 32 places, 64
+-- transitions and 16 arcs a transition. Arc i of transition j stands in slot 16 × j + i. Slots past the counts are not looked at.
 use Prim.Native.Nat.{ℕ, zero, suc, _+_, _*_}
+use mathlib.Core.Path.{_≡_}
 use mathlib.Core.Bool.{Bool, true, false, _||_}
 use mathlib.Core.List.{List, [], _∷_}
 use mathlib.Core.Option.{Option, none, some}
@@ -11,8 +12,11 @@ use Rattle.refusals.specs as Refusal
 use Rattle.net.specs.declared.Net.{Net as NetRecord}
 use Rattle.net.specs.declared.Verdict.{Verdict}
 use Rattle.net.specs.declared.Verdict.the-variants.{Accepted, Refused}
-use Rattle.net.specs.Net.{Place, Arc, Take, Transition, Net, pick}
-use Rattle.net.specs.Tests.{firstOf, any, empty, placeTests, moveTests, orElse}
+use Rattle.text.specs.Text.{Bytes}
+use Rattle.net.specs.Net.{Place, Arc, Take, Transition, Net, pick, numbered}
+use Rattle.net.specs.Tests.{firstOf, any, empty, placeTests, moveTests, orElse, faultFrom}
+use Rattle.net.specs.Labels.{labelsFrom, labelFault}
+use Rattle.net.specs.Record.{labelled}
 
 -- ---- arcs
 
@@ -67,8 +71,7 @@ transition n j = transitionOf (getD (n .rate) j nan) (getD (n .delay) j nan) (sl
 
 -- k transitions from number j on
 abbrev pub transitionsFrom : NetRecord → ℕ → ℕ → List Transition
-transitionsFrom n j zero = []
-transitionsFrom n j (suc k) = transition n j ∷ transitionsFrom n (suc j) k
+transitionsFrom n j k = numbered (transition n) j k
 
 -- k places from number p on
 abbrev pub placesFrom : List ℕ → List ℕ → ℕ → ℕ → List Place
@@ -82,11 +85,21 @@ readable n =
       transitions = transitionsFrom n 0 (n .transitions);
     }
 
+-- the labels of its places, in their order
+abbrev pub labels : NetRecord → List Bytes
+labels n = labelsFrom (n .label) (n .lengths) 0 (n .places)
+
 -- ---- its test, place by place, then 2 where there is no place, then transition by transition
 
-abbrev pub placesFault : ℕ → List Place → Option ℕ
-placesFault before [] = none
-placesFault before (q ∷ qs) = orElse (firstOf (placeTests before false q)) (placesFault (suc before) qs)
+-- place p, by 2 and 4, and its label by 17 and 18: "both follow 4 on the place's line, and in a net given to any operation"
+abbrev pub placeFault : List ℕ → List ℕ → List ℕ → List ℕ → ℕ → Option ℕ
+placeFault initial capacity label lengths p =
+    orElse (firstOf (placeTests p false (record { initial = getD initial p 0; capacity = getD capacity p 0 })))
+    (labelFault label lengths p)
+
+-- k places from number p on
+abbrev pub placesFault : List ℕ → List ℕ → List ℕ → List ℕ → ℕ → ℕ → Option ℕ
+placesFault initial capacity label lengths p k = faultFrom (placeFault initial capacity label lengths) p k
 
 -- a transition over so many places, with so many transitions before it, whose arcs stand in these slots. odd: its text holds a value that no
 -- transition can have.
@@ -98,13 +111,12 @@ moveFault n j = slotsFault (n .places) j false (getD (n .rate) j nan) (getD (n .
 
 -- k transitions from number j on
 abbrev pub movesFault : NetRecord → ℕ → ℕ → Option ℕ
-movesFault n j zero = none
-movesFault n j (suc k) = orElse (moveFault n j) (movesFault n (suc j) k)
+movesFault n j k = faultFrom (moveFault n) j k
 
 -- the first number that applies; none where the net is accepted
 unfoldable pub fault : NetRecord → Option ℕ
 fault n =
-    orElse (placesFault 0 (readable n .places))
+    orElse (placesFault (n .initial) (n .capacity) (n .label) (n .lengths) 0 (n .places))
     (orElse (firstOf ((Refusal.badSize, empty (readable n .places)) ∷ []))
     (movesFault n 0 (n .transitions)))
 
@@ -112,3 +124,22 @@ fault n =
 abbrev pub meaning : Verdict → Option ℕ
 meaning Accepted = none
 meaning (Refused c) = some c
+
+-- ---- labels decide 17 and 18, and nothing else: "The figures match those of the text without labels"
+
+-- the net with other labels
+abbrev pub relabelled : NetRecord → List ℕ → List ℕ → NetRecord
+relabelled n label lengths =
+    labelled (n .places) (n .transitions) (n .initial) (n .capacity) label lengths (n .rate) (n .delay) (n .arcs) (n .kind) (n .place) (n .weight)
+
+-- a refusal that comes from a label
+abbrev pub byLabel : Option ℕ → Bool
+byLabel none = false
+byLabel (some c) = eqb c Refusal.badLabel || eqb c Refusal.usedLabel
+
+-- What proofs/Apart.antt shows of every net and of any other labels for it: the rules see the same net, and where no label is at fault on
+-- either side, both are accepted or both refused by one number.
+pub record LabelsApart (n : NetRecord) (label lengths : List ℕ) : Type 0 where
+  pub same-net : readable (relabelled n label lengths) ≡ readable n
+  pub same-fault : byLabel (fault n) ≡ false → byLabel (fault (relabelled n label lengths)) ≡ false
+      → fault (relabelled n label lengths) ≡ fault n

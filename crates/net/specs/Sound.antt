@@ -1,5 +1,5 @@
 -- What an accepted net record is known to be: every bound of document 01, "Domain", and what 5, 6 and 7 rule out, over the slots that its
--- counts name. proofs/Sound.antt shows it of every record that has no fault.
+-- counts name; and, apart from these, what 17 and 18 rule out of its labels. proofs/Sound.antt shows both of every record that has no fault.
 use Prim.Native.Nat.{ℕ, _+_, _*_, _^_, _≤_, _<_}
 use mathlib.Core.Path.{_≡_}
 use mathlib.Core.Bool.{true, false}
@@ -7,6 +7,8 @@ use lib.ListN.{getD}
 use lib.Ieee.{nan}
 use Rattle.net.specs.declared.Net.{Net as NetRecord}
 use Rattle.net.specs.Tests.{rateFits, delayFits, takenTwice, delayedForNothing, kineticTotal}
+use Rattle.text.specs.Text.{same}
+use Rattle.net.specs.Labels.{labelFits, labelAt}
 use Rattle.net.specs.Readable.{transition}
 
 pub record Sound (n : NetRecord) : Type 0 where
@@ -29,3 +31,10 @@ pub record Sound (n : NetRecord) : Type 0 where
   pub once : (j : ℕ) → j < n .transitions → takenTwice (transition n j) ≡ false
   pub delayed : (j : ℕ) → j < n .transitions → delayedForNothing (transition n j) ≡ false
   pub kinetic : (j : ℕ) → j < n .transitions → kineticTotal (transition n j .takes) ≤ 16
+
+-- Apart, since the parts of a program that play a net are not lent its labels.
+pub record Labelled (n : NetRecord) : Type 0 where
+  -- not 17: "1 to 16 letters a to z, digits or hyphens", of place p
+  pub label : (p : ℕ) → p < n .places → labelFits (labelAt (n .label) (n .lengths) p) ≡ true
+  -- not 18: no earlier place q has it
+  pub once : (p q : ℕ) → q < p → p < n .places → same (labelAt (n .label) (n .lengths) p) (labelAt (n .label) (n .lengths) q) ≡ false

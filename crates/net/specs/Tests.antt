@@ -104,3 +104,8 @@ moveTests places before strange t =
 abbrev pub orElse : Option ℕ → Option ℕ → Option ℕ
 orElse none later = later
 orElse (some c) later = some c
+
+-- the first fault of k things from number j on
+abbrev pub faultFrom : (ℕ → Option ℕ) → ℕ → ℕ → Option ℕ
+faultFrom f j zero = none
+faultFrom f j (suc k) = orElse (f j) (faultFrom f (suc j) k)

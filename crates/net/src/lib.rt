@@ -1,6 +1,7 @@
-// A stochastic Petri net as data, and its test by the numbers 2 to 7.
+// A stochastic Petri net as data, and its test by the numbers 2 to 7, 17 and 18.
 mod arcs;
 mod bounds;
+mod labels;
 mod places;
 mod takes;
 mod transitions;
@@ -9,15 +10,19 @@ ghost use mathlib.Core.Path.{_≡_};
 ghost use Prim.Native.Nat.{_*_};
 ghost use Rattle.net.specs.Tests as Tests;
 ghost use Rattle.net.specs.Readable as Readable;
-ghost use Rattle.net.specs.Record.{lent, blank};
+ghost use Rattle.net.specs.Record.{labelled, blank};
+ghost use Rattle.net.specs.Labels as Labels;
 
-// Up to 32 places, 64 transitions and 16 arcs a transition. Arc i of transition j stands in slot 16 * j + i of kind, place and weight; arcs[j] says
-// how many it has. Slots past the counts are not looked at.
+// Up to 32 places, 64 transitions and 16 arcs a transition. The label of place p stands in label from byte 16 * p on; lengths[p] says how many
+// bytes it has. Arc i of transition j stands in slot 16 * j + i of kind, place and weight; arcs[j] says how many it has. Slots past the counts
+// and bytes past the lengths are not looked at.
 pub struct Net {
     pub places: usize,
     pub transitions: usize,
     pub initial: [u64; 32],
     pub capacity: [u64; 32],
+    pub label: [u8; 512],
+    pub lengths: [usize; 32],
     pub rate: [f64; 64],
     pub delay: [f64; 64],
     pub arcs: [usize; 64],
@@ -62,6 +67,23 @@ pub fn place_fault(before: usize, strange: bool, initial: u64, capacity: u64) ->
     Verdict::Accepted
 }
 
+// The first of 17 and 18 that applies to the label of place p, behind those of the places before it.
+pub fn label_fault<'a>(label: &'a [u8; 512], lengths: &'a [usize; 32], p: usize) -> Verdict
+    ensures { λ r. ⌜ Readable.meaning r ≡ Labels.labelFault (now (label .entry)) (now (lengths .entry)) p ⌝ }
+{
+    let bytes: &[u8] = label;
+    if bounds::MOST_PLACES <= p {
+        return Verdict::Refused(refusals::BAD_LABEL);
+    }
+    if !labels::label_fits(bytes, lengths, p) {
+        return Verdict::Refused(refusals::BAD_LABEL);
+    }
+    if labels::used_before(bytes, lengths, p) {
+        return Verdict::Refused(refusals::USED_LABEL);
+    }
+    Verdict::Accepted
+}
+
 // The first of 2 to 7 that applies to a transition over so many places, with so many transitions before it. Its arcs stand in `count`
 // slots from 16 * before on. strange: its text holds a value that no transition can have.
 pub fn transition_fault<'a>(
@@ -101,13 +123,15 @@ pub fn transition_fault<'a>(
     Verdict::Accepted
 }
 
-// The first of 2 to 7 that applies to the net whose fields are lent: place by place, then 2 where there is no place, then transition by
+// The first of 2 to 7, 17 and 18 that applies to the net whose fields are lent: place by place, then 2 where there is no place, then transition by
 // transition. A caller that holds the fields already is spared the copy that test_net takes.
 pub fn fields_fault<'a>(
     places: usize,
     transitions: usize,
     initial: &'a [u64; 32],
     capacity: &'a [u64; 32],
+    label: &'a [u8; 512],
+    lengths: &'a [usize; 32],
     rate: &'a [f64; 64],
     delay: &'a [f64; 64],
     arcs: &'a [usize; 64],
@@ -115,10 +139,11 @@ pub fn fields_fault<'a>(
     place: &'a [usize; 1024],
     weight: &'a [u64; 1024],
 ) -> Verdict
-    ensures { λ r. ⌜ Readable.meaning r ≡ Readable.fault (lent places transitions (now (initial .entry)) (now (capacity .entry)) (now (rate .entry)) (now (delay .entry))
-        (now (arcs .entry)) (now (kind .entry)) (now (place .entry)) (now (weight .entry))) ⌝ }
+    ensures { λ r. ⌜ Readable.meaning r ≡ Readable.fault (labelled places transitions (now (initial .entry)) (now (capacity .entry))
+        (now (label .entry)) (now (lengths .entry)) (now (rate .entry)) (now (delay .entry)) (now (arcs .entry))
+        (now (kind .entry)) (now (place .entry)) (now (weight .entry))) ⌝ }
 {
-    if let Verdict::Refused(c) = places::places_fault(places, initial, capacity) {
+    if let Verdict::Refused(c) = places::places_fault(places, initial, capacity, label, lengths) {
         return Verdict::Refused(c);
     }
     if places == 0 {
@@ -138,7 +163,7 @@ pub fn fields_fault<'a>(
     )
 }
 
-// The first of 2 to 7 that applies to a net.
+// The first of 2 to 7, 17 and 18 that applies to a net.
 pub fn test_net(net: Net) -> Verdict
     ensures { λ r. ⌜ Readable.meaning r ≡ Readable.fault net ⌝ }
 {
@@ -147,6 +172,8 @@ pub fn test_net(net: Net) -> Verdict
         net.transitions,
         &net.initial,
         &net.capacity,
+        &net.label,
+        &net.lengths,
         &net.rate,
         &net.delay,
         &net.arcs,
@@ -165,6 +192,8 @@ pub fn empty() -> Net
         transitions: 0,
         initial: [0; 32],
         capacity: [0; 32],
+        label: [0; 512],
+        lengths: [0; 32],
         rate: [0.0; 64],
         delay: [0.0; 64],
         arcs: [0; 64],

@@ -18,6 +18,35 @@ fn show(what: &[u8], n: Net) {
     io::write_all(STDOUT_FILENO, b"\n");
 }
 
+fn digit(d: usize) -> u8
+    requires { ⌜ d < 10 ⌝ }
+{
+    48 + d as u8
+}
+
+// Labels of three bytes, q00 to q31, each with letters behind its bytes.
+fn names() -> [u8; 512] {
+    let mut label = [97u8; 512];
+    let mut p: usize = 0;
+    while p < 32 {
+        let at = 16 * p;
+        label[at] = 113;
+        label[at + 1] = digit(p / 10);
+        label[at + 2] = digit(p % 10);
+        p += 1;
+    }
+    label
+}
+
+// No place in use, and a label for each.
+fn labelled() -> Net {
+    let label = names();
+    let mut n = net::empty();
+    n.label = label;
+    n.lengths = [3; 32];
+    n
+}
+
 // No count set, and every slot filled with what no net may hold.
 fn littered() -> Net {
     let nan = 0.0 / 0.0;
@@ -26,6 +55,8 @@ fn littered() -> Net {
         transitions: 0,
         initial: [0xFFFF_FFFF_FFFF_FFFF; 32],
         capacity: [0xFFFF_FFFF_FFFF_FFFF; 32],
+        label: [200; 512],
+        lengths: [99; 32],
         rate: [nan; 64],
         delay: [nan; 64],
         arcs: [99; 64],
@@ -44,7 +75,8 @@ fn arc(mut n: Net, slot: usize, kind: u64, place: usize, weight: u64) -> Net
     n
 }
 
-// The net of document 01's example: two places, and one transition, with delay 1, that takes from the first and puts into the second.
+// The net of document 01's example: two places, q0 and q1, and one transition, with delay 1, that takes from the first and puts into the
+// second.
 fn sample_in(mut n: Net) -> Net {
     n.places = 2;
     n.transitions = 1;
@@ -52,6 +84,12 @@ fn sample_in(mut n: Net) -> Net {
     n.initial[1] = 0;
     n.capacity[0] = 0;
     n.capacity[1] = 0;
+    n.label[0] = 113;
+    n.label[1] = 48;
+    n.lengths[0] = 2;
+    n.label[16] = 113;
+    n.label[17] = 49;
+    n.lengths[1] = 2;
     n.rate[0] = 1.0;
     n.delay[0] = 1.0;
     n.arcs[0] = 2;
@@ -59,7 +97,7 @@ fn sample_in(mut n: Net) -> Net {
 }
 
 fn sample() -> Net {
-    sample_in(net::empty())
+    sample_in(labelled())
 }
 
 fn sized(places: usize, transitions: usize, arcs: usize) -> Net {
@@ -72,11 +110,14 @@ fn sized(places: usize, transitions: usize, arcs: usize) -> Net {
 
 // As many of each as there may be: every arc puts 1 into place 0.
 fn full() -> Net {
+    let label = names();
     Net {
         places: 32,
         transitions: 64,
         initial: [0; 32],
         capacity: [0; 32],
+        label: label,
+        lengths: [3; 32],
         rate: [0.0; 64],
         delay: [0.0; 64],
         arcs: [16; 64],
@@ -99,6 +140,105 @@ fn crowded(places: usize) -> Net {
     n.places = places;
     n.initial[31] = 9007199254740993;
     n
+}
+
+// The example with another length of a label.
+fn long(p: usize, length: usize) -> Net
+    requires { ⌜ p < 32 ⌝ }
+{
+    let mut n = sample();
+    n.lengths[p] = length;
+    n
+}
+
+// The example with another byte among the labels.
+fn lettered(at: usize, b: u8) -> Net
+    requires { ⌜ at < 512 ⌝ }
+{
+    let mut n = sample();
+    n.label[at] = b;
+    n
+}
+
+// q0 twice, with byte x behind the second.
+fn twice(x: u8) -> Net {
+    let mut n = lettered(17, 48);
+    n.label[18] = x;
+    n
+}
+
+// The third place is named as the first.
+fn third() -> Net {
+    let mut n = sample();
+    n.places = 3;
+    n.label[33] = 48;
+    n.lengths[2] = 2;
+    n
+}
+
+// A label of length 0 at place p, and too large a count at place q.
+fn unnamed(p: usize, q: usize) -> Net
+    requires { ⌜ (p < 32) × (q < 32) ⌝ }
+{
+    let mut n = long(p, 0);
+    n.initial[q] = 9007199254740993;
+    n
+}
+
+// So many places and transitions, the 32nd place without a label.
+fn unlabelled(places: usize, transitions: usize) -> Net {
+    let mut n = long(31, 0);
+    n.places = places;
+    n.transitions = transitions;
+    n
+}
+
+fn labels() {
+    show(b"label absent", long(1, 0));
+    show(b"label of 1 byte, which begins another", long(1, 1));
+    show(b"label of 16 bytes", long(1, 16));
+    show(b"label of 17 bytes", long(1, 17));
+    show(b"label of 2^64 - 1 bytes", long(1, 0xFFFF_FFFF_FFFF_FFFF));
+    show(b"label with a capital", lettered(16, 65));
+    show(b"label with byte 200", lettered(16, 200));
+    show(b"label with byte 0", lettered(17, 0));
+    show(b"label with a space", lettered(17, 32));
+    show(b"label with a comma", lettered(17, 44));
+    show(b"label with a hyphen", lettered(17, 45));
+    show(b"label with a point", lettered(17, 46));
+    show(b"label with a slash", lettered(17, 47));
+    show(b"label with a 0", lettered(16, 48));
+    show(b"label with a 9", lettered(16, 57));
+    show(b"label with a colon", lettered(17, 58));
+    show(b"label with a grave accent", lettered(17, 96));
+    show(b"label with an a", lettered(17, 97));
+    show(b"label with a z", lettered(17, 122));
+    show(b"label with a brace", lettered(17, 123));
+    show(b"a capital behind a label", lettered(18, 65));
+    show(b"label used already", twice(48));
+    show(
+        b"label used already, with another byte behind it",
+        twice(65),
+    );
+    show(b"label used two places before", third());
+    show(
+        b"no label at place 0, place 1 out of its domain",
+        unnamed(0, 1),
+    );
+    show(
+        b"place 0 out of its domain, no label at place 1",
+        unnamed(1, 0),
+    );
+    show(
+        b"place 1 out of its domain and without a label",
+        unnamed(1, 1),
+    );
+    show(b"31 places, the 32nd without a label", unlabelled(31, 1));
+    show(b"33 places, the 32nd without a label", unlabelled(33, 1));
+    show(
+        b"32 places, the 32nd without a label, 65 transitions",
+        unlabelled(32, 65),
+    );
 }
 
 fn counts() {
@@ -174,6 +314,7 @@ fn arcs() {
 
 fn main() {
     counts();
+    labels();
     rates();
     arcs();
 }

@@ -1,9 +1,9 @@
 -- What 64 bits hold of a line decides as the line itself: a value is cut only where its decimal is badly written, and then 4 applies whatever the
--- value; before 4 come 2, which counts, and 3, where a cut place is as far from the place count as the whole one. Assumes nothing.
+-- value; before 4 come 2, which counts, and 3, where a cut place is as far from the place count as the whole one. Labels are not cut. Assumes nothing.
 use Prim.Native.Nat.{ℕ, _^_, _≤_, _<_}
 use mathlib.Core.Path.{_≡_, refl, sym, ap, _∙_}
 use mathlib.Core.Bool.{Bool, true, false, _||_, not}
-use mathlib.Core.List.{List, [], _∷_, map}
+use mathlib.Core.List.{List, [], _∷_, _++_, map}
 use mathlib.Core.Option.{Option, none, some}
 use native.Mathlib.Omega.{arith}
 use lib.Dec.{eqb, leb, ltb}
@@ -13,12 +13,14 @@ use borrow.Author.Tests.{le-leb, lt-leb, lt-ltb, leb-true, leb-false}
 use Rattle.net.specs.Net.{Place, Arc, Transition, Net, pick}
 use Rattle.net.specs.Tests.{Test, firstOf, any, empty, arcs, placeTests, moveTests, tooMany, noSuchPlace, takenTwice, delayedForNothing, kineticTotal}
 use Rattle.net.specs.Readable.{Slot, takesOf, arcsOf, isPut, isRead, isBlock, transitionOf, strange}
+use Rattle.net.specs.Labels.{labelTests}
 use Rattle.net.proofs.Slots.{length-arcs, any-arcs}
+use Rattle.text.specs.Text.{Bytes}
 use Rattle.net_text.specs.Forms.{Decimal, RawArc, rawTake, rawPut, rawRead, rawBlock, rawPlace, rawMove, rawRun}
 use Rattle.net_text.specs.Reading.{RunLine, badly, badArc, transition, withArc, Due, closing, Outcome, unless, afterPlace, afterMove, insideLine}
 use Rattle.net_text.specs.Filled.{arcSlot}
 use Rattle.net_text.specs.Scanned.{held, slotOf}
-use Rattle.net_text.specs.Position.{runTests}
+use Rattle.net_text.specs.Position.{placeLineTests, runTests}
 
 -- ---- bits
 
@@ -135,13 +137,13 @@ module _ (p k : ℕ) (R D : Float) where
       ∙ sym (any-arcs (λ (a : Arc). leb p (a .place)) R D (map slotOf xs))
 
   -- all tests, and what is stored where none applies
-  move-by : p ≤ 32 → (n : Net) (xs : List RawArc) (bad : Bool) → any badArc xs ≡ bad
-      → unless (firstOf (moveTests p k bad (E xs))) (afterMove n (E xs)) ≡ unless (firstOf (moveTests p k (bad || strange (map slotOf xs)) (S xs))) (afterMove n (S xs))
-  move-by h n xs true e =
+  move-by : p ≤ 32 → (n : Net) (names : List Bytes) (xs : List RawArc) (bad : Bool) → any badArc xs ≡ bad
+      → unless (firstOf (moveTests p k bad (E xs))) (afterMove n names (E xs)) ≡ unless (firstOf (moveTests p k (bad || strange (map slotOf xs)) (S xs))) (afterMove n names (S xs))
+  move-by h n names xs true e =
       rw (many-same xs, far-same h xs)
-      (stopped (tooMany p k (S xs)) (noSuchPlace p (S xs)) (later (E xs)) (afterMove n (E xs)) (afterMove n (S xs))
-      ∙ ap (λ (o : Option ℕ). unless o (afterMove n (S xs))) (fourth (tooMany p k (S xs)) (noSuchPlace p (S xs)) (later (E xs)) (later (S xs))))
-  move-by h n xs false e = rw (clean xs e, known xs)
+      (stopped (tooMany p k (S xs)) (noSuchPlace p (S xs)) (later (E xs)) (afterMove n names (E xs)) (afterMove n names (S xs))
+      ∙ ap (λ (o : Option ℕ). unless o (afterMove n names (S xs))) (fourth (tooMany p k (S xs)) (noSuchPlace p (S xs)) (later (E xs)) (later (S xs))))
+  move-by h n names xs false e = rw (clean xs e, known xs)
 
 -- 2 is first
 crowded : (c : ℕ) (x : Bool) (ts us : List Test) (d e : Due) → x ≡ true → unless (firstOf ((c, x) ∷ ts)) d ≡ unless (firstOf ((c, x) ∷ us)) e
@@ -157,29 +159,29 @@ or-second : (a b c : Bool) → b ≡ true → (a || b || c) ≡ true
 or-second true b c e = refl
 or-second false b c e = rw e
 
-module _ (n : Net) (p k : ℕ) (r d : ℕ) (xs : List RawArc) (ls : List Slot) (places : length (n .places) ≡ p) (transitions : length (n .transitions) ≡ k) (count : length ls ≡ length xs) where
+module _ (n : Net) (names : List Bytes) (p k : ℕ) (r d : ℕ) (xs : List RawArc) (ls : List Slot) (places : length (n .places) ≡ p) (transitions : length (n .transitions) ≡ k) (count : length ls ≡ length xs) where
   -- what the slots decide
   abbrev judged : Outcome
   judged =
       unless (firstOf (moveTests p k (any badArc xs || strange ls) (transitionOf (ofBits binary64 r) (ofBits binary64 d) ls)))
-      (afterMove n (transitionOf (ofBits binary64 r) (ofBits binary64 d) ls))
+      (afterMove n names (transitionOf (ofBits binary64 r) (ofBits binary64 d) ls))
 
   abbrev exact : Outcome
-  exact = unless (firstOf (moveTests p k (any badArc xs) (transition r d xs))) (afterMove n (transition r d xs))
+  exact = unless (firstOf (moveTests p k (any badArc xs) (transition r d xs))) (afterMove n names (transition r d xs))
 
-  inside-is : insideLine n (some (rawMove r d xs)) ≡ exact
+  inside-is : insideLine n names (some (rawMove r d xs)) ≡ exact
   inside-is = rw (places, transitions)
 
   -- the arcs are in the slots
-  pub move-held : p ≤ 32 → ls ≡ map slotOf xs → insideLine n (some (rawMove r d xs)) ≡ judged
+  pub move-held : p ≤ 32 → ls ≡ map slotOf xs → insideLine n names (some (rawMove r d xs)) ≡ judged
   move-held h e =
       inside-is
-      ∙ ap (λ (t : Transition). unless (firstOf (moveTests p k (any badArc xs) t)) (afterMove n t)) (exact-is r d xs)
-      ∙ move-by p k (ofBits binary64 r) (ofBits binary64 d) h n xs (any badArc xs) refl
-      ∙ ap (λ (l : List Slot). unless (firstOf (moveTests p k (any badArc xs || strange l) (transitionOf (ofBits binary64 r) (ofBits binary64 d) l))) (afterMove n (transitionOf (ofBits binary64 r) (ofBits binary64 d) l))) (sym e)
+      ∙ ap (λ (t : Transition). unless (firstOf (moveTests p k (any badArc xs) t)) (afterMove n names t)) (exact-is r d xs)
+      ∙ move-by p k (ofBits binary64 r) (ofBits binary64 d) h n names xs (any badArc xs) refl
+      ∙ ap (λ (l : List Slot). unless (firstOf (moveTests p k (any badArc xs || strange l) (transitionOf (ofBits binary64 r) (ofBits binary64 d) l))) (afterMove n names (transitionOf (ofBits binary64 r) (ofBits binary64 d) l))) (sym e)
 
   -- there are too many: the slots do not matter
-  both-many : tooMany p k (transition r d xs) ≡ true → tooMany p k (transitionOf (ofBits binary64 r) (ofBits binary64 d) ls) ≡ true → insideLine n (some (rawMove r d xs)) ≡ judged
+  both-many : tooMany p k (transition r d xs) ≡ true → tooMany p k (transitionOf (ofBits binary64 r) (ofBits binary64 d) ls) ≡ true → insideLine n names (some (rawMove r d xs)) ≡ judged
   both-many e f = inside-is ∙ rw (e, f)
 
   counted : length (arcs (transition r d xs)) ≡ length xs
@@ -191,13 +193,13 @@ module _ (n : Net) (p k : ℕ) (r d : ℕ) (xs : List RawArc) (ls : List Slot) (
   counted-slots : length (arcs (transitionOf (ofBits binary64 r) (ofBits binary64 d) ls)) ≡ length xs
   counted-slots = length-arcs (ofBits binary64 r) (ofBits binary64 d) ls ∙ count
 
-  pub move-crowded : 16 < length xs → insideLine n (some (rawMove r d xs)) ≡ judged
+  pub move-crowded : 16 < length xs → insideLine n names (some (rawMove r d xs)) ≡ judged
   move-crowded h =
       both-many
       (or-third (eqb p 0) (leb 64 k) _ (lt-ltb 16 (length (arcs (transition r d xs))) (omega (arith, counted))))
       (or-third (eqb p 0) (leb 64 k) _ (lt-ltb 16 (length (arcs (transitionOf (ofBits binary64 r) (ofBits binary64 d) ls))) (omega (arith, counted-slots))))
 
-  pub move-late : 64 ≤ k → insideLine n (some (rawMove r d xs)) ≡ judged
+  pub move-late : 64 ≤ k → insideLine n names (some (rawMove r d xs)) ≡ judged
   move-late h =
       both-many
       (or-second (eqb p 0) (leb 64 k) _ (le-leb 64 k h))
@@ -210,7 +212,7 @@ head-four true y z d e = refl
 head-four false true z d e = refl
 head-four false false z d e = refl
 
-module _ (n : Net) (i c : Decimal) where
+module _ (n : Net) (names : List Bytes) (i c : Decimal) (l : Bytes) where
   abbrev exactPlace : Place
   exactPlace = record { initial = i .value; capacity = c .value }
 
@@ -218,20 +220,22 @@ module _ (n : Net) (i c : Decimal) where
   heldPlace = record { initial = held (i .value); capacity = held (c .value) }
 
   place-by : (late : Bool) (k : ℕ) (bad : Bool) → (badly i || badly c) ≡ bad
-      → unless (firstOf ((1, late) ∷ placeTests k bad exactPlace)) (afterPlace n exactPlace) ≡ unless (firstOf ((1, late) ∷ placeTests k bad heldPlace)) (afterPlace n heldPlace)
+      → unless (firstOf ((1, late) ∷ (placeTests k bad exactPlace ++ labelTests names l))) (afterPlace n names exactPlace l)
+      ≡ unless (firstOf ((1, late) ∷ (placeTests k bad heldPlace ++ labelTests names l))) (afterPlace n names heldPlace l)
   place-by true k true e = refl
   place-by false k true e = go (leb 32 k)
     where
-      go : (x : Bool) → unless (firstOf ((2, x) ∷ (4, true) ∷ [])) (afterPlace n exactPlace) ≡ unless (firstOf ((2, x) ∷ (4, true) ∷ [])) (afterPlace n heldPlace)
+      go : (x : Bool) → unless (firstOf ((2, x) ∷ (4, true) ∷ labelTests names l)) (afterPlace n names exactPlace l)
+          ≡ unless (firstOf ((2, x) ∷ (4, true) ∷ labelTests names l)) (afterPlace n names heldPlace l)
       go true = refl
       go false = refl
   place-by late k false e = rw (held-whole i (or-no-left (badly i) (badly c) e), held-whole c (or-no-right (badly i) (badly c) e))
 
   pub place-held : (p k : ℕ) → length (n .places) ≡ p → empty (n .transitions) ≡ eqb k 0
-      → insideLine n (some (rawPlace i c)) ≡ unless (firstOf ((1, not (eqb k 0)) ∷ placeTests p (badly i || badly c) heldPlace)) (afterPlace n heldPlace)
+      → insideLine n names (some (rawPlace i c l)) ≡ unless (firstOf (placeLineTests p k (badly i || badly c) heldPlace names l)) (afterPlace n names heldPlace l)
   place-held p k e f = rw (e, f) (place-by (not (eqb k 0)) p (badly i || badly c) refl)
 
-module _ (n : Net) (s r seed : Decimal) (horizon : ℕ) where
+module _ (n : Net) (names : List Bytes) (s r seed : Decimal) (horizon : ℕ) where
   abbrev exactRun : RunLine
   exactRun = record { samples = s .value; realizations = r .value; seed = seed .value; horizon = horizon }
 
@@ -239,10 +243,10 @@ module _ (n : Net) (s r seed : Decimal) (horizon : ℕ) where
   heldRun = record { samples = held (s .value); realizations = held (r .value); seed = held (seed .value); horizon = horizon }
 
   run-by : (p : ℕ) (bad : Bool) → (badly s || badly r || badly seed) ≡ bad
-      → unless (firstOf (runTests p bad)) (closing n exactRun) ≡ unless (firstOf (runTests p bad)) (closing n heldRun)
+      → unless (firstOf (runTests p bad)) (closing n names exactRun) ≡ unless (firstOf (runTests p bad)) (closing n names heldRun)
   run-by p true e = go (eqb p 0)
     where
-      go : (x : Bool) → unless (firstOf ((2, x) ∷ (4, true) ∷ [])) (closing n exactRun) ≡ unless (firstOf ((2, x) ∷ (4, true) ∷ [])) (closing n heldRun)
+      go : (x : Bool) → unless (firstOf ((2, x) ∷ (4, true) ∷ [])) (closing n names exactRun) ≡ unless (firstOf ((2, x) ∷ (4, true) ∷ [])) (closing n names heldRun)
       go true = refl
       go false = refl
   run-by p false e =
@@ -250,5 +254,5 @@ module _ (n : Net) (s r seed : Decimal) (horizon : ℕ) where
       rw (held-whole s (or-no-left (badly s) (badly r) two), held-whole r (or-no-right (badly s) (badly r) two), held-whole seed (or-no-right (badly s || badly r) (badly seed) e))
 
   pub run-held : (p : ℕ) → empty (n .places) ≡ eqb p 0
-      → insideLine n (some (rawRun s r seed horizon)) ≡ unless (firstOf (runTests p (badly s || badly r || badly seed))) (closing n heldRun)
+      → insideLine n names (some (rawRun s r seed horizon)) ≡ unless (firstOf (runTests p (badly s || badly r || badly seed))) (closing n names heldRun)
   run-held p e = rw e (run-by p (badly s || badly r || badly seed) refl)

@@ -77,9 +77,9 @@ from number d t = readFrom number d (lines t .ended) (lines t .rest)
 -- a last line without its newline
 end-rest : (number : ℕ) (d : Due) (b : ℕ) (t : Bytes) → atEnd number d (b ∷ t) ≡ refused 1 number
 end-rest number opening b t = refl
-end-rest number (inside n) b t = refl
-end-rest number (closing n r) b t = refl
-end-rest number (nothing n r) b t = refl
+end-rest number (inside n names) b t = refl
+end-rest number (closing n names r) b t = refl
+end-rest number (nothing n names r) b t = refl
 
 module _ (t : Bytes) (at e : ℕ) (found : LineEnd t at e) (number : ℕ) (d : Due) where
   pub read-last : e ≡ length t → at < length t → from number d (drop at t) ≡ refused 1 number

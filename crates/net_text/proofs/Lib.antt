@@ -6,6 +6,7 @@ pub mod Many
 pub mod Walk
 pub mod Parts
 pub mod Patterns
+pub mod Labels
 pub mod Lined
 pub mod Clipped
 pub mod Stored

@@ -7,12 +7,13 @@ use native.Mathlib.Omega.{arith}
 use lib.ListN.{length, getD, drop}
 use Rattle.net.specs.Readable.{slots}
 use Rattle.text.specs.Text.{Bytes, bytes}
-use Rattle.net_text.specs.Forms.{Met, wrong, met, Form, say, behind, many, _>>=_, _>>_, exactly, quoted, decimal, hexadecimal, Decimal, RawArc, RawLine, rawPlace, rawMove, rawRun, nextArc, placeForm, moveForm, runForm}
+use Rattle.net_text.specs.Forms.{Met, wrong, met, Form, say, behind, many, _>>=_, _>>_, exactly, quoted, decimal, hexadecimal, Decimal, RawArc, RawLine, rawPlace, rawMove, rawRun, nextArc, labelForm, placeForm, moveForm, runForm}
 use Rattle.net_text.specs.Scanned.{through, found, seen, numberIs, patternIs, ArcsRead}
-use Rattle.net_text.specs.Seen.{NumberAfter, PatternAfter, PlaceRead, RunRead, MoveRead, noPlace, noRun, noMove}
+use Rattle.net_text.specs.Seen.{NumberAfter, PatternAfter, part, LabelRead, PlaceRead, RunRead, MoveRead, noPlace, noRun, noMove}
 use Rattle.net_text.specs.declared.scan.Number.{Number}
 use Rattle.net_text.specs.declared.scan.Pattern.{Pattern}
 use Rattle.net_text.specs.declared.scan.ArcsSeen.{ArcsSeen}
+use Rattle.net_text.specs.declared.form.LabelSeen.{LabelSeen}
 use Rattle.net_text.proofs.Parts.{behind-met, behind-wrong, behind-assoc, found-met, found-wrong, Got, got, got-wrong, word-inside}
 
 or-both : {a b c d : Bool} → a ≡ c → b ≡ d → (a || b) ≡ (c || d)
@@ -82,11 +83,11 @@ next-fits a l h k = omega arith
 
 -- ---- a place line, from its parts on
 
-abbrev place₃ : Decimal → Decimal → Form RawLine
-place₃ i c = say (rawPlace i c)
+abbrev place₃ : Decimal → Decimal → Bytes → Form RawLine
+place₃ i c l = say (rawPlace i c l)
 
 abbrev place₂ : Decimal → Decimal → Form RawLine
-place₂ i c = _>>_ (quoted ")") (place₃ i c)
+place₂ i c = _>>=_ labelForm (place₃ i c)
 
 abbrev place₁ : Decimal → Form RawLine
 place₁ i = _>>_ (quoted " ") (_>>=_ decimal (place₂ i))
@@ -97,6 +98,8 @@ no-place line e =
       initial = record { value = 0; zeroLed = false };
       capacity = record { value = 0; zeroLed = false };
       is = e;
+      begins = omega arith;
+      ends = omega arith;
       held-initial = refl;
       held-capacity = refl;
       strange = refl;
@@ -116,7 +119,7 @@ module _ (line : Bytes) (r : Number) (a : NumberAfter (bytes "(place ") line 0 r
         number-step (bytes "(place ") line 0 r a place₁ ok
         ∙ number-stop (bytes " ") line (r .next) s b (place₂ i) h
 
-    module _ (ok₂ : s .ok ≡ true) (found₃ : Bool) (e : exactly (bytes ")") (drop (s .next) line) ≡ found line found₃ tt (s .next + 1)) where
+    module _ (ok₂ : s .ok ≡ true) (l : LabelSeen) (e : LabelRead line (s .next) l) where
       abbrev c : Decimal
       c = gotten (bytes " ") line (r .next) s b ok₂ .number
 
@@ -125,22 +128,40 @@ module _ (line : Bytes) (r : Number) (a : NumberAfter (bytes "(place ") line 0 r
           number-step (bytes "(place ") line 0 r a place₁ ok
           ∙ number-step (bytes " ") line (r .next) s b (place₂ i) ok₂
 
-      pub place-third : found₃ ≡ false → placeForm line ≡ wrong
-      place-third h = up-to ∙ word-stop (bytes ")") line (s .next) found₃ e (place₃ i c) h
+      abbrev name : Bytes
+      name = part line (l .from) (l .end)
 
-      pub place-found : found₃ ≡ true
-          → PlaceRead line (record { ok = true; initial = r .value; capacity = s .value; strange = r .strange || s .strange; next = s .next + 1 })
+      pub place-third : l .ok ≡ false → placeForm line ≡ wrong
+      place-third h =
+          up-to
+          ∙ behind-wrong (labelForm (drop (s .next) line)) (place₃ i c) (found-wrong (labelForm (drop (s .next) line)) line (l .ok) name (l .next) (e .is) h)
+
+      pub place-found : l .ok ≡ true
+          → PlaceRead line (record {
+            ok = true;
+            initial = r .value;
+            capacity = s .value;
+            strange = r .strange || s .strange;
+            from = l .from;
+            end = l .end;
+            next = l .next;
+          })
       place-found h =
           let g = gotten (bytes "(place ") line 0 r a ok in
           let g₂ = gotten (bytes " ") line (r .next) s b ok₂ in
           record {
             initial = i;
             capacity = c;
-            is = up-to ∙ word-step (bytes ")") line (s .next) found₃ e (place₃ i c) h;
+            is =
+                up-to
+                ∙ behind-met (labelForm (drop (s .next) line)) (place₃ i c) name (drop (l .next) line)
+                (found-met (labelForm (drop (s .next) line)) line (l .ok) name (l .next) (e .is) h);
+            begins = e .begins;
+            ends = e .ends;
             held-initial = g .value-is;
             held-capacity = g₂ .value-is;
             strange = or-both (g .strange-is) (g₂ .strange-is);
-            inside = word-ends (bytes ")") line (s .next) found₃ e (b .inside) h;
+            inside = e .inside;
           }
 
 -- ---- a run line

@@ -9,8 +9,8 @@ use native.Mathlib.Omega.{arith}
 use lib.Dec.{eqb}
 use lib.ListN.{length, take, drop, drop-of-length-le}
 use borrow.Author.Tests.{eqb-true}
-use Rattle.net.specs.Net.{Net, pick}
-use Rattle.net.specs.Readable.{readable}
+use Rattle.net.specs.Net.{pick}
+use Rattle.net.specs.Readable.{readable, labels}
 use Rattle.net.specs.Record.{blank}
 use Rattle.net.specs.declared.Net.{Net as NetRecord}
 use Rattle.text.specs.Text.{Bytes, bytes, same}
@@ -44,8 +44,8 @@ word-is (b ∷ l) (c ∷ w) e = both (eqb b c) refl e (word-is l w)
 
 module _ (line : Bytes) (p : Position) (T : Tables) where
   -- the line as it is read at this stage
-  due-is : (s : Stage) → p .stage ≡ s → lineRead (dueOf p T) line ≡ lineRead (dueAt s (readable (netAt (p .places) (p .transitions) T)) (runOf (p .run))) line
-  due-is s e = ap (λ (x : Stage). lineRead (dueAt x (readable (netAt (p .places) (p .transitions) T)) (runOf (p .run))) line) e
+  due-is : (s : Stage) → p .stage ≡ s → lineRead (dueOf p T) line ≡ lineRead (dueAt s (netAt (p .places) (p .transitions) T) (runOf (p .run))) line
+  due-is s e = ap (λ (x : Stage). lineRead (dueAt x (netAt (p .places) (p .transitions) T) (runOf (p .run))) line) e
 
   -- a word that is no place, move or run line leaves the record
   puts-nothing : (w : Bytes) → true ≡ same line w → lineOf w ≡ none
@@ -57,6 +57,8 @@ module _ (line : Bytes) (p : Position) (T : Tables) where
       record {
         initials = r .initials;
         capacities = r .capacities;
+        bytes = r .bytes;
+        sizes = r .sizes;
         rates = r .rates;
         delays = r .delays;
         counts = r .counts;
@@ -74,7 +76,7 @@ module _ (line : Bytes) (p : Position) (T : Tables) where
       → LineTaken (dueOf p T) (netAt (p .places) (p .transitions) T) line T (GoOn (record { stage = Inside; places = 0; transitions = 0; run = run }))
   opened run s e w =
       record {
-        is = sym (due-is Opening e ∙ ap (λ (b : Bool). pick b (goOn (inside noNet)) (fault 1)) (sym w));
+        is = sym (due-is Opening e ∙ ap (λ (b : Bool). pick b (goOn (inside noNet [])) (fault 1)) (sym w));
         holds = record { room = nothing-yet (s .room); at-stage = tt };
         fills =
             let none-yet = subst (λ (x : Stage). stageHolds x (netAt (p .places) (p .transitions) T)) e (s .at-stage) in
@@ -82,25 +84,25 @@ module _ (line : Bytes) (p : Position) (T : Tables) where
       }
 
   pub not-opened : (T′ : Tables) → p .stage ≡ Opening → false ≡ same line (bytes "(net") → LineTaken (dueOf p T) (netAt (p .places) (p .transitions) T) line T′ (Fault 1)
-  not-opened T′ e w = record { is = sym (due-is Opening e ∙ ap (λ (b : Bool). pick b (goOn (inside noNet)) (fault 1)) (sym w)); holds = tt; fills = tt }
+  not-opened T′ e w = record { is = sym (due-is Opening e ∙ ap (λ (b : Bool). pick b (goOn (inside noNet [])) (fault 1)) (sym w)); holds = tt; fills = tt }
 
   pub between : (T′ : Tables) (r : Taken) → p .stage ≡ Inside → LineTaken (insideOf (p .places) (p .transitions) T) (netAt (p .places) (p .transitions) T) line T′ r → LineTaken (dueOf p T) (netAt (p .places) (p .transitions) T) line T′ r
   between T′ r e l = record { is = l .is ∙ sym (due-is Inside e); holds = l .holds; fills = l .fills }
 
-  abbrev n : Net
-  n = readable (netAt (p .places) (p .transitions) T)
+  abbrev n : NetRecord
+  n = netAt (p .places) (p .transitions) T
 
   pub closed : Standing p T → p .stage ≡ Closing → true ≡ same line (bytes ")")
       → LineTaken (dueOf p T) (netAt (p .places) (p .transitions) T) line T (GoOn (record { stage = Nothing; places = p .places; transitions = p .transitions; run = p .run }))
   closed s e w =
       record {
-        is = sym (due-is Closing e ∙ ap (λ (b : Bool). pick b (goOn (nothing n (runOf (p .run)))) (fault 1)) (sym w));
+        is = sym (due-is Closing e ∙ ap (λ (b : Bool). pick b (goOn (nothing (readable n) (labels n) (runOf (p .run)))) (fault 1)) (sym w));
         holds = record { room = s .room; at-stage = subst (λ (x : Stage). stageHolds x (netAt (p .places) (p .transitions) T)) e (s .at-stage) };
         fills = puts-nothing (bytes ")") w refl;
       }
 
   pub not-closed : (T′ : Tables) → p .stage ≡ Closing → false ≡ same line (bytes ")") → LineTaken (dueOf p T) (netAt (p .places) (p .transitions) T) line T′ (Fault 1)
-  not-closed T′ e w = record { is = sym (due-is Closing e ∙ ap (λ (b : Bool). pick b (goOn (nothing n (runOf (p .run)))) (fault 1)) (sym w)); holds = tt; fills = tt }
+  not-closed T′ e w = record { is = sym (due-is Closing e ∙ ap (λ (b : Bool). pick b (goOn (nothing (readable n) (labels n) (runOf (p .run)))) (fault 1)) (sym w)); holds = tt; fills = tt }
 
   pub behind-all : (T′ : Tables) → p .stage ≡ Nothing → LineTaken (dueOf p T) (netAt (p .places) (p .transitions) T) line T′ (Fault 1)
   behind-all T′ e = record { is = sym (due-is Nothing e); holds = tt; fills = tt }
@@ -116,14 +118,14 @@ refused-fills r c l T m e = subst (λ (j : Judged). givenAs j (netAt (r .places)
 
 -- a line is missing at every stage but the last
 pub missing : (r : Ended) (p : Position) (number : ℕ) (s : Stage) → r .judged ≡ Refused 1 number → p .stage ≡ s
-    → ((m : Net) (q : RunLine) → atEnd number (dueAt s m q) [] ≡ refused 1 number)
+    → ((m : NetRecord) (q : RunLine) → atEnd number (dueAt s m q) [] ≡ refused 1 number)
     → (T : Tables) → AtEnd number p T r
 missing r p number s e f g T =
     record {
       is =
-          ap (λ (j : Judged). answer j (readable (netAt (r .places) (r .transitions) T)) (runOf (r .run))) e
-          ∙ sym (g (readable (netAt (p .places) (p .transitions) T)) (runOf (p .run)))
-          ∙ ap (λ (x : Stage). atEnd number (dueAt x (readable (netAt (p .places) (p .transitions) T)) (runOf (p .run))) []) (sym f);
+          ap (λ (j : Judged). answer j (netAt (r .places) (r .transitions) T) (runOf (r .run))) e
+          ∙ sym (g (netAt (p .places) (p .transitions) T) (runOf (p .run)))
+          ∙ ap (λ (x : Stage). atEnd number (dueAt x (netAt (p .places) (p .transitions) T) (runOf (p .run))) []) (sym f);
       passes = λ h. refused-passes r 1 number T e;
       fills = refused-fills r 1 number T (netAt (p .places) (p .transitions) T) e;
     }
@@ -132,7 +134,7 @@ pub complete : (p : Position) (number : ℕ) → p .stage ≡ Nothing
     → (T : Tables) → AtEnd number p T (record { judged = Given; places = p .places; transitions = p .transitions; run = p .run })
 complete p number f T =
     record {
-      is = ap (λ (x : Stage). atEnd number (dueAt x (readable (netAt (p .places) (p .transitions) T)) (runOf (p .run))) []) (sym f);
+      is = ap (λ (x : Stage). atEnd number (dueAt x (netAt (p .places) (p .transitions) T) (runOf (p .run))) []) (sym f);
       passes = λ h. subst (λ (x : Stage). stageHolds x (netAt (p .places) (p .transitions) T)) f (h .at-stage);
       fills = refl;
     }
@@ -152,6 +154,8 @@ blank-room =
     record {
       initials = refl;
       capacities = refl;
+      bytes = refl;
+      sizes = refl;
       rates = refl;
       delays = refl;
       counts = refl;
@@ -180,7 +184,7 @@ begin t T run e =
 refused-as : (t : Bytes) (T : Tables) (r : Ended) (c l : ℕ) → r .judged ≡ Refused c l → refused c l ≡ linesRead t → LinesRead t T r
 refused-as t T r c l e f =
     record {
-      is = ap (λ (j : Judged). answer j (readable (netAt (r .places) (r .transitions) T)) (runOf (r .run))) e ∙ f;
+      is = ap (λ (j : Judged). answer j (netAt (r .places) (r .transitions) T) (runOf (r .run))) e ∙ f;
       passes = refused-passes r c l T e;
       fills = refused-fills r c l T (recordOf t) e;
     }

@@ -5,7 +5,6 @@ use mathlib.Core.Bool.{Bool}
 use lib.ListN.{length}
 use borrow.Author.Tests.{lt-ltb, le-ltb}
 use Rattle.net.specs.Net.{pick}
-use Rattle.net.specs.Readable.{readable}
 use Rattle.text.specs.Text.{Bytes}
 use Rattle.net_text.specs.Reading.{refused, read}
 use Rattle.net_text.specs.Filled.{recordOf}
@@ -26,7 +25,7 @@ short-text t h = ap (λ (b : Bool). pick b (refused 2 0) (linesRead t)) (sym (le
 turned-down : (t : Bytes) (c l : ℕ) (r : NetText) → TurnedDown c l r → refused c l ≡ read t → NetRead t r
 turned-down t c l r d e =
     record {
-      is = ap (λ (j : Judged). answer j (readable (r .net)) (runOf (r .run))) (d .judged) ∙ e;
+      is = ap (λ (j : Judged). answer j (r .net) (runOf (r .run))) (d .judged) ∙ e;
       slots = subst (λ (j : Judged). recordBy j t r) (sym (d .judged)) (d .net, d .run);
       passes = subst (λ (j : Judged). acceptedBy j (r .net)) (sym (d .judged)) tt;
     }
@@ -36,9 +35,9 @@ too-long t r d h = turned-down t 2 0 r d (long-text t h)
 
 module _ (t : Bytes) (e : Ended) (T : Tables) (short : length t ≤ 8192) (all : LinesRead t T e) where
   -- what the reading ended with
-  ended : (j : Judged) → e .judged ≡ j → answer j (readable (netAt (e .places) (e .transitions) T)) (runOf (e .run)) ≡ read t
+  ended : (j : Judged) → e .judged ≡ j → answer j (netAt (e .places) (e .transitions) T) (runOf (e .run)) ≡ read t
   ended j f =
-      ap (λ (x : Judged). answer x (readable (netAt (e .places) (e .transitions) T)) (runOf (e .run))) (sym f) ∙ all .is ∙ short-text t short
+      ap (λ (x : Judged). answer x (netAt (e .places) (e .transitions) T) (runOf (e .run))) (sym f) ∙ all .is ∙ short-text t short
 
   pub whole-refused : (c l : ℕ) (r : NetText) → e .judged ≡ Refused c l → TurnedDown c l r → NetRead t r
   whole-refused c l r f d = turned-down t c l r d (ended (Refused c l) f)

@@ -1,7 +1,7 @@
--- The form of a line: what refusal 1, "wrong form", tests. Document 01, "Net text (added, house format)".
+-- The form of a line: what refusal 1, "wrong form", tests. Document 01, "Net text (added, house format)", and document 02, order 1.
 -- The forms of the lines stand at the end. Each lists the parts of its line in order: a part in quotes stands there as it is, and
 -- `x ← part` gives the name x to what that part says. Nothing else may stand between the parts, so a space is one space.
--- A form says what is written and judges no value: numbers of any size and places that there are not have the right form.
+-- A form says what is written and judges no value: numbers of any size, places that there are not and labels of any bytes have the right form.
 use Prim.Native.Nat.{ℕ, zero, suc, _+_, _-_, _*_}
 use Prim.Native.String.{String}
 use mathlib.Core.Bool.{Bool, true, false, _&&_}
@@ -136,6 +136,14 @@ hexFrom (suc k) v = do
 abbrev pub hexadecimal : Form ℕ
 hexadecimal = hexFrom 16 0
 
+-- What stands between here and the `)` that ends the line, brackets and spaces too. Not met where another byte ends the line, or none is left.
+abbrev pub upToLast : Form Bytes
+upToLast [] = wrong
+upToLast (b ∷ []) = pick (eqb b 41) (met [] []) wrong
+upToLast (b ∷ c ∷ t) =
+    let further = upToLast (c ∷ t) in
+    behind further (λ l. say (b ∷ l))
+
 -- ---- the lines
 
 -- an arc as it is written: place, weight and, for a take alone, whether it is kinetic
@@ -174,19 +182,34 @@ nextArc = do
 
 -- a line between `(net` and `)`, as it is written; floats by their bits
 pub data RawLine : Type 0 where
-  rawPlace : Decimal → Decimal → RawLine
+  rawPlace : Decimal → Decimal → Bytes → RawLine
   rawMove : ℕ → ℕ → List RawArc → RawLine
   rawRun : Decimal → Decimal → Decimal → ℕ → RawLine
 
--- "Place: initial, capacity"
+-- The label: "it is all between the space after the capacity and the `)` that ends the line". "17 label absent or malformed (no longer 1)": a line
+-- that ends behind the capacity has the right form too, and a label of no byte.
+abbrev pub writtenLabel : Form Bytes
+writtenLabel = do
+  quoted " "
+  upToLast
+
+abbrev pub absentLabel : Form Bytes
+absentLabel = do
+  quoted ")"
+  say []
+
+abbrev pub labelForm : Form Bytes
+labelForm = writtenLabel or absentLabel
+
+-- "Place: initial, capacity", and "a third part, its label"
 abbrev pub placeForm : Form RawLine
 placeForm = do
   quoted "(place "
   initial ← decimal
   quoted " "
   capacity ← decimal
-  quoted ")"
-  say (rawPlace initial capacity)
+  label ← labelForm
+  say (rawPlace initial capacity label)
 
 -- "Move: rate, delay, then arcs"
 abbrev pub moveForm : Form RawLine

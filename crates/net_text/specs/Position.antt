@@ -3,19 +3,22 @@
 use Prim.Native.Nat.{ℕ, _-_, _*_, _<_, _≤_}
 use mathlib.Core.Path.{_≡_}
 use mathlib.Core.Bool.{Bool, false, not}
-use mathlib.Core.List.{List, [], _∷_}
+use mathlib.Core.List.{List, [], _∷_, _++_}
 use mathlib.Core.Option.{none}
 use lib.Dec.{eqb}
 use lib.ListN.{length, getD, take, drop, set}
 use lib.Ieee.{Float, binary64, ofBits}
 use Rattle.refusals.specs as Refusal
-use Rattle.net.specs.Net.{Net}
+use Rattle.net.specs.Net.{Place}
 use Rattle.net.specs.Tests.{Test, firstOf, placeTests}
-use Rattle.net.specs.Readable.{readable, slots, slotsFault, meaning, placesFault, movesFault}
+use Rattle.net.specs.Labels.{labelTests, labelsFrom}
+use Rattle.net.specs.Record.{labelled}
+use Rattle.net.specs.Readable.{readable, labels, slots, slotsFault, meaning, placesFault, movesFault}
 use Rattle.net.specs.Readable as Readable
 use Rattle.net.specs.declared.Net.{Net as NetRecord}
 use Rattle.net.specs.declared.Verdict.{Verdict}
 use Rattle.text.specs.Text.{Bytes, newline}
+use Rattle.text.specs.Buffer.{placed}
 use Rattle.net_text.specs.Reading.{RunLine, Due, opening, inside, closing, nothing, Outcome, fault, goOn, lineRead, Answer, refused, given, readFrom, atEnd}
 use Rattle.net_text.specs.Lines.{lines}
 use Rattle.net_text.specs.Forms.{lineOf}
@@ -49,6 +52,8 @@ pub record LineEnd (t : Bytes) (at r : ℕ) : Type 0 where
 pub record Tables : Type 0 where
   pub initial : List ℕ
   pub capacity : List ℕ
+  pub label : List ℕ
+  pub lengths : List ℕ
   pub rate : List Float
   pub delay : List Float
   pub arcs : List ℕ
@@ -56,31 +61,33 @@ pub record Tables : Type 0 where
   pub place : List ℕ
   pub weight : List ℕ
 
-abbrev pub tables : List ℕ → List ℕ → List Float → List Float → List ℕ → List ℕ → List ℕ → List ℕ → Tables
-tables initial capacity rate delay arcs kind place weight =
-    record { initial = initial; capacity = capacity; rate = rate; delay = delay; arcs = arcs; kind = kind; place = place; weight = weight }
+abbrev pub tables : List ℕ → List ℕ → List ℕ → List ℕ → List Float → List Float → List ℕ → List ℕ → List ℕ → List ℕ → Tables
+tables initial capacity label lengths rate delay arcs kind place weight =
+    record {
+      initial = initial;
+      capacity = capacity;
+      label = label;
+      lengths = lengths;
+      rate = rate;
+      delay = delay;
+      arcs = arcs;
+      kind = kind;
+      place = place;
+      weight = weight;
+    }
 
 -- the net record with so many places and transitions
 abbrev pub netAt : ℕ → ℕ → Tables → NetRecord
 netAt places transitions t =
-    record {
-      places = places;
-      transitions = transitions;
-      initial = t .initial;
-      capacity = t .capacity;
-      rate = t .rate;
-      delay = t .delay;
-      arcs = t .arcs;
-      kind = t .kind;
-      place = t .place;
-      weight = t .weight;
-    }
+    labelled places transitions (t .initial) (t .capacity) (t .label) (t .lengths) (t .rate) (t .delay) (t .arcs) (t .kind) (t .place) (t .weight)
 
--- what holds of the record between two lines: the arrays' lengths, the bounds of "Domain", and that the tests 2 to 7 of a net given as data find
--- no fault in the places and the transitions so far
+-- what holds of the record between two lines: the arrays' lengths, the bounds of "Domain", and that the tests of a net given as data find no fault
+-- in the places, their labels and the transitions so far
 pub record Room (n : NetRecord) : Type 0 where
   pub initials : length (n .initial) ≡ 32
   pub capacities : length (n .capacity) ≡ 32
+  pub bytes : length (n .label) ≡ 512
+  pub sizes : length (n .lengths) ≡ 32
   pub rates : length (n .rate) ≡ 64
   pub delays : length (n .delay) ≡ 64
   pub counts : length (n .arcs) ≡ 64
@@ -90,7 +97,7 @@ pub record Room (n : NetRecord) : Type 0 where
   pub few-places : n .places ≤ 32
   pub few-transitions : n .transitions ≤ 64
   pub few-arcs : (j : ℕ) → j < n .transitions → getD (n .arcs) j 0 ≤ 16
-  pub fit-places : placesFault 0 (readable n .places) ≡ none
+  pub fit-places : placesFault (n .initial) (n .capacity) (n .label) (n .lengths) 0 (n .places) ≡ none
   pub fit-transitions : movesFault n 0 (n .transitions) ≡ none
 
 -- ---- positions
@@ -101,17 +108,17 @@ runOf r = record { samples = r .samples; realizations = r .realizations; seed = 
 abbrev pub noRun : RunRecord
 noRun = record { samples = 0; realizations = 0; seed = 0; horizon = 0 }
 
-abbrev pub dueAt : Stage → Net → RunLine → Due
+abbrev pub dueAt : Stage → NetRecord → RunLine → Due
 dueAt Opening n r = opening
-dueAt Inside n r = inside n
-dueAt Closing n r = closing n r
-dueAt Nothing n r = nothing n r
+dueAt Inside n r = inside (readable n) (labels n)
+dueAt Closing n r = closing (readable n) (labels n) r
+dueAt Nothing n r = nothing (readable n) (labels n) r
 
 abbrev pub dueOf : Position → Tables → Due
-dueOf p t = dueAt (p .stage) (readable (netAt (p .places) (p .transitions) t)) (runOf (p .run))
+dueOf p t = dueAt (p .stage) (netAt (p .places) (p .transitions) t) (runOf (p .run))
 
 abbrev pub insideOf : ℕ → ℕ → Tables → Due
-insideOf places transitions t = inside (readable (netAt places transitions t))
+insideOf places transitions t = inside (readable (netAt places transitions t)) (labels (netAt places transitions t))
 
 -- before `(net` there is no place and no transition; behind the run line the net is accepted as data
 abbrev pub stageHolds : Stage → NetRecord → Type 0
@@ -146,11 +153,24 @@ pub record LineTaken (due : Due) (n : NetRecord) (line : Bytes) (t : Tables) (r 
   pub holds : standing r t
   pub fills : holding r t (withLine n (lineOf line))
 
--- a place line of the right form, by the values that 64 bits hold
-pub record PlaceTaken (places transitions : ℕ) (strange : Bool) (i c : ℕ) (initial₀ capacity₀ initial capacity : List ℕ) (r : Verdict) : Type 0 where
-  pub fault : meaning r ≡ firstOf ((Refusal.wrongForm, not (eqb transitions 0)) ∷ placeTests places strange (record { initial = i; capacity = c }))
+-- the label of place p
+pub record LabelTaken (p : ℕ) (l : Bytes) (label₀ lengths₀ label lengths : List ℕ) (r : Verdict) : Type 0 where
+  pub fault : meaning r ≡ firstOf (labelTests (labelsFrom label₀ lengths₀ 0 p) l)
+  pub stored-label : meaning r ≡ none → label ≡ placed label₀ (16 * p) l
+  pub stored-lengths : meaning r ≡ none → lengths ≡ set lengths₀ p (length l)
+
+-- a place line of the right form, by the values that 64 bits hold: 1 behind a move, then 2 and 4, then 17 and 18 behind the labels so far
+abbrev pub placeLineTests : ℕ → ℕ → Bool → Place → List Bytes → Bytes → List Test
+placeLineTests places transitions strange q earlier l =
+    (Refusal.wrongForm, not (eqb transitions 0)) ∷ (placeTests places strange q ++ labelTests earlier l)
+
+pub record PlaceTaken (places transitions : ℕ) (strange : Bool) (i c : ℕ) (l : Bytes) (initial₀ capacity₀ label₀ lengths₀ : List ℕ)
+    (initial capacity label lengths : List ℕ) (r : Verdict) : Type 0 where
+  pub fault : meaning r ≡ firstOf (placeLineTests places transitions strange (record { initial = i; capacity = c }) (labelsFrom label₀ lengths₀ 0 places) l)
   pub stored-initial : meaning r ≡ none → initial ≡ set initial₀ places i
   pub stored-capacity : meaning r ≡ none → capacity ≡ set capacity₀ places c
+  pub stored-label : meaning r ≡ none → label ≡ placed label₀ (16 * places) l
+  pub stored-lengths : meaning r ≡ none → lengths ≡ set lengths₀ places (length l)
 
 -- a move line of the right form, its arcs in the slots
 pub record MoveTaken (places transitions : ℕ) (strange : Bool) (rateBits delayBits count : ℕ) (kind place weight : List ℕ)
@@ -166,12 +186,12 @@ runTests places strange = (Refusal.badSize, eqb places 0) ∷ (Refusal.outsideDo
 
 -- ---- what the reading ends with
 
-abbrev pub answer : Judged → Net → RunLine → Answer
-answer Given n r = given n r
+abbrev pub answer : Judged → NetRecord → RunLine → Answer
+answer Given n r = given (readable n) (labels n) r
 answer (Refused c l) n r = refused c l
 
 abbrev pub endOf : Ended → Tables → Answer
-endOf r t = answer (r .judged) (readable (netAt (r .places) (r .transitions) t)) (runOf (r .run))
+endOf r t = answer (r .judged) (netAt (r .places) (r .transitions) t) (runOf (r .run))
 
 -- a net that is given is accepted as data
 abbrev pub acceptedBy : Judged → NetRecord → Type 0

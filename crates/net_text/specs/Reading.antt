@@ -1,5 +1,5 @@
--- Reading a net text: the net and the run line, or a refusal's number and its line. Document 01, "Each operation's turn-downs: Net text"
--- and "Net text (added, house format)".
+-- Reading a net text: the net, the labels of its places and the run line, or a refusal's number and its line. Document 01, "Each operation's
+-- turn-downs: Net text" and "Net text (added, house format)", and document 02, order 1. Labels stand beside the net.
 use Prim.Native.Nat.{ℕ, zero, suc, _^_}
 use mathlib.Core.Bool.{Bool, true, false, _||_, not}
 use mathlib.Core.List.{List, [], _∷_, _++_}
@@ -13,6 +13,7 @@ use Rattle.text.specs.Text.{Bytes, bytes, same}
 use Rattle.net_text.specs.Lines.{Lines, lines, tooLong}
 use Rattle.net_text.specs.Forms.{Decimal, RawArc, rawTake, rawPut, rawRead, rawBlock, RawLine, rawPlace, rawMove, rawRun, lineOf}
 use Rattle.net.specs.Tests.{Test, firstOf, any, empty, placeTests, moveTests}
+use Rattle.net.specs.Labels.{labelTests}
 
 -- the run line: numbers below 2 ^ 64, the horizon by its bits. "tested by the ensemble, not the reader"
 pub record RunLine : Type 0 where
@@ -21,10 +22,10 @@ pub record RunLine : Type 0 where
   pub seed : ℕ
   pub horizon : ℕ
 
--- "A refusal gives number and line (from 1), no net"
+-- "A refusal gives number and line (from 1), no net". A net is given with the labels of its places, in their order.
 pub data Answer : Type 0 where
   refused : ℕ → ℕ → Answer
-  given : Net → RunLine → Answer
+  given : Net → List Bytes → RunLine → Answer
 
 -- ---- what a line says
 
@@ -64,13 +65,13 @@ transition rate delay (a ∷ rest) = withArc a (transition rate delay rest)
 
 -- ---- the order of the lines
 
--- What is due next: `(net`; a place, a move or the run line, behind the net so far; `)`; nothing more. Another line, well formed or not,
--- is 1. That places come before moves is seen from the net so far.
+-- What is due next: `(net`; a place, a move or the run line, behind the net and the labels so far; `)`; nothing more. Another line, well formed
+-- or not, is 1. That places come before moves is seen from the net so far.
 pub data Due : Type 0 where
   opening : Due
-  inside : Net → Due
-  closing : Net → RunLine → Due
-  nothing : Net → RunLine → Due
+  inside : Net → List Bytes → Due
+  closing : Net → List Bytes → RunLine → Due
+  nothing : Net → List Bytes → RunLine → Due
 
 -- what a line does: it is refused by a number, or the reading goes on
 pub data Outcome : Type 0 where
@@ -81,46 +82,48 @@ abbrev pub unless : Option ℕ → Due → Outcome
 unless none d = goOn d
 unless (some c) d = fault c
 
-abbrev pub afterPlace : Net → Place → Due
-afterPlace n q = inside (record { places = n .places ++ (q ∷ []); transitions = n .transitions })
+abbrev pub afterPlace : Net → List Bytes → Place → Bytes → Due
+afterPlace n ls q l = inside (record { places = n .places ++ (q ∷ []); transitions = n .transitions }) (ls ++ (l ∷ []))
 
-abbrev pub afterMove : Net → Transition → Due
-afterMove n t = inside (record { places = n .places; transitions = n .transitions ++ (t ∷ []) })
+abbrev pub afterMove : Net → List Bytes → Transition → Due
+afterMove n ls t = inside (record { places = n .places; transitions = n .transitions ++ (t ∷ []) }) ls
 
 -- a line between `(net` and `)`: "each line by the whole list", 1 first
-abbrev pub insideLine : Net → Option RawLine → Outcome
-insideLine n none = fault Refusal.wrongForm
-insideLine n (some (rawPlace i c)) =
+abbrev pub insideLine : Net → List Bytes → Option RawLine → Outcome
+insideLine n ls none = fault Refusal.wrongForm
+insideLine n ls (some (rawPlace i c l)) =
     let q : Place = record { initial = i .value; capacity = c .value } in
     -- a place after a move is 1
     let late : Test = (Refusal.wrongForm, not (empty (n .transitions))) in
-    unless (firstOf (late ∷ placeTests (length (n .places)) (badly i || badly c) q)) (afterPlace n q)
-insideLine n (some (rawMove rate delay arcs)) =
+    -- "17 label absent or malformed …, 18 label already used; both follow 4 on the place's line"
+    let tests : List Test = late ∷ (placeTests (length (n .places)) (badly i || badly c) q ++ labelTests ls l) in
+    unless (firstOf tests) (afterPlace n ls q l)
+insideLine n ls (some (rawMove rate delay arcs)) =
     let t = transition rate delay arcs in
-    unless (firstOf (moveTests (length (n .places)) (length (n .transitions)) (any badArc arcs) t)) (afterMove n t)
-insideLine n (some (rawRun s r seed horizon)) =
+    unless (firstOf (moveTests (length (n .places)) (length (n .transitions)) (any badArc arcs) t)) (afterMove n ls t)
+insideLine n ls (some (rawRun s r seed horizon)) =
     let asked : RunLine = record { samples = s .value; realizations = r .value; seed = seed .value; horizon = horizon } in
     -- "no place before the first move or run line"
     let tests : List Test = (Refusal.badSize, empty (n .places)) ∷ (Refusal.outsideDomain, badly s || badly r || badly seed) ∷ [] in
-    unless (firstOf tests) (closing n asked)
+    unless (firstOf tests) (closing n ls asked)
 
 abbrev pub noNet : Net
 noNet = record { places = []; transitions = [] }
 
 abbrev pub lineRead : Due → Bytes → Outcome
-lineRead opening l = pick (same l (bytes "(net")) (goOn (inside noNet)) (fault Refusal.wrongForm)
-lineRead (inside n) l = insideLine n (lineOf l)
-lineRead (closing n r) l = pick (same l (bytes ")")) (goOn (nothing n r)) (fault Refusal.wrongForm)
-lineRead (nothing n r) l = fault Refusal.wrongForm
+lineRead opening l = pick (same l (bytes "(net")) (goOn (inside noNet [])) (fault Refusal.wrongForm)
+lineRead (inside n ls) l = insideLine n ls (lineOf l)
+lineRead (closing n ls r) l = pick (same l (bytes ")")) (goOn (nothing n ls r)) (fault Refusal.wrongForm)
+lineRead (nothing n ls r) l = fault Refusal.wrongForm
 
 -- ---- the text
 
 -- the ended lines are used up: "A missing line is 1 at the line after the last". So is a line that no newline ends, whatever it holds.
 abbrev pub atEnd : ℕ → Due → Bytes → Answer
 atEnd number opening rest = refused Refusal.wrongForm number
-atEnd number (inside n) rest = refused Refusal.wrongForm number
-atEnd number (closing n r) rest = refused Refusal.wrongForm number
-atEnd number (nothing n r) rest = pick (empty rest) (given n r) (refused Refusal.wrongForm number)
+atEnd number (inside n ls) rest = refused Refusal.wrongForm number
+atEnd number (closing n ls r) rest = refused Refusal.wrongForm number
+atEnd number (nothing n ls r) rest = pick (empty rest) (given n ls r) (refused Refusal.wrongForm number)
 
 -- the first faulty line decides; else the lines behind it do
 abbrev pub onward : ℕ → Outcome → (Due → Answer) → Answer

@@ -1,18 +1,19 @@
 -- What the answers of the lines' forms stand for. The rules are in Forms; nothing here adds to them.
-use Prim.Native.Nat.{ℕ, _<_, _≤_}
+use Prim.Native.Nat.{ℕ, _-_, _<_, _≤_}
 use mathlib.Core.Path.{_≡_}
 use mathlib.Core.Bool.{true, false, _||_}
 use mathlib.Core.List.{List, map}
-use lib.ListN.{length, getD, drop}
+use lib.ListN.{length, getD, take, drop}
 use Rattle.net.specs.Tests.{any}
 use Rattle.net.specs.Readable.{slots}
 use Rattle.text.specs.Text.{Bytes}
-use Rattle.net_text.specs.Forms.{behind, Decimal, RawArc, rawPlace, rawMove, rawRun, exactly, decimal, hexadecimal, placeForm, moveForm, runForm}
+use Rattle.net_text.specs.Forms.{behind, Decimal, RawArc, rawPlace, rawMove, rawRun, exactly, decimal, hexadecimal, labelForm, placeForm, moveForm, runForm}
 use Rattle.net_text.specs.Reading.{badly, badArc}
 use Rattle.net_text.specs.Filled.{kindSlots, placeSlots, weightSlots}
 use Rattle.net_text.specs.Scanned.{through, found, held, seen, numberIs, patternIs, slotOf}
 use Rattle.net_text.specs.declared.scan.Number.{Number}
 use Rattle.net_text.specs.declared.scan.Pattern.{Pattern}
+use Rattle.net_text.specs.declared.form.LabelSeen.{LabelSeen}
 use Rattle.net_text.specs.declared.form.PlaceSeen.{PlaceSeen}
 use Rattle.net_text.specs.declared.form.RunSeen.{RunSeen}
 use Rattle.net_text.specs.declared.form.MoveSeen.{MoveSeen}
@@ -27,18 +28,34 @@ pub record PatternAfter (w line : Bytes) (at : ℕ) (r : Pattern) : Type 0 where
   pub is : behind (exactly w (drop at line)) (λ u. hexadecimal) ≡ patternIs line r
   pub inside : r .next ≤ length line
 
--- a place line: its decimals as 64 bits hold them, and whether one is badly written
+-- the bytes of a line from one place of it up to another
+abbrev pub part : Bytes → ℕ → ℕ → Bytes
+part line from end = take (end - from) (drop from line)
+
+-- the label behind the capacity, which ends at a place of the line: where its bytes begin and end
+pub record LabelRead (line : Bytes) (at : ℕ) (r : LabelSeen) : Type 0 where
+  pub is : labelForm (drop at line) ≡ found line (r .ok) (part line (r .from) (r .end)) (r .next)
+  pub begins : r .from ≤ r .end
+  pub ends : r .end ≤ length line
+  pub inside : r .next ≤ length line
+
+abbrev pub noLabel : LabelSeen
+noLabel = record { ok = false; from = 0; end = 0; next = 0 }
+
+-- a place line: its decimals as 64 bits hold them, whether one is badly written, and where its label's bytes begin and end
 pub record PlaceRead (line : Bytes) (r : PlaceSeen) : Type 0 where
   pub initial : Decimal
   pub capacity : Decimal
-  pub is : placeForm line ≡ found line (r .ok) (rawPlace initial capacity) (r .next)
+  pub is : placeForm line ≡ found line (r .ok) (rawPlace initial capacity (part line (r .from) (r .end))) (r .next)
+  pub begins : r .from ≤ r .end
+  pub ends : r .end ≤ length line
   pub held-initial : r .initial ≡ held (initial .value)
   pub held-capacity : r .capacity ≡ held (capacity .value)
   pub strange : r .strange ≡ (badly initial || badly capacity)
   pub inside : r .next ≤ length line
 
 abbrev pub noPlace : PlaceSeen
-noPlace = record { ok = false; initial = 0; capacity = 0; strange = false; next = 0 }
+noPlace = record { ok = false; initial = 0; capacity = 0; strange = false; from = 0; end = 0; next = 0 }
 
 -- a run line
 pub record RunRead (line : Bytes) (r : RunSeen) : Type 0 where

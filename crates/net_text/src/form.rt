@@ -7,12 +7,22 @@ ghost use Rattle.net_text.specs.Scanned as Scanned;
 ghost use Rattle.net_text.specs.Seen as Seen;
 use super::scan;
 
+// The label of a place line: its bytes stand from `from` up to `end`.
+pub struct LabelSeen {
+    pub ok: bool,
+    pub from: usize,
+    pub end: usize,
+    pub next: usize,
+}
+
 // A place line.
 pub struct PlaceSeen {
     pub ok: bool,
     pub initial: u64,
     pub capacity: u64,
     pub strange: bool,
+    pub from: usize,
+    pub end: usize,
     pub next: usize,
 }
 
@@ -68,6 +78,49 @@ fn pattern_after(line: &[u8], at: usize, w: &[u8]) -> scan::Pattern
     scan::hexadecimal(line, at + w.len())
 }
 
+fn no_label() -> LabelSeen
+    ensures { λ r. ⌜ r ≡ Seen.noLabel ⌝ }
+{
+    LabelSeen {
+        ok: false,
+        from: 0,
+        end: 0,
+        next: 0,
+    }
+}
+
+// The label behind the capacity: all between a space and the `)` that ends the line, or no byte where `)` stands instead of the space.
+fn label_form(line: &[u8], at: usize) -> LabelSeen
+    requires { ⌜ at ≤ length (now line) ⌝ }
+    ensures { λ r. ⌜ Seen.LabelRead (now (line .entry)) at r ⌝ }
+{
+    if scan::word(line, at, b" ") {
+        let from = at + 1;
+        if from == line.len() {
+            return no_label();
+        }
+        let end = line.len() - 1;
+        if line[end] != 41 {
+            return no_label();
+        }
+        return LabelSeen {
+            ok: true,
+            from: from,
+            end: end,
+            next: line.len(),
+        };
+    }
+    if scan::word(line, at, b")") {
+        return LabelSeen {
+            ok: true,
+            from: at,
+            end: at,
+            next: at + 1,
+        };
+    }
+    no_label()
+}
+
 fn no_place() -> PlaceSeen
     ensures { λ r. ⌜ r ≡ Seen.noPlace ⌝ }
 {
@@ -76,6 +129,8 @@ fn no_place() -> PlaceSeen
         initial: 0,
         capacity: 0,
         strange: false,
+        from: 0,
+        end: 0,
         next: 0,
     }
 }
@@ -93,7 +148,8 @@ pub fn place_form(line: &[u8]) -> PlaceSeen
         return no_place();
     }
     let e = c.next;
-    if !scan::word(line, e, b")") {
+    let l = label_form(line, e);
+    if !l.ok {
         return no_place();
     }
     PlaceSeen {
@@ -101,7 +157,9 @@ pub fn place_form(line: &[u8]) -> PlaceSeen
         initial: i.value,
         capacity: c.value,
         strange: i.strange | c.strange,
-        next: e + 1,
+        from: l.from,
+        end: l.end,
+        next: l.next,
     }
 }
 

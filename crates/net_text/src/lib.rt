@@ -50,6 +50,8 @@ pub fn read_net(text: &[u8]) -> NetText
     }
     let mut initial = [0u64; 32];
     let mut capacity = [0u64; 32];
+    let mut label = [0u8; 512];
+    let mut lengths = [0usize; 32];
     let mut rate = [0.0f64; 64];
     let mut delay = [0.0f64; 64];
     let mut arcs = [0usize; 64];
@@ -60,6 +62,8 @@ pub fn read_net(text: &[u8]) -> NetText
         text,
         &mut initial,
         &mut capacity,
+        &mut label,
+        &mut lengths,
         &mut rate,
         &mut delay,
         &mut arcs,
@@ -79,6 +83,8 @@ pub fn read_net(text: &[u8]) -> NetText
                     transitions: end.transitions,
                     initial: initial,
                     capacity: capacity,
+                    label: label,
+                    lengths: lengths,
                     rate: rate,
                     delay: delay,
                     arcs: arcs,

@@ -90,8 +90,22 @@ fn no_run() -> RunLine
     }
 }
 
-// A place line of the right form: refused by 1 behind a move, else by 2 or 4, or stored.
+// The label of place p, below 32: refused by 17 or 18, or stored. One over 16 bytes would not fit its slots.
+fn take_label(l: &[u8], p: usize, label: &mut [u8; 512], lengths: &mut [usize; 32]) -> net::Verdict
+    requires { ⌜ (p < 32) × (length (now label) ≡ 512) × (length (now lengths) ≡ 32) ⌝ }
+    ensures { λ r. ⌜ Spec.LabelTaken p (now (l .entry)) (now (label .entry)) (now (lengths .entry)) (now (label .exit)) (now (lengths .exit)) r ⌝ }
+{
+    if 16 < l.len() {
+        return net::Verdict::Refused(refusals::BAD_LABEL);
+    }
+    text::put_bytes(label, 16 * p, l);
+    lengths[p] = l.len();
+    net::label_fault(label, lengths, p)
+}
+
+// A place line of the right form: refused by 1 behind a move, else by 2 or 4, then by its label, or stored.
 fn take_place(
+    l: &[u8],
     places: usize,
     transitions: usize,
     strange: bool,
@@ -99,22 +113,25 @@ fn take_place(
     c: u64,
     initial: &mut [u64; 32],
     capacity: &mut [u64; 32],
+    label: &mut [u8; 512],
+    lengths: &mut [usize; 32],
 ) -> net::Verdict
-    requires { ⌜ (length (now initial) ≡ 32) × (length (now capacity) ≡ 32) ⌝ }
-    ensures { λ r. ⌜ Spec.PlaceTaken places transitions strange i c (now (initial .entry)) (now (capacity .entry)) (now (initial .exit)) (now (capacity .exit)) r ⌝ }
+    requires { ⌜ (length (now initial) ≡ 32) × (length (now capacity) ≡ 32) × (length (now label) ≡ 512) × (length (now lengths) ≡ 32) ⌝ }
+    ensures { λ r. ⌜ Spec.PlaceTaken places transitions strange i c (now (l .entry)) (now (initial .entry)) (now (capacity .entry)) (now (label .entry))
+        (now (lengths .entry)) (now (initial .exit)) (now (capacity .exit)) (now (label .exit)) (now (lengths .exit)) r ⌝ }
 {
     if 0 < transitions {
         return net::Verdict::Refused(refusals::WRONG_FORM);
     }
-    let v = net::place_fault(places, strange, i, c);
-    match v {
-        net::Verdict::Refused(n) => net::Verdict::Refused(n),
-        net::Verdict::Accepted => {
-            initial[places] = i;
-            capacity[places] = c;
-            net::Verdict::Accepted
-        }
+    if let net::Verdict::Refused(n) = net::place_fault(places, strange, i, c) {
+        return net::Verdict::Refused(n);
     }
+    if let net::Verdict::Refused(n) = take_label(l, places, label, lengths) {
+        return net::Verdict::Refused(n);
+    }
+    initial[places] = i;
+    capacity[places] = c;
+    net::Verdict::Accepted
 }
 
 // A move line of the right form, its arcs in the slots already: refused by 2 to 7, or stored.
@@ -190,6 +207,8 @@ fn inside_line(
     transitions: usize,
     initial: &mut [u64; 32],
     capacity: &mut [u64; 32],
+    label: &mut [u8; 512],
+    lengths: &mut [usize; 32],
     rate: &mut [f64; 64],
     delay: &mut [f64; 64],
     arcs: &mut [usize; 64],
@@ -198,17 +217,20 @@ fn inside_line(
     weight: &mut [u64; 1024],
 ) -> Taken
     ghost { Spec.Tables }
-    requires { λ before. ⌜ Spec.tables (now initial) (now capacity) (now rate) (now delay) (now arcs) (now kind) (now place) (now weight) ≡ before ⌝ }
+    requires { λ before. ⌜ Spec.tables (now initial) (now capacity) (now label) (now lengths) (now rate) (now delay) (now arcs) (now kind) (now place) (now weight) ≡ before ⌝ }
     requires { λ before. ⌜ Spec.Room (Spec.netAt places transitions before) ⌝ }
     ensures { λ before r. ⌜ Spec.LineTaken (Spec.insideOf places transitions before) (Spec.netAt places transitions before) (now (line .entry))
-        (Spec.tables (now (initial .exit)) (now (capacity .exit)) (now (rate .exit)) (now (delay .exit)) (now (arcs .exit)) (now (kind .exit)) (now (place .exit)) (now (weight .exit))) r ⌝ }
+        (Spec.tables (now (initial .exit)) (now (capacity .exit)) (now (label .exit)) (now (lengths .exit)) (now (rate .exit)) (now (delay .exit)) (now (arcs .exit)) (now (kind .exit)) (now (place .exit)) (now (weight .exit))) r ⌝ }
 {
     let p = form::place_form(line);
     if p.ok {
         if p.next < line.len() {
             return Taken::Fault(refusals::WRONG_FORM);
         }
+        let from = p.from;
+        let end = p.end;
         let v = take_place(
+            &line[from..end],
             places,
             transitions,
             p.strange,
@@ -216,6 +238,8 @@ fn inside_line(
             p.capacity,
             initial,
             capacity,
+            label,
+            lengths,
         );
         return match v {
             net::Verdict::Refused(n) => Taken::Fault(n),
@@ -287,6 +311,8 @@ fn one_line(
     p: Position,
     initial: &mut [u64; 32],
     capacity: &mut [u64; 32],
+    label: &mut [u8; 512],
+    lengths: &mut [usize; 32],
     rate: &mut [f64; 64],
     delay: &mut [f64; 64],
     arcs: &mut [usize; 64],
@@ -295,10 +321,10 @@ fn one_line(
     weight: &mut [u64; 1024],
 ) -> Taken
     ghost { Spec.Tables }
-    requires { λ before. ⌜ Spec.tables (now initial) (now capacity) (now rate) (now delay) (now arcs) (now kind) (now place) (now weight) ≡ before ⌝ }
+    requires { λ before. ⌜ Spec.tables (now initial) (now capacity) (now label) (now lengths) (now rate) (now delay) (now arcs) (now kind) (now place) (now weight) ≡ before ⌝ }
     requires { λ before. ⌜ Spec.Standing p before ⌝ }
     ensures { λ before r. ⌜ Spec.LineTaken (Spec.dueOf p before) (Spec.netAt (p .places) (p .transitions) before) (now (line .entry))
-        (Spec.tables (now (initial .exit)) (now (capacity .exit)) (now (rate .exit)) (now (delay .exit)) (now (arcs .exit)) (now (kind .exit)) (now (place .exit)) (now (weight .exit))) r ⌝ }
+        (Spec.tables (now (initial .exit)) (now (capacity .exit)) (now (label .exit)) (now (lengths .exit)) (now (rate .exit)) (now (delay .exit)) (now (arcs .exit)) (now (kind .exit)) (now (place .exit)) (now (weight .exit))) r ⌝ }
 {
     let stage = p.stage;
     match stage {
@@ -319,6 +345,8 @@ fn one_line(
             p.transitions,
             initial,
             capacity,
+            label,
+            lengths,
             rate,
             delay,
             arcs,
@@ -379,6 +407,8 @@ pub fn read_lines(
     text: &[u8],
     initial: &mut [u64; 32],
     capacity: &mut [u64; 32],
+    label: &mut [u8; 512],
+    lengths: &mut [usize; 32],
     rate: &mut [f64; 64],
     delay: &mut [f64; 64],
     arcs: &mut [usize; 64],
@@ -386,8 +416,8 @@ pub fn read_lines(
     place: &mut [usize; 1024],
     weight: &mut [u64; 1024],
 ) -> Ended
-    requires { ⌜ Spec.netAt 0 0 (Spec.tables (now initial) (now capacity) (now rate) (now delay) (now arcs) (now kind) (now place) (now weight)) ≡ blank ⌝ }
-    ensures { λ r. ⌜ Spec.LinesRead (now (text .entry)) (Spec.tables (now (initial .exit)) (now (capacity .exit)) (now (rate .exit)) (now (delay .exit)) (now (arcs .exit)) (now (kind .exit)) (now (place .exit)) (now (weight .exit))) r ⌝ }
+    requires { ⌜ Spec.netAt 0 0 (Spec.tables (now initial) (now capacity) (now label) (now lengths) (now rate) (now delay) (now arcs) (now kind) (now place) (now weight)) ≡ blank ⌝ }
+    ensures { λ r. ⌜ Spec.LinesRead (now (text .entry)) (Spec.tables (now (initial .exit)) (now (capacity .exit)) (now (label .exit)) (now (lengths .exit)) (now (rate .exit)) (now (delay .exit)) (now (arcs .exit)) (now (kind .exit)) (now (place .exit)) (now (weight .exit))) r ⌝ }
 {
     let mut p = Position {
         stage: Stage::Opening,
@@ -407,6 +437,8 @@ pub fn read_lines(
             p,
             initial,
             capacity,
+            label,
+            lengths,
             rate,
             delay,
             arcs,

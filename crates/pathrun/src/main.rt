@@ -15,7 +15,7 @@ fn text_room() -> [u8; 8193]
 
 // Room for every output.
 fn output_room() -> [u8; pathrun_text::LONGEST]
-    ensures { λ r. ⌜ 71496 ≡ length r ⌝ }
+    ensures { λ r. ⌜ 71240 ≡ length r ⌝ }
 {
     [0; pathrun_text::LONGEST]
 }

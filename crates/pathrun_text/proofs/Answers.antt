@@ -5,7 +5,7 @@ use mathlib.Core.Bool.{Bool, cond}
 use mathlib.Core.Option.{none}
 use lib.ListN.{length}
 use borrow.Author.Tests.{le-leb, lt-leb}
-use Rattle.net.specs.Readable.{readable, fault}
+use Rattle.net.specs.Readable.{readable, labels, fault}
 use Rattle.text.specs.Text.{Bytes}
 use Rattle.text.specs.Buffer.{placed}
 use Rattle.net_text.specs.Answered.{NetRead}
@@ -25,14 +25,14 @@ module _ (out w : Bytes) where
   too-short h = ap (λ (b : Bool). cond b (placed out 0 w, length w) (out, 0)) (sym (lt-leb _ _ h))
 
 module _ (text : Bytes) (r : NetText) (is : NetRead text r) where
-  prints : (j : Judged) → r .judged ≡ j → answered (answer j (readable (r .net)) (runOf (r .run))) ≡ output text
+  prints : (j : Judged) → r .judged ≡ j → answered (answer j (r .net) (runOf (r .run))) ≡ output text
   unfolding output
-  prints j e = ap (λ (k : Judged). answered (answer k (readable (r .net)) (runOf (r .run)))) (sym e) ∙ ap answered (is .is)
+  prints j e = ap (λ (k : Judged). answered (answer k (r .net) (runOf (r .run)))) (sym e) ∙ ap answered (is .is)
 
   pub on-refused : (c line : ℕ) → r .judged ≡ Refused c line → refusedLine c line ≡ output text
   on-refused c line e = prints (Refused c line) e
 
-  pub on-given : r .judged ≡ Given → ran (readable (r .net)) (request (runOf (r .run))) ≡ output text
+  pub on-given : r .judged ≡ Given → ran (readable (r .net)) (labels (r .net)) (request (runOf (r .run))) ≡ output text
   on-given e = prints Given e
 
   pub given-accepted : r .judged ≡ Given → fault (r .net) ≡ none

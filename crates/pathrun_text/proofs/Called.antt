@@ -13,7 +13,7 @@ use borrow.Author.Tests.{leb-true}
 use Rattle.refusals.specs as Refusal
 use Rattle.net.specs.Net.{pick, zero64}
 use Rattle.net.specs.Tests.{orElse, firstOf}
-use Rattle.net.specs.Readable.{readable, fault, placesFrom}
+use Rattle.net.specs.Readable.{readable, labels, fault, placesFrom}
 use Rattle.net.specs.declared.Net.{Net as NetRecord}
 use Rattle.net.proofs.Sound.{sound}
 use Rattle.text.specs.Text.{Bytes}
@@ -98,23 +98,23 @@ module _ (n : NetRecord) (asked : RunRecord) (answer : EnsembleAnswer) (mean dev
   q = request (runOf asked)
 
   prints : (a : EnsembleAnswer) → answer ≡ a
-      → shown (n .places) q (callOf a mean deviation path .outcome) (callOf a mean deviation path .tables) ≡ ran (readable n) q
+      → shown (n .places) (labels n) q (callOf a mean deviation path .outcome) (callOf a mean deviation path .tables) ≡ ran (readable n) (labels n) q
   prints a e =
-      ap (λ (b : EnsembleAnswer). shown (n .places) q (callOf b mean deviation path .outcome) (callOf b mean deviation path .tables)) (sym e)
-      ∙ ap (λ (call : Call). shown (n .places) q (call .outcome) (call .tables)) (is ∙ called-is n q accepted)
-      ∙ ap (λ (k : ℕ). shown k q (ensembleOf (readable n) q .outcome) (ensembleOf (readable n) q .tables)) (places-are n q accepted)
+      ap (λ (b : EnsembleAnswer). shown (n .places) (labels n) q (callOf b mean deviation path .outcome) (callOf b mean deviation path .tables)) (sym e)
+      ∙ ap (λ (call : Call). shown (n .places) (labels n) q (call .outcome) (call .tables)) (is ∙ called-is n q accepted)
+      ∙ ap (λ (k : ℕ). shown k (labels n) q (ensembleOf (readable n) q .outcome) (ensembleOf (readable n) q .tables)) (places-are n q accepted)
 
   -- what the cases leave in front of a buffer is what the definition prints
-  pub turned-down : (c : ℕ) → answer ≡ TurnedDown c → (out : Bytes) {s : Bytes × ℕ} → s ≡ inFront out (refusedLine c 0) → s ≡ inFront out (ran (readable n) q)
+  pub turned-down : (c : ℕ) → answer ≡ TurnedDown c → (out : Bytes) {s : Bytes × ℕ} → s ≡ inFront out (refusedLine c 0) → s ≡ inFront out (ran (readable n) (labels n) q)
   turned-down c e out h = h ∙ ap (inFront out) (prints (TurnedDown c) e)
 
-  pub stopped-run : (c k : ℕ) → answer ≡ Stopped c k → (out : Bytes) {s : Bytes × ℕ} → s ≡ inFront out (refusedLine c 0) → s ≡ inFront out (ran (readable n) q)
+  pub stopped-run : (c k : ℕ) → answer ≡ Stopped c k → (out : Bytes) {s : Bytes × ℕ} → s ≡ inFront out (refusedLine c 0) → s ≡ inFront out (ran (readable n) (labels n) q)
   stopped-run c k e out h = h ∙ ap (inFront out) (prints (Stopped c k) e)
 
   module _ (k : ℕ) (b : Bool) (e : answer ≡ Averaged k b) where
     pub averaged-run : (out : Bytes) {s : Bytes × ℕ}
-        → s ≡ inFront out (printed (n .places) (asked .samples) (asked .realizations) (rows (n .places) (asked .samples) mean) (rows (n .places) (asked .samples) deviation))
-        → s ≡ inFront out (ran (readable n) q)
+        → s ≡ inFront out (printed (n .places) (asked .samples) (asked .realizations) (labels n) (rows (n .places) (asked .samples) mean) (rows (n .places) (asked .samples) deviation))
+        → s ≡ inFront out (ran (readable n) (labels n) q)
     averaged-run out h = h ∙ ap (inFront out) (prints (Averaged k b) e)
 
     no-fault : callFault n q tables ≡ none

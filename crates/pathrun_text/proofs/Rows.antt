@@ -9,13 +9,14 @@ use lib.ListN.{length, take, drop, length-drop}
 use lib.Seq.{drop-drop, length-take-le}
 use lib.Ieee.{Float}
 use borrow.Author.Tests.{lt-ltb, le-ltb}
+use Rattle.net.specs.Labels.{labelAt, labelsFrom}
 use Rattle.text.specs.Text.{Bytes}
 use Rattle.text.specs.Buffer.{placed, written, andThen}
 use Rattle.text.specs.declared.Written.{Written}
 use Rattle.text.specs.declared.Written.the-variants.{Next}
 use Rattle.text.proofs.Places.{fitted, then-joined, front-fits}
 use Rattle.result_text.specs.Lines.{resultLine, meanLine, devLine, linesFrom, printed}
-use Rattle.result_text.proofs.Bound.{Rows, printed-bound}
+use Rattle.result_text.proofs.Bound.{Rows, Short, printed-bound}
 use Rattle.pathrun_text.specs.Pathrun.{rows, tableCells, longest}
 use Rattle.pathrun_text.specs.Printing.{inFront, before, lineOf, thenLines}
 
@@ -30,16 +31,17 @@ in-front out w {later} {end} {r} h e f =
     rw (fst, snd)
 
 -- lines behind bytes
-pub joined : (deviates : Bool) (out : Bytes) (i : ℕ) (v : Bytes) (p : ℕ) (rs : List (List Float)) → i + length (v ++ linesFrom (lineOf deviates) p rs) ≤ length out
-    → thenLines deviates (written out i v) p rs ≡ written out i (v ++ linesFrom (lineOf deviates) p rs)
-joined deviates out i v p [] h = ap (written out i) (sym (append-nil v))
-joined deviates out i v p (r ∷ rs) h =
-    let line : Bytes = lineOf deviates p r in
-    let later : Bytes = linesFrom (lineOf deviates) (suc p) rs in
+pub joined : (deviates : Bool) (out : Bytes) (i : ℕ) (v : Bytes) (labels : List Bytes) (rs : List (List Float)) → i + length (v ++ linesFrom (lineOf deviates) labels rs) ≤ length out
+    → thenLines deviates (written out i v) labels rs ≡ written out i (v ++ linesFrom (lineOf deviates) labels rs)
+joined deviates out i v [] rs h = ap (written out i) (sym (append-nil v))
+joined deviates out i v (label ∷ labels) [] h = ap (written out i) (sym (append-nil v))
+joined deviates out i v (label ∷ labels) (r ∷ rs) h =
+    let line : Bytes = lineOf deviates label r in
+    let later : Bytes = linesFrom (lineOf deviates) labels rs in
     let same : v ++ (line ++ later) ≡ v ++ line ++ later = sym (append-assoc v line later) in
     let all : i + length (v ++ line ++ later) ≤ length out = rw same at h in
     let one : andThen (written out i v) line ≡ written out i (v ++ line) = then-joined out i v line (front-fits i (v ++ line) later all) in
-    ap (λ (s : Bytes × Written). thenLines deviates s (suc p) rs) one ∙ joined deviates out i (v ++ line) (suc p) rs all ∙ ap (written out i) (sym same)
+    ap (λ (s : Bytes × Written). thenLines deviates s labels rs) one ∙ joined deviates out i (v ++ line) labels rs all ∙ ap (written out i) (sym same)
 
 -- ---- rows
 
@@ -62,68 +64,72 @@ left-turn places p n h =
     ap (λ (k : ℕ). k * n) d ∙ suc-mul (places - (p + 1)) n
 
 -- what is left to write is the row of place p and then what is left behind it
-pub lines-turn : (deviates : Bool) (s : Bytes × Written) (places p n from : ℕ) (table : List Float) → p < places
-    → thenLines deviates s p (rows (places - p) n (drop from table))
-    ≡ thenLines deviates (andThen s (lineOf deviates p (take n (drop from table)))) (p + 1) (rows (places - (p + 1)) n (drop (from + n) table))
-lines-turn deviates s places p n from table h =
-    let d : places - p ≡ suc (places - (p + 1)) = omega arith in
-    let e : suc p ≡ p + 1 = omega arith in
-    ap (λ (k : ℕ). thenLines deviates s p (rows k n (drop from table))) d
-    ∙ ap (λ (q : ℕ). thenLines deviates (andThen s (lineOf deviates p (take n (drop from table)))) q (rows (places - (p + 1)) n (drop n (drop from table)))) e
-    ∙ ap (λ (l : List Float). thenLines deviates (andThen s (lineOf deviates p (take n (drop from table)))) (p + 1) (rows (places - (p + 1)) n l)) (drop-drop n from table)
+module _ (label lengths : List ℕ) where
+  pub lines-turn : (deviates : Bool) (s : Bytes × Written) (places p n from : ℕ) (table : List Float) → p < places
+      → thenLines deviates s (labelsFrom label lengths p (places - p)) (rows (places - p) n (drop from table))
+      ≡ thenLines deviates (andThen s (lineOf deviates (labelAt label lengths p) (take n (drop from table)))) (labelsFrom label lengths (p + 1) (places - (p + 1)))
+      (rows (places - (p + 1)) n (drop (from + n) table))
+  lines-turn deviates s places p n from table h =
+      let d : places - p ≡ suc (places - (p + 1)) = omega arith in
+      let e : suc p ≡ p + 1 = omega arith in
+      let k : ℕ = places - (p + 1) in
+      let t : Bytes × Written = andThen s (lineOf deviates (labelAt label lengths p) (take n (drop from table))) in
+      ap (λ (m : ℕ). thenLines deviates s (labelsFrom label lengths p m) (rows m n (drop from table))) d
+      ∙ ap (λ (q : ℕ). thenLines deviates t (labelsFrom label lengths q k) (rows k n (drop n (drop from table)))) e
+      ∙ ap (λ (l : List Float). thenLines deviates t (labelsFrom label lengths (p + 1) k) (rows k n l)) (drop-drop n from table)
 
 -- ---- the whole output
 
-module _ (out : Bytes) (places samples realizations : ℕ) (mean deviation : List Float) (room : longest ≤ length out) (few : places ≤ 32) (narrow : samples ≤ 1024)
+module _ (out : Bytes) (places samples realizations : ℕ) (labels : List Bytes) (short : Short labels) (mean deviation : List Float) (room : longest ≤ length out) (few : places ≤ 32) (narrow : samples ≤ 1024)
     (cells : places * samples ≤ tableCells) (means : length mean ≡ tableCells) (deviations : length deviation ≡ tableCells) (word : realizations < 2 ^ 64) where
   abbrev all : Bytes
-  all = printed places samples realizations (rows places samples mean) (rows places samples deviation)
+  all = printed places samples realizations labels (rows places samples mean) (rows places samples deviation)
 
   all-fits : length all ≤ length out
   all-fits =
-      let bound : length all ≤ 71496 =
-      printed-bound places samples realizations (rows places samples mean) (rows places samples deviation) few narrow cells word (rows-count places samples mean)
+      let bound : length all ≤ 71240 =
+      printed-bound places samples realizations labels (rows places samples mean) (rows places samples deviation) few narrow cells word short (rows-count places samples mean)
       (rows-even places samples mean (omega arith))
       (rows-count places samples deviation)
       (rows-even places samples deviation (omega arith)) in
       omega arith
 
   pub with-deviations : {s t : Bytes × Written} {later : Bytes} {end : Written} {r : ℕ} → 1 < realizations → s ≡ written out 0 (resultLine places samples realizations)
-      → t ≡ thenLines false s 0 (rows places samples mean)
-      → (later, end) ≡ thenLines true t 0 (rows places samples deviation)
+      → t ≡ thenLines false s labels (rows places samples mean)
+      → (later, end) ≡ thenLines true t labels (rows places samples deviation)
       → r ≡ before end
-      → (later, r) ≡ inFront out (printed places samples realizations (rows places samples mean) (rows places samples deviation))
+      → (later, r) ≡ inFront out (printed places samples realizations labels (rows places samples mean) (rows places samples deviation))
   with-deviations h es et eu er =
       let head : Bytes = resultLine places samples realizations in
-      let ms : Bytes = linesFrom meanLine 0 (rows places samples mean) in
-      let ds : Bytes = linesFrom devLine 0 (rows places samples deviation) in
+      let ms : Bytes = linesFrom meanLine labels (rows places samples mean) in
+      let ds : Bytes = linesFrom devLine labels (rows places samples deviation) in
       let same : all ≡ head ++ ms ++ ds = ap (λ (b : Bool). head ++ ms ++ cond b ds []) (lt-ltb 1 realizations h) in
       let fits : 0 + length (head ++ ms ++ ds) ≤ length out = omega (arith, all-fits, ap length same) in
-      let first : thenLines false (written out 0 head) 0 (rows places samples mean) ≡ written out 0 (head ++ ms) =
-      joined false out 0 head 0 (rows places samples mean) (front-fits 0 (head ++ ms) ds fits) in
-      let second : thenLines true (written out 0 (head ++ ms)) 0 (rows places samples deviation) ≡ written out 0 (head ++ ms ++ ds) =
-      joined true out 0 (head ++ ms) 0 (rows places samples deviation) fits in
+      let first : thenLines false (written out 0 head) labels (rows places samples mean) ≡ written out 0 (head ++ ms) =
+      joined false out 0 head labels (rows places samples mean) (front-fits 0 (head ++ ms) ds fits) in
+      let second : thenLines true (written out 0 (head ++ ms)) labels (rows places samples deviation) ≡ written out 0 (head ++ ms ++ ds) =
+      joined true out 0 (head ++ ms) labels (rows places samples deviation) fits in
       in-front out all all-fits
       (eu
-      ∙ ap (λ (s : Bytes × Written). thenLines true s 0 (rows places samples deviation))
-      (et ∙ ap (λ (s : Bytes × Written). thenLines false s 0 (rows places samples mean)) es ∙ first)
+      ∙ ap (λ (s : Bytes × Written). thenLines true s labels (rows places samples deviation))
+      (et ∙ ap (λ (s : Bytes × Written). thenLines false s labels (rows places samples mean)) es ∙ first)
       ∙ second
       ∙ ap (written out 0) (sym same))
       er
 
   pub without-deviations : {s : Bytes × Written} {later : Bytes} {end : Written} {r : ℕ} → realizations ≤ 1 → s ≡ written out 0 (resultLine places samples realizations)
-      → (later, end) ≡ thenLines false s 0 (rows places samples mean)
+      → (later, end) ≡ thenLines false s labels (rows places samples mean)
       → r ≡ before end
-      → (later, r) ≡ inFront out (printed places samples realizations (rows places samples mean) (rows places samples deviation))
+      → (later, r) ≡ inFront out (printed places samples realizations labels (rows places samples mean) (rows places samples deviation))
   without-deviations h es et er =
       let head : Bytes = resultLine places samples realizations in
-      let ms : Bytes = linesFrom meanLine 0 (rows places samples mean) in
-      let ds : Bytes = linesFrom devLine 0 (rows places samples deviation) in
+      let ms : Bytes = linesFrom meanLine labels (rows places samples mean) in
+      let ds : Bytes = linesFrom devLine labels (rows places samples deviation) in
       let same : all ≡ head ++ ms = ap (λ (b : Bool). head ++ ms ++ cond b ds []) (le-ltb 1 realizations h) ∙ append-nil (head ++ ms) in
       let fits : 0 + length (head ++ ms) ≤ length out = omega (arith, all-fits, ap length same) in
       in-front out all all-fits
       (et
-      ∙ ap (λ (s : Bytes × Written). thenLines false s 0 (rows places samples mean)) es
-      ∙ joined false out 0 head 0 (rows places samples mean) fits
+      ∙ ap (λ (s : Bytes × Written). thenLines false s labels (rows places samples mean)) es
+      ∙ joined false out 0 head labels (rows places samples mean) fits
       ∙ ap (written out 0) (sym same))
       er

@@ -34,7 +34,7 @@ tables = record { mean = table; deviation = table; path = table }
 abbrev pub request : RunLine → Request
 request r = record { samples = r .samples; realizations = r .realizations; seed = r .seed; horizon = ofBits binary64 (r .horizon) }
 
--- 8, 9, 10, 11: the run line is "tested by the ensemble, not the reader". The reader has tested the net by 2 to 7.
+-- 8, 9, 10, 11: the run line is "tested by the ensemble, not the reader". The reader has tested the net.
 abbrev pub runFault : Net → Request → Option ℕ
 runFault n q = orElse (requestFault q) (tablesFault (length (n .places) * q .samples) tableCells tableCells tableCells)
 
@@ -50,19 +50,19 @@ abbrev pub rows : ℕ → ℕ → List Float → List (List Float)
 rows zero n cells = []
 rows (suc k) n cells = take n cells ∷ rows k n (drop n cells)
 
--- the result's lines; "A refusal prints `(refused NUMBER LINE)`, line 0 for run refusals"
-abbrev pub shown : ℕ → Request → Outcome → Tables → Bytes
-shown places q (averaged spent deviates) t =
-    printed places (q .samples) (q .realizations) (rows places (q .samples) (t .mean)) (rows places (q .samples) (t .deviation))
-shown places q (turnedDown c) t = refusedLine c 0
-shown places q (stopped c k) t = refusedLine c 0
+-- the result's lines, for so many places with these labels; "A refusal prints `(refused NUMBER LINE)`, line 0 for run refusals"
+abbrev pub shown : ℕ → List Bytes → Request → Outcome → Tables → Bytes
+shown places labels q (averaged spent deviates) t =
+    printed places (q .samples) (q .realizations) labels (rows places (q .samples) (t .mean)) (rows places (q .samples) (t .deviation))
+shown places labels q (turnedDown c) t = refusedLine c 0
+shown places labels q (stopped c k) t = refusedLine c 0
 
-abbrev pub ran : Net → Request → Bytes
-ran n q = shown (length (n .places)) q (ensembleOf n q .outcome) (ensembleOf n q .tables)
+abbrev pub ran : Net → List Bytes → Request → Bytes
+ran n labels q = shown (length (n .places)) labels q (ensembleOf n q .outcome) (ensembleOf n q .tables)
 
 abbrev pub answered : Answer → Bytes
 answered (refused c line) = refusedLine c line
-answered (given n r) = ran n (request r)
+answered (given n labels r) = ran n labels (request r)
 
 -- from bytes to bytes
 unfoldable pub output : Bytes → Bytes
@@ -70,9 +70,9 @@ output text = answered (read text)
 
 -- ---- where it is left
 
--- no output is longer: 32 places, 2,048 cells in a table
+-- no output is longer: 32 places with labels of 16 bytes, 2,048 cells in a table
 abbrev pub longest : ℕ
-longest = 71_496
+longest = 71_240
 
 -- A lent buffer and the answer once w is printed into it: w stands at its front and further bytes stay, and the answer is the length of w. A buffer
 -- that could be too short for some output is left as it is, and the answer is 0.

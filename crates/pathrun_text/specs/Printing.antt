@@ -1,5 +1,5 @@
 -- What the private functions leave in the buffer. The rules are in Pathrun; nothing here adds to them.
-use Prim.Native.Nat.{ℕ, suc}
+use Prim.Native.Nat.{ℕ}
 use mathlib.Core.Bool.{Bool, true, false}
 use mathlib.Core.List.{List, [], _∷_}
 use lib.ListN.{length}
@@ -20,11 +20,12 @@ before (Next i) = i
 before Short = 0
 
 -- the line of a row of means, or of deviations
-abbrev pub lineOf : Bool → ℕ → List Float → Bytes
+abbrev pub lineOf : Bool → Bytes → List Float → Bytes
 lineOf false = meanLine
 lineOf true = devLine
 
--- the lines of rows, one behind the other, from place p on
-abbrev pub thenLines : Bool → Bytes × Written → ℕ → List (List Float) → Bytes × Written
-thenLines deviates s p [] = s
-thenLines deviates s p (row ∷ rest) = thenLines deviates (andThen s (lineOf deviates p row)) (suc p) rest
+-- the lines of rows behind their labels, one behind the other
+abbrev pub thenLines : Bool → Bytes × Written → List Bytes → List (List Float) → Bytes × Written
+thenLines deviates s [] rows = s
+thenLines deviates s (label ∷ labels) [] = s
+thenLines deviates s (label ∷ labels) (row ∷ rows) = thenLines deviates (andThen s (lineOf deviates label row)) labels rows

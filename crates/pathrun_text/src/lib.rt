@@ -4,7 +4,7 @@ ghost use mathlib.Core.Option.{none};
 ghost use Prim.Native.Nat.{_≤_};
 ghost use lib.ListN.{length};
 ghost use lib.Ieee.{binary64, ofBits};
-ghost use Rattle.net.specs.Readable.{readable, fault};
+ghost use Rattle.net.specs.Readable.{readable, labels, fault};
 ghost use Rattle.net_text.specs.Position.{runOf};
 ghost use Rattle.pathrun_text.specs.Pathrun as Pathrun;
 ghost use Rattle.pathrun_text.specs.Printing.{inFront};
@@ -16,7 +16,7 @@ use ssa::EnsembleAnswer;
 mod lines;
 
 // A buffer of so many bytes holds every output.
-pub const LONGEST: usize = 71496;
+pub const LONGEST: usize = 71240;
 
 // A table of the ensemble's call.
 fn table() -> [f64; 2048]
@@ -38,12 +38,14 @@ fn float_of(bits: u64) -> f64
 // Plays the ensemble that a text asks for, and prints its answer.
 fn run(net: Net, asked: RunLine, out: &mut [u8]) -> usize
     requires { ⌜ (Pathrun.longest ≤ length (now out)) × (fault net ≡ none) ⌝ }
-    ensures { λ r. ⌜ (now (out .exit), r) ≡ inFront (now (out .entry)) (Pathrun.ran (readable net) (Pathrun.request (runOf asked))) ⌝ }
+    ensures { λ r. ⌜ (now (out .exit), r) ≡ inFront (now (out .entry)) (Pathrun.ran (readable net) (labels net) (Pathrun.request (runOf asked))) ⌝ }
 {
     let mut mean = table();
     let mut deviation = table();
     let mut path = table();
     let places = net.places;
+    let label = net.label;
+    let lengths = net.lengths;
     let samples = asked.samples;
     let realizations = asked.realizations;
     let horizon = float_of(asked.horizon);
@@ -66,6 +68,8 @@ fn run(net: Net, asked: RunLine, out: &mut [u8]) -> usize
                 places,
                 samples as usize,
                 realizations,
+                &label,
+                &lengths,
                 &mean,
                 &deviation,
             )

@@ -2,6 +2,7 @@
 ghost use mathlib.Core.Path.{_≡_};
 ghost use Prim.Native.Nat.{_*_, _≤_};
 ghost use lib.ListN.{length};
+ghost use Rattle.net.specs.Labels.{labelAt, labelsFrom};
 ghost use Rattle.text.specs.Buffer.{andThen, written};
 ghost use Rattle.result_text.specs.Lines.{refusedLine, printed};
 ghost use Rattle.pathrun_text.specs.Pathrun.{rows, longest, tableCells};
@@ -26,35 +27,55 @@ pub fn refused(out: &mut [u8], number: u64, line: u64) -> usize
     before(end)
 }
 
-fn line_at(out: &mut [u8], at: usize, deviates: bool, place: u64, row: &[f64]) -> Written
-    ensures { λ r. ⌜ (now (out .exit), r) ≡ written (now (out .entry)) at (Printing.lineOf deviates place (now (row .entry))) ⌝ }
+// The label of a place of the net with these labels. Where there is none it has no byte.
+fn label_of<'a>(label: &'a [u8; 512], lengths: &'a [usize; 32], place: usize) -> &'a [u8]
+    ensures { λ r. ⌜ now r ≡ labelAt (now (label .entry)) (now (lengths .entry)) place ⌝ }
 {
-    if deviates {
-        return result_text::dev_line(out, at, place, row);
+    let bytes: &[u8] = label;
+    let sizes: &[usize] = lengths;
+    if sizes.len() <= place {
+        return &bytes[0..0];
     }
-    result_text::mean_line(out, at, place, row)
+    let n = sizes[place];
+    if 16 < n {
+        return &bytes[0..0];
+    }
+    let from = 16 * place;
+    let end = from + n;
+    &bytes[from..end]
 }
 
-fn then_line(out: &mut [u8], last: Written, deviates: bool, place: u64, row: &[f64]) -> Written
-    ensures { λ r. ⌜ (now (out .exit), r) ≡ andThen (now (out .entry), last) (Printing.lineOf deviates place (now (row .entry))) ⌝ }
+fn line_at(out: &mut [u8], at: usize, deviates: bool, label: &[u8], row: &[f64]) -> Written
+    ensures { λ r. ⌜ (now (out .exit), r) ≡ written (now (out .entry)) at (Printing.lineOf deviates (now (label .entry)) (now (row .entry))) ⌝ }
+{
+    if deviates {
+        return result_text::dev_line(out, at, label, row);
+    }
+    result_text::mean_line(out, at, label, row)
+}
+
+fn then_line(out: &mut [u8], last: Written, deviates: bool, label: &[u8], row: &[f64]) -> Written
+    ensures { λ r. ⌜ (now (out .exit), r) ≡ andThen (now (out .entry), last) (Printing.lineOf deviates (now (label .entry)) (now (row .entry))) ⌝ }
 {
     match last {
-        Written::Next(at) => line_at(out, at, deviates, place, row),
+        Written::Next(at) => line_at(out, at, deviates, label, row),
         Written::Short => Written::Short,
     }
 }
 
 // The lines of a table's rows.
-fn then_lines(
+fn then_lines<'a>(
     out: &mut [u8],
     first: Written,
     deviates: bool,
     places: usize,
     samples: usize,
+    label: &'a [u8; 512],
+    lengths: &'a [usize; 32],
     table: &[f64],
 ) -> Written
     requires { ⌜ places * samples ≤ length (now table) ⌝ }
-    ensures { λ r. ⌜ (now (out .exit), r) ≡ Printing.thenLines deviates (now (out .entry), first) 0 (rows places samples (now (table .entry))) ⌝ }
+    ensures { λ r. ⌜ (now (out .exit), r) ≡ Printing.thenLines deviates (now (out .entry), first) (labelsFrom (now (label .entry)) (now (lengths .entry)) 0 places) (rows places samples (now (table .entry))) ⌝ }
 {
     let mut last = first;
     let mut p = 0;
@@ -62,7 +83,8 @@ fn then_lines(
     while p < places {
         let end = from + samples;
         let q = p + 1;
-        last = then_line(out, last, deviates, p as u64, &table[from..end]);
+        let named = label_of(label, lengths, p);
+        last = then_line(out, last, deviates, named, &table[from..end]);
         from = end;
         p = q;
     }
@@ -70,21 +92,23 @@ fn then_lines(
 }
 
 // The lines of a result in front.
-pub fn result(
+pub fn result<'a>(
     out: &mut [u8],
     places: usize,
     samples: usize,
     realizations: u64,
+    label: &'a [u8; 512],
+    lengths: &'a [usize; 32],
     mean: &[f64],
     deviation: &[f64],
 ) -> usize
     requires { ⌜ (longest ≤ length (now out)) × (places ≤ 32) × (samples ≤ 1024) × (places * samples ≤ tableCells) × (length (now mean) ≡ tableCells) × (length (now deviation) ≡ tableCells) ⌝ }
-    ensures { λ r. ⌜ (now (out .exit), r) ≡ Printing.inFront (now (out .entry)) (printed places samples realizations (rows places samples (now (mean .entry))) (rows places samples (now (deviation .entry)))) ⌝ }
+    ensures { λ r. ⌜ (now (out .exit), r) ≡ Printing.inFront (now (out .entry)) (printed places samples realizations (labelsFrom (now (label .entry)) (now (lengths .entry)) 0 places) (rows places samples (now (mean .entry))) (rows places samples (now (deviation .entry)))) ⌝ }
 {
     let head = result_text::result_line(out, 0, places as u64, samples as u64, realizations);
-    let means = then_lines(out, head, false, places, samples, mean);
+    let means = then_lines(out, head, false, places, samples, label, lengths, mean);
     if 1 < realizations {
-        let end = then_lines(out, means, true, places, samples, deviation);
+        let end = then_lines(out, means, true, places, samples, label, lengths, deviation);
         return before(end);
     }
     before(means)

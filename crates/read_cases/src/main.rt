@@ -1,5 +1,5 @@
 // Reads a batch of net texts from standard input, each behind its length in five digits and a newline, and writes one line for each: the refusal's
-// number and line, or the numbers of the net and the run line that it gives. tests/net_text.py makes batches and knows the answers.
+// number and line, or the numbers and labels of the net and the run line that it gives. tests/net_text.py makes batches and knows the answers.
 ghost use mathlib.Core.Path.{_≡_};
 ghost use Prim.Native.Nat.{_<_, _≤_};
 ghost use lib.ListN.{length};
@@ -31,11 +31,31 @@ fn float(x: f64) {
     }
 }
 
-fn places(n: usize, initial: [u64; 32], capacity: [u64; 32]) {
+// The label of place p, n bytes of those that are its own.
+fn name(label: &[u8; 512], p: usize, n: usize)
+    requires { ⌜ p < 32 ⌝ }
+{
+    let bytes: &[u8] = label;
+    word(b" ");
+    if n <= 16 {
+        let from = 16 * p;
+        let end = from + n;
+        word(&bytes[from..end]);
+    }
+}
+
+fn places(
+    n: usize,
+    initial: [u64; 32],
+    capacity: [u64; 32],
+    label: [u8; 512],
+    lengths: [usize; 32],
+) {
     for p in 0..32usize {
         if p < n {
             number(initial[p]);
             number(capacity[p]);
+            name(&label, p, lengths[p]);
         }
     }
 }
@@ -82,7 +102,9 @@ fn given(net: Net, run: RunLine) {
     number(net.transitions as u64);
     let initial = net.initial;
     let capacity = net.capacity;
-    places(net.places, initial, capacity);
+    let label = net.label;
+    let lengths = net.lengths;
+    places(net.places, initial, capacity, label, lengths);
     transitions(net);
     number(run.samples);
     number(run.realizations);

@@ -1,4 +1,4 @@
--- The numbers by which an operation turns its input down. Document 01, "Each operation's turn-downs".
+-- The numbers by which an operation turns its input down. Document 01, "Each operation's turn-downs"; from 17 on document 02.
 use Prim.Native.Nat.{ℕ}
 
 -- net text: a line of the wrong form, a line that is missing, or text after the last
@@ -58,3 +58,11 @@ tooManyTimers = 15
 -- one normal draw rejects 128 pairs
 abbrev pub noNormal : ℕ
 noNormal = 16
+
+-- a place's label that is absent or malformed
+abbrev pub badLabel : ℕ
+badLabel = 17
+
+-- a label that an earlier place has already
+abbrev pub usedLabel : ℕ
+usedLabel = 18

@@ -31,3 +31,7 @@ pub const COUNT_TOO_LARGE: u64 = 14;
 pub const TOO_MANY_TIMERS: u64 = 15;
 
 pub const NO_NORMAL: u64 = 16;
+
+pub const BAD_LABEL: u64 = 17;
+
+pub const USED_LABEL: u64 = 18;

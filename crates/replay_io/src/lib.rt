@@ -1,6 +1,7 @@
 // What the programs that replay recorded cases share: reading numbers and nets, writing numbers and cells. Standard input is a row of numbers, each 16
-// hexadecimal digits and a newline. A net is its places and transitions; for each place its initial count and capacity; for each transition its rate and
-// delay, by their bits, its number of arcs, and the kind, place and weight of each. No more is read than a net has room for.
+// hexadecimal digits and a newline. A net is its places and transitions; for each place its initial count and capacity, its label's length, and the
+// label's sixteen bytes as two numbers, the first byte highest; for each transition its rate and delay, by their bits, its number of arcs, and the kind,
+// place and weight of each. No more is read than a net has room for.
 ghost use mathlib.Core.Path.{_≡_};
 ghost use Prim.Native.Nat.{_+_, _*_, _≤_};
 ghost use lib.Dec.{ltb};
@@ -72,11 +73,32 @@ pub fn float(b: u64) -> f64
     f64::from_bits(b)
 }
 
-fn read_places(n: usize, initial: &mut [u64; 32], capacity: &mut [u64; 32]) {
+// The eight bytes of a number from byte `from` on, the highest first.
+fn put_bytes(n: u64, from: usize, label: &mut [u8; 512])
+    requires { ⌜ from ≤ 504 ⌝ }
+{
+    let mut rest = n;
+    for i in 0..8usize {
+        label[from + (7 - i)] = (rest % 256) as u8;
+        rest = rest / 256;
+    }
+}
+
+fn read_places(
+    n: usize,
+    initial: &mut [u64; 32],
+    capacity: &mut [u64; 32],
+    label: &mut [u8; 512],
+    lengths: &mut [usize; 32],
+) {
     for p in 0..32usize {
         if p < n {
             initial[p] = number();
             capacity[p] = number();
+            lengths[p] = size();
+            let from = 16 * p;
+            put_bytes(number(), from, label);
+            put_bytes(number(), from + 8, label);
         }
     }
 }
@@ -126,13 +148,21 @@ pub fn read_net(places: usize) -> Net {
     let transitions = size();
     let mut initial = [0u64; 32];
     let mut capacity = [0u64; 32];
+    let mut label = [0u8; 512];
+    let mut lengths = [0usize; 32];
     let mut rate = [0.0f64; 64];
     let mut delay = [0.0f64; 64];
     let mut arcs = [0usize; 64];
     let mut kind = [0u64; 1024];
     let mut place = [0usize; 1024];
     let mut weight = [0u64; 1024];
-    read_places(places, &mut initial, &mut capacity);
+    read_places(
+        places,
+        &mut initial,
+        &mut capacity,
+        &mut label,
+        &mut lengths,
+    );
     read_transitions(
         transitions,
         &mut rate,
@@ -147,6 +177,8 @@ pub fn read_net(places: usize) -> Net {
         transitions: transitions,
         initial: initial,
         capacity: capacity,
+        label: label,
+        lengths: lengths,
         rate: rate,
         delay: delay,
         arcs: arcs,

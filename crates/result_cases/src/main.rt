@@ -1,4 +1,5 @@
-// Writes document 01's sample result, then refusals, deviations and numbers at the edges, and what a buffer that is too short is left with.
+// Writes document 01's sample result with the labels q0 and q1, then refusals, deviations, labels and numbers at the edges, and what a buffer
+// that is too short is left with.
 use libc::STDOUT_FILENO;
 use text::Written;
 
@@ -32,15 +33,15 @@ fn refused(number: u64, line: u64) {
     show(&out, w);
 }
 
-fn mean(place: u64, row: &[f64]) {
+fn mean(label: &[u8], row: &[f64]) {
     let mut out = [b'.'; 96];
-    let w = result_text::mean_line(&mut out, 0, place, row);
+    let w = result_text::mean_line(&mut out, 0, label, row);
     show(&out, w);
 }
 
-fn dev(place: u64, row: &[f64]) {
+fn dev(label: &[u8], row: &[f64]) {
     let mut out = [b'.'; 96];
-    let w = result_text::dev_line(&mut out, 0, place, row);
+    let w = result_text::dev_line(&mut out, 0, label, row);
     show(&out, w);
 }
 
@@ -51,29 +52,29 @@ fn refused_at(at: usize) {
     show(&out, w);
 }
 
-// A line of 26 bytes in a buffer of 26, and of 25.
+// A line of 41 bytes in a buffer of 41, and of 40: its label has 16.
 fn mean_full(row: &[f64]) {
-    let mut out = [b'.'; 26];
-    let w = result_text::mean_line(&mut out, 0, 7, row);
+    let mut out = [b'.'; 41];
+    let w = result_text::mean_line(&mut out, 0, b"waiting-sessions", row);
     show(&out, w);
 }
 
 fn mean_short(row: &[f64]) {
-    let mut out = [b'.'; 25];
-    let w = result_text::mean_line(&mut out, 0, 7, row);
+    let mut out = [b'.'; 40];
+    let w = result_text::mean_line(&mut out, 0, b"waiting-sessions", row);
     show(&out, w);
 }
 
 fn main() {
     result(2, 3, 1);
-    mean(0, &[2.0, 0.0, 0.0]);
-    mean(1, &[0.0, 0.0, 2.0]);
+    mean(b"q0", &[2.0, 0.0, 0.0]);
+    mean(b"q1", &[0.0, 0.0, 2.0]);
     refused(1, 6);
     refused(0, 9);
     refused(10, 18446744073709551615);
     result(9, 99, 100);
-    dev(31, &[0.5, -0.0, 1.0 / 0.0, 0.0 / 0.0]);
-    dev(0, &[5e-324, -1.7976931348623157e308]);
+    dev(b"7", &[0.5, -0.0, 1.0 / 0.0, 0.0 / 0.0]);
+    dev(b"-", &[5e-324, -1.7976931348623157e308]);
     refused_at(0);
     refused_at(2);
     refused_at(3);

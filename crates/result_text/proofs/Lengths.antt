@@ -8,7 +8,7 @@ use lib.Ieee.{Float}
 use Rattle.text.specs.Text.{Bytes, bytes}
 use Rattle.text.specs.Numbers.{decimalText, floatText}
 use Rattle.text.proofs.Digits.{float-length}
-use Rattle.result_text.specs.Lines.{placeText, resultLine, refusedLine, cells, rowLine}
+use Rattle.result_text.specs.Lines.{resultLine, refusedLine, cells, rowLine}
 
 -- `(result `, two spaces and the end are 12 bytes
 result-sum : (p s r : Bytes) → length (bytes "(result " ++ p ++ bytes " " ++ s ++ bytes " " ++ r ++ bytes ")\n") ≡ length p + length s + length r + 12
@@ -36,9 +36,8 @@ cells-length (x ∷ row) =
     let e : length (cells (x ∷ row)) ≡ 17 * (length row + 1) = cell-more (floatText x) (cells row) (length row) (float-length x) (cells-length row) in
     omega arith
 
-row-sum : (word name cs : Bytes) → length (word ++ name ++ cs ++ bytes ")\n") ≡ length word + length name + length cs + 2
-row-sum word name cs = simp (length-append) (omega arith)
+row-sum : (word label cs : Bytes) → length (word ++ label ++ cs ++ bytes ")\n") ≡ length word + length label + length cs + 2
+row-sum word label cs = simp (length-append) (omega arith)
 
-pub row-length : (word : Bytes) (place : ℕ) (row : List Float) {n : ℕ} → n ≡ length (placeText place)
-    → length word + n + 2 + 17 * length row ≡ length (rowLine word place row)
-row-length word place row e = omega (arith, row-sum word (placeText place) (cells row), cells-length row)
+pub row-length : (word label : Bytes) (row : List Float) → length word + length label + 2 + 17 * length row ≡ length (rowLine word label row)
+row-length word label row = omega (arith, row-sum word label (cells row), cells-length row)

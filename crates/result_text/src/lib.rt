@@ -4,22 +4,9 @@ ghost use Prim.Native.Nat.{_+_, _*_, _≤_};
 ghost use lib.Dec.{leb};
 ghost use lib.ListN.{length};
 ghost use Rattle.text.specs.Buffer.{written, andThen};
-ghost use Rattle.result_text.specs.Lines.{placeText, resultLine, refusedLine, cells, rowLine, meanLine, devLine};
+ghost use Rattle.result_text.specs.Lines.{resultLine, refusedLine, cells, rowLine, meanLine, devLine};
 ghost use Rattle.result_text.specs.Parts.{thenCell, thenCells};
 use text::Written;
-
-// What stands for a place: how long it is, and itself.
-fn place_length(place: u64) -> usize
-    ensures { λ r. ⌜ r ≡ length (placeText place) ⌝ }
-{
-    text::decimal_length(place)
-}
-
-fn then_place(out: &mut [u8], before: Written, place: u64) -> Written
-    ensures { λ r. ⌜ (now (out .exit), r) ≡ andThen (now (out .entry), before) (placeText place) ⌝ }
-{
-    text::then_decimal(out, before, place)
-}
 
 fn then_cell(out: &mut [u8], before: Written, x: f64) -> Written
     ensures { λ r. ⌜ (now (out .exit), r) ≡ thenCell (now (out .entry), before) x ⌝ }
@@ -57,31 +44,32 @@ fn row_fits(len: usize, at: usize, head: usize, count: usize) -> bool
     false
 }
 
-fn row_line(out: &mut [u8], at: usize, word: &[u8], place: u64, row: &[f64]) -> Written
-    ensures { λ r. ⌜ (now (out .exit), r) ≡ written (now (out .entry)) at (rowLine (now (word .entry)) place (now (row .entry))) ⌝ }
+fn row_line(out: &mut [u8], at: usize, word: &[u8], label: &[u8], row: &[f64]) -> Written
+    requires { ⌜ length (now word) ≤ 6 ⌝ }
+    ensures { λ r. ⌜ (now (out .exit), r) ≡ written (now (out .entry)) at (rowLine (now (word .entry)) (now (label .entry)) (now (row .entry))) ⌝ }
 {
-    let head = word.len() + place_length(place) + 2;
+    let head = word.len() + label.len() + 2;
     if row_fits(out.len(), at, head, row.len()) {
         let first = text::put_bytes(out, at, word);
-        let named = then_place(out, first, place);
+        let named = text::then_bytes(out, first, label);
         let filled = then_cells(out, named, row);
         return text::then_bytes(out, filled, b")\n");
     }
     Written::Short
 }
 
-// The means of a place.
-pub fn mean_line(out: &mut [u8], at: usize, place: u64, row: &[f64]) -> Written
-    ensures { λ r. ⌜ (now (out .exit), r) ≡ written (now (out .entry)) at (meanLine place (now (row .entry))) ⌝ }
+// The means of the place with this label.
+pub fn mean_line(out: &mut [u8], at: usize, label: &[u8], row: &[f64]) -> Written
+    ensures { λ r. ⌜ (now (out .exit), r) ≡ written (now (out .entry)) at (meanLine (now (label .entry)) (now (row .entry))) ⌝ }
 {
-    row_line(out, at, b"(mean ", place, row)
+    row_line(out, at, b"(mean ", label, row)
 }
 
-// The deviations of a place.
-pub fn dev_line(out: &mut [u8], at: usize, place: u64, row: &[f64]) -> Written
-    ensures { λ r. ⌜ (now (out .exit), r) ≡ written (now (out .entry)) at (devLine place (now (row .entry))) ⌝ }
+// The deviations of the place with this label.
+pub fn dev_line(out: &mut [u8], at: usize, label: &[u8], row: &[f64]) -> Written
+    ensures { λ r. ⌜ (now (out .exit), r) ≡ written (now (out .entry)) at (devLine (now (label .entry)) (now (row .entry))) ⌝ }
 {
-    row_line(out, at, b"(dev ", place, row)
+    row_line(out, at, b"(dev ", label, row)
 }
 
 // Places, samples, realizations.

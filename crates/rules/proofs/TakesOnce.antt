@@ -72,7 +72,7 @@ module _ (n : NetRecord) where
   pub takes-once : fault n ≡ none → takesOnce (readable n .transitions) ≡ true
   unfolding fault
   takes-once h =
-      let places : Option ℕ = placesFault 0 (readable n .places) in
+      let places : Option ℕ = placesFault (n .initial) (n .capacity) (n .label) (n .lengths) 0 (n .places) in
       let some-place : Option ℕ = firstOf ((Refusal.badSize, empty (readable n .places)) ∷ []) in
       let moves : Option ℕ = movesFault n 0 (n .transitions) in
       moves-once (n .transitions) 0 (neither-fault some-place moves (neither-fault places (orElse some-place moves) h .1) .1)

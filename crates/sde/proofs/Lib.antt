@@ -13,3 +13,4 @@ pub mod Walks
 pub mod Members
 pub mod Tested
 pub mod Rates
+pub mod Labels

@@ -4,3 +4,4 @@ pub mod Call
 pub mod Slots
 pub mod Arrays
 pub mod Summed
+pub mod Labels

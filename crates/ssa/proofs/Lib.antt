@@ -7,3 +7,4 @@ pub mod Demand3
 pub mod Steps
 pub mod Summing
 pub mod Requested
+pub mod Labels

@@ -7,3 +7,4 @@ pub mod Playing
 pub mod Demand3
 pub mod Ensemble
 pub mod Summing
+pub mod Labels

@@ -62,7 +62,7 @@ afterNet n g xs k table =
     (turnedDown Refusal.badLimit g table))
     (turnedDown Refusal.badInstants g table)
 
--- "tests it first by 2 to 7, in the text's order, touching nothing"
+-- "tests it first by 2 to 7, in the text's order, touching nothing", and its labels by 17 and 18 (document 02, order 1)
 abbrev pub unlessFault : Option ℕ → Generator → List Float → Call → Call
 unlessFault none g table call = call
 unlessFault (some c) g table call = turnedDown c g table

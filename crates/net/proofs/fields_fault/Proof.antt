@@ -2,8 +2,8 @@
 use mathlib.Core.Path.{_≡_, sym, ap, _∙_}
 use mathlib.Core.Option.{none}
 use Rattle.net.specs.declared.Net.{Net as NetRecord}
-use Rattle.net.specs.Readable.{placesFault, placesFrom, meaning}
-use Rattle.net.specs.Record.{lent}
+use Rattle.net.specs.Readable.{placesFault, meaning}
+use Rattle.net.specs.Record.{labelled}
 use Rattle.net.proofs.Faults.{by-place, by-none, by-moves}
 use borrow.Author.Needs.{needs}
 use Rattle.net.proofs.fields_fault.Statement.{statement}
@@ -11,10 +11,14 @@ use Rattle.net.proofs.fields_fault.Tie as tie
 
 -- the record whose fields are lent
 abbrev net : tie.Start → NetRecord
-net s = lent (s .args .places) (s .args .transitions) (s .args .initial .now) (s .args .capacity .now) (s .args .rate .now) (s .args .delay .now) (s .args .arcs .now) (s .args .kind .now) (s .args .place .now) (s .args .weight .now)
+net s =
+    labelled (s .args .places) (s .args .transitions) (s .args .initial .now) (s .args .capacity .now) (s .args .label .now) (s .args .lengths .now)
+    (s .args .rate .now) (s .args .delay .now) (s .args .arcs .now) (s .args .kind .now) (s .args .place .now) (s .args .weight .now)
 
 -- the places have no fault
-fine : (c : tie.After-enum-told) → placesFault 0 (placesFrom (c .before .before .before .args .initial .now) (c .before .before .before .args .capacity .now) 0 (c .before .before .before .args .places)) ≡ none
+fine : (c : tie.After-enum-told)
+    → let s = c .before .before .before .args in
+    placesFault (s .initial .now) (s .capacity .now) (s .label .now) (s .lengths .now) 0 (s .places) ≡ none
 fine c = sym (c .before .before .places-fault .ensures) ∙ ap meaning (c .enum-told .given .1)
 
 places-fault-requires : tie.Need-places-fault-requires

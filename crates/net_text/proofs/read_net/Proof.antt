@@ -26,15 +26,15 @@ enum-told c = search needs
 
 returns-2 : tie.Need-returns-2
 returns-2 c =
-    whole-refused (c .before .before .before .before .before .before .before .before .before .before .before .before .before .before .before .args .text .now) (c .before .before .before .before .read-lines .result)
-    (tables (c .before .before .before .before .read-lines .last .1 .0) (c .before .before .before .before .read-lines .last .1 .1 .0) (c .before .before .before .before .read-lines .last .1 .1 .1 .0) (c .before .before .before .before .read-lines .last .1 .1 .1 .1 .0) (c .before .before .before .before .read-lines .last .1 .1 .1 .1 .1 .0) (c .before .before .before .before .read-lines .last .1 .1 .1 .1 .1 .1 .0) (c .before .before .before .before .read-lines .last .1 .1 .1 .1 .1 .1 .1 .0) (c .before .before .before .before .read-lines .last .1 .1 .1 .1 .1 .1 .1 .1 .0))
-    (c .before .before .before .before .before .before .before .before .before .before .before .before .before .if1 .left) (c .before .before .before .before .read-lines .ensures) _ _ (c .refused2 .result) (c .before .before .judged .given .1) (c .refused2 .ensures)
+    whole-refused (c .before .before .before .before .before .before .before .before .before .before .before .before .before .before .before .before .before .args .text .now) (c .before .before .before .before .read-lines .result)
+    (tables (c .before .before .before .before .read-lines .last .1 .0) (c .before .before .before .before .read-lines .last .1 .1 .0) (c .before .before .before .before .read-lines .last .1 .1 .1 .0) (c .before .before .before .before .read-lines .last .1 .1 .1 .1 .0) (c .before .before .before .before .read-lines .last .1 .1 .1 .1 .1 .0) (c .before .before .before .before .read-lines .last .1 .1 .1 .1 .1 .1 .0) (c .before .before .before .before .read-lines .last .1 .1 .1 .1 .1 .1 .1 .0) (c .before .before .before .before .read-lines .last .1 .1 .1 .1 .1 .1 .1 .1 .0) (c .before .before .before .before .read-lines .last .1 .1 .1 .1 .1 .1 .1 .1 .1 .0) (c .before .before .before .before .read-lines .last .1 .1 .1 .1 .1 .1 .1 .1 .1 .1 .0))
+    (c .before .before .before .before .before .before .before .before .before .before .before .before .before .before .before .if1 .left) (c .before .before .before .before .read-lines .ensures) _ _ (c .refused2 .result) (c .before .before .judged .given .1) (c .refused2 .ensures)
 
 returns-3 : tie.Need-returns-3
 returns-3 c =
-    whole-given (c .before .before .before .before .before .before .before .before .before .before .before .before .before .before .args .text .now) (c .before .before .before .read-lines .result)
-    (tables (c .before .before .before .read-lines .last .1 .0) (c .before .before .before .read-lines .last .1 .1 .0) (c .before .before .before .read-lines .last .1 .1 .1 .0) (c .before .before .before .read-lines .last .1 .1 .1 .1 .0) (c .before .before .before .read-lines .last .1 .1 .1 .1 .1 .0) (c .before .before .before .read-lines .last .1 .1 .1 .1 .1 .1 .0) (c .before .before .before .read-lines .last .1 .1 .1 .1 .1 .1 .1 .0) (c .before .before .before .read-lines .last .1 .1 .1 .1 .1 .1 .1 .1 .0))
-    (c .before .before .before .before .before .before .before .before .before .before .before .before .if1 .left) (c .before .before .before .read-lines .ensures) (c .before .enum-told .given .1)
+    whole-given (c .before .before .before .before .before .before .before .before .before .before .before .before .before .before .before .before .args .text .now) (c .before .before .before .read-lines .result)
+    (tables (c .before .before .before .read-lines .last .1 .0) (c .before .before .before .read-lines .last .1 .1 .0) (c .before .before .before .read-lines .last .1 .1 .1 .0) (c .before .before .before .read-lines .last .1 .1 .1 .1 .0) (c .before .before .before .read-lines .last .1 .1 .1 .1 .1 .0) (c .before .before .before .read-lines .last .1 .1 .1 .1 .1 .1 .0) (c .before .before .before .read-lines .last .1 .1 .1 .1 .1 .1 .1 .0) (c .before .before .before .read-lines .last .1 .1 .1 .1 .1 .1 .1 .1 .0) (c .before .before .before .read-lines .last .1 .1 .1 .1 .1 .1 .1 .1 .1 .0) (c .before .before .before .read-lines .last .1 .1 .1 .1 .1 .1 .1 .1 .1 .1 .0))
+    (c .before .before .before .before .before .before .before .before .before .before .before .before .before .before .if1 .left) (c .before .before .before .read-lines .ensures) (c .before .enum-told .given .1)
 
 pub read-net-spec : {M : Type 1} → statement M
 read-net-spec =

@@ -12,7 +12,7 @@ use Rattle.pathrun_text.proofs.run.Tie as tie
 
 module _ (e : tie.After-ensemble) where
   abbrev start : tie.Start
-  start = e .before .before .before .before .before .before .before .before .before
+  start = e .before .before .before .before .before .before .before .before .before .before .before
 
   abbrev mean : List Float
   mean = e .ensemble .last .1 .1 .1 .1 .1 .0
@@ -26,7 +26,7 @@ module _ (e : tie.After-ensemble) where
   -- the call, as the definition has it
   call : callOf (e .ensemble .result) mean deviation path ≡ called (start .args .net) (request (runOf (start .args .asked))) tables
   call =
-      as-lent (start .args .net) (start .args .asked) (e .before .before .before .before .float-of .ensures) (e .before .before .before .before .before .before .before .table .ensures) (e .before .before .before .before .before .before .table2 .ensures) (e .before .before .before .before .before .table3 .ensures) (e .ensemble .ensures)
+      as-lent (start .args .net) (start .args .asked) (e .before .before .before .before .float-of .ensures) (e .before .before .before .before .before .before .before .before .before .table .ensures) (e .before .before .before .before .before .before .before .before .table2 .ensures) (e .before .before .before .before .before .before .before .table3 .ensures) (e .ensemble .ensures)
 
 table-requires : tie.Need-table-requires
 table-requires c κs = search needs
@@ -75,8 +75,8 @@ slice-aggregate-result-2 c = search needs
 
 result-requires : tie.Need-result-requires
 result-requires c κs =
-    let e = c .before .before .before .before .before .before .before .before in
-    let fits = bounds (start e .args .net) (start e .args .asked) (e .ensemble .result) (mean e) (deviation e) (path e) (start e .pre .1) (call e) _ _ (c .before .before .before .enum-told .given .1) in
+    let e = c .before .before .before .before .before .before .before .before .before .before in
+    let fits = bounds (start e .args .net) (start e .args .asked) (e .ensemble .result) (mean e) (deviation e) (path e) (start e .pre .1) (call e) _ _ (c .before .before .before .before .before .enum-told .given .1) in
     (search needs, fits .0, fits .1, fits .2, search needs, search needs)
 
 same-length : tie.Need-same-length
@@ -100,8 +100,8 @@ same-length-3 c = search needs
 
 returns-3 : tie.Need-returns-3
 returns-3 c =
-    let e = c .before .before .before .before .before .before .before .before .before .before .before in
-    averaged-run (start e .args .net) (start e .args .asked) (e .ensemble .result) (mean e) (deviation e) (path e) (start e .pre .1) (call e) _ _ (c .before .before .before .before .before .before .enum-told .given .1) (start e .args .out .now) (c .before .before .result .ensures)
+    let e = c .before .before .before .before .before .before .before .before .before .before .before .before .before in
+    averaged-run (start e .args .net) (start e .args .asked) (e .ensemble .result) (mean e) (deviation e) (path e) (start e .pre .1) (call e) _ _ (c .before .before .before .before .before .before .before .before .enum-told .given .1) (start e .args .out .now) (c .before .before .result .ensures)
 
 pub run-spec : {M : Type 1} → statement M
 run-spec =

@@ -1,16 +1,15 @@
 -- `read_cases::places` is safe and ends: it looks at 32 places at most. Assumes nothing.
 use borrow.Author.Needs.{needs}
 use native.Mathlib.Omega.{arith}
-use mathlib.Core.Path.{_≡_, refl, sym, ap, _∙_}
-use Prim.Native.Nat.{ℕ, _+_, _-_, _*_, _≤_, _<_}
+use Prim.Native.Nat.{_-_, _≤_}
 use Rattle.read_cases.proofs.places.Statement.{statement}
 use Rattle.read_cases.proofs.places.Tie as tie
 
 abbrev Inv-loop : tie.InvT-loop
-Inv-loop n initial capacity p₀ p = p ≤ 32
+Inv-loop n initial capacity label lengths p₀ p = p ≤ 32
 
 abbrev μ-loop : tie.MeasureT-loop
-μ-loop n initial capacity p₀ p = 32 - p
+μ-loop n initial capacity label lengths p₀ p = 32 - p
 
 loop-holds : tie.Need-loop-holds Inv-loop μ-loop
 loop-holds c = search needs
@@ -32,6 +31,15 @@ array-read-number-2 c = search needs
 
 number-requires-2 : tie.Need-number-requires-2 Inv-loop μ-loop
 number-requires-2 c κs = search needs
+
+mul-name : tie.Need-mul-name Inv-loop μ-loop
+mul-name c = search needs
+
+array-read-name : tie.Need-array-read-name Inv-loop μ-loop
+array-read-name c = search needs
+
+name-requires : tie.Need-name-requires Inv-loop μ-loop
+name-requires c κs = search needs
 
 add-p : tie.Need-add-p Inv-loop μ-loop
 add-p c = search needs
@@ -58,6 +66,9 @@ places-spec =
     mul-number-2
     array-read-number-2
     number-requires-2
+    mul-name
+    array-read-name
+    name-requires
     add-p
     loop-less
     loop-again

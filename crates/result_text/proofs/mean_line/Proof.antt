@@ -8,7 +8,7 @@ slice-aggregate-row-line : tie.Need-slice-aggregate-row-line
 slice-aggregate-row-line c = refl
 
 row-line-requires : tie.Need-row-line-requires
-row-line-requires c κs = tt
+row-line-requires c κs = search needs
 
 same-length : tie.Need-same-length
 same-length c = search needs

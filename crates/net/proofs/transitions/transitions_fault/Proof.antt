@@ -3,9 +3,9 @@ use Prim.Native.Nat.{_-_}
 use mathlib.Core.Path.{_≡_, sym, ap, _∙_}
 use borrow.Author.Needs.{needs}
 use Rattle.net.specs.declared.Net.{Net as NetRecord}
-use Rattle.net.specs.Readable.{movesFault, meaning}
+use Rattle.net.specs.Readable.{moveFault, movesFault, meaning}
 use Rattle.net.specs.Record.{lent}
-use Rattle.net.proofs.Faults.{else-stop, else-go, moves-turn, moves-end, minus-zero}
+use Rattle.net.proofs.Faults.{else-stop, else-go, faults-turn, faults-end, minus-zero}
 use Rattle.net.proofs.transitions.transitions_fault.Statement.{statement}
 use Rattle.net.proofs.transitions.transitions_fault.Tie as tie
 
@@ -36,7 +36,7 @@ returns c =
     let a = m .before .before in
     let l = a .before in
     let s = l .before .before in
-    else-stop _ (moves-turn (net s) (l .before .loop .j) (s .args .transitions) (l .loop-test .taken) (l .before .loop .inv))
+    else-stop _ (faults-turn (moveFault (net s)) (l .before .loop .j) (s .args .transitions) (l .loop-test .taken) (l .before .loop .inv))
     (sym (a .transition-at .ensures) ∙ ap meaning (m .c .given .1))
 
 enum-told : tie.Need-enum-told Inv-loop μ-loop
@@ -53,14 +53,14 @@ loop-again c =
     let a = c .before .before in
     let l = a .before in
     let s = l .before .before in
-    else-go _ (moves-turn (net s) (l .before .loop .j) (s .args .transitions) (l .loop-test .taken) (l .before .loop .inv))
+    else-go _ (faults-turn (moveFault (net s)) (l .before .loop .j) (s .args .transitions) (l .loop-test .taken) (l .before .loop .inv))
     (sym (a .transition-at .ensures) ∙ ap meaning (c .enum-told .given .1))
 
 returns-2 : tie.Need-returns-2 Inv-loop μ-loop
 returns-2 c =
     let l = c .before in
     let s = l .before in
-    moves-end (net s) (l .loop .j) (s .args .transitions) (c .loop-test .left) (l .loop .inv)
+    faults-end (moveFault (net s)) (l .loop .j) (s .args .transitions) (c .loop-test .left) (l .loop .inv)
 
 pub transitions-fault-spec : {M : Type 1} → statement M
 transitions-fault-spec =

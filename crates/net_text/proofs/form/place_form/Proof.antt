@@ -1,9 +1,7 @@
 -- Part by part: the form is not met where a part is not, and else it says what the parts say.
 use borrow.Author.Needs.{needs}
-use native.Mathlib.Omega.{arith}
 use borrow.Author.Tests.{not-true, not-false}
-use Rattle.net_text.proofs.Lined.{no-place, place-first, place-second, place-third, place-found, word-ends}
-use Rattle.text.specs.Text.{bytes}
+use Rattle.net_text.proofs.Lined.{no-place, place-first, place-second, place-third, place-found}
 use Rattle.net_text.proofs.form.place_form.Statement.{statement}
 use Rattle.net_text.proofs.form.place_form.Tie as tie
 
@@ -41,12 +39,9 @@ returns-2 c =
     let number-after2 = c .before .before .before .number-after2 in
     rw (c .no-place2 .ensures) (no-place (s .args .line .now) (place-second (s .args .line .now) (number-after .result) (number-after .ensures) (not-false _ (if1 .left)) (number-after2 .result) (number-after2 .ensures) (not-true _ (c .before .if2 .taken))))
 
-slice-aggregate-word : tie.Need-slice-aggregate-word
-slice-aggregate-word c = search needs
-
-word-requires : tie.Need-word-requires
-word-requires c κs =
-    let number-after2 = c .before .before .before .number-after2 in
+label-form-requires : tie.Need-label-form-requires
+label-form-requires c κs =
+    let number-after2 = c .before .before .number-after2 in
     number-after2 .ensures .inside
 
 no-place-requires-3 : tie.Need-no-place-requires-3
@@ -59,16 +54,8 @@ returns-3 c =
     let if1 = c .before .before .before .before .before .before .before .before .if1 in
     let number-after2 = c .before .before .before .before .before .before .number-after2 in
     let if2 = c .before .before .before .before .if2 in
-    let word = c .before .before .word in
-    rw (c .no-place3 .ensures) (no-place (s .args .line .now) (place-third (s .args .line .now) (number-after .result) (number-after .ensures) (not-false _ (if1 .left)) (number-after2 .result) (number-after2 .ensures) (not-false _ (if2 .left)) (word .result) (word .ensures) (not-true _ (c .before .if3 .taken))))
-
-add-t17 : tie.Need-add-t17
-add-t17 c =
-    let s = c .before .before .before .before .before .before .before .before .before .before .before .before .before .before in
-    let number-after2 = c .before .before .before .before .before .before .before .number-after2 in
-    let word = c .before .before .before .word in
-    let h = word-ends (bytes ")") (s .args .line .now) (number-after2 .result .next) (word .result) (word .ensures) (number-after2 .ensures .inside) (not-false _ (c .before .before .if3 .left)) in
-    omega arith
+    let label-form = c .before .before .before .label-form in
+    rw (c .no-place3 .ensures) (no-place (s .args .line .now) (place-third (s .args .line .now) (number-after .result) (number-after .ensures) (not-false _ (if1 .left)) (number-after2 .result) (number-after2 .ensures) (not-false _ (if2 .left)) (label-form .result) (label-form .ensures) (not-true _ (c .before .if3 .taken))))
 
 returns-4 : tie.Need-returns-4
 returns-4 c =
@@ -77,8 +64,8 @@ returns-4 c =
     let if1 = c .before .before .before .before .before .before .before .before .before .if1 in
     let number-after2 = c .before .before .before .before .before .before .before .number-after2 in
     let if2 = c .before .before .before .before .before .if2 in
-    let word = c .before .before .before .word in
-    place-found (s .args .line .now) (number-after .result) (number-after .ensures) (not-false _ (if1 .left)) (number-after2 .result) (number-after2 .ensures) (not-false _ (if2 .left)) (word .result) (word .ensures) (not-false _ (c .before .before .if3 .left))
+    let label-form = c .before .before .before .before .label-form in
+    place-found (s .args .line .now) (number-after .result) (number-after .ensures) (not-false _ (if1 .left)) (number-after2 .result) (number-after2 .ensures) (not-false _ (if2 .left)) (label-form .result) (label-form .ensures) (not-false _ (c .before .before .if3 .left))
 
 pub place-form-spec : {M : Type 1} → statement M
 place-form-spec =
@@ -92,9 +79,7 @@ place-form-spec =
     number-after-requires-2
     no-place-requires-2
     returns-2
-    slice-aggregate-word
-    word-requires
+    label-form-requires
     no-place-requires-3
     returns-3
-    add-t17
     returns-4)

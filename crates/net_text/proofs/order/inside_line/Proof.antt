@@ -10,8 +10,8 @@ use Rattle.net_text.proofs.order.inside_line.Tie as tie
 -- the tables as they came
 abbrev entry : tie.Start → Tables
 entry s =
-    tables (s .args .initial .now) (s .args .capacity .now) (s .args .rate .now) (s .args .delay .now) (s .args .arcs .now) (s .args .kind .now)
-    (s .args .place .now) (s .args .weight .now)
+    tables (s .args .initial .now) (s .args .capacity .now) (s .args .label .now) (s .args .lengths .now) (s .args .rate .now) (s .args .delay .now)
+    (s .args .arcs .now) (s .args .kind .now) (s .args .place .now) (s .args .weight .now)
 
 place-form-requires : tie.Need-place-form-requires
 place-form-requires c κs = search needs
@@ -22,10 +22,19 @@ returns c =
     let place-form = c .before .before .before .place-form in
     place-behind (s .args .line .now) (s .args .places) (s .args .transitions) (entry s) (place-form .result) (place-form .ensures) _ (c .before .before .if1 .taken) (c .if2 .taken)
 
+sub-take-place : tie.Need-sub-take-place
+sub-take-place c = omega (arith, c .before .before .before .place-form .ensures .begins)
+
+part-take-place-start : tie.Need-part-take-place-start
+part-take-place-start c = c .before .before .before .place-form .ensures .begins
+
+part-take-place-end : tie.Need-part-take-place-end
+part-take-place-end c = c .before .before .before .place-form .ensures .ends
+
 take-place-requires : tie.Need-take-place-requires
 take-place-requires c κs =
-    let s = c .before .before .before .before .before .before .before in
-    (s .pre .initials, s .pre .capacities)
+    let s = c .before .before .before .before .before .before .before .before .before .before in
+    (s .pre .initials, s .pre .capacities, s .pre .bytes, s .pre .sizes)
 
 enum-known-v : tie.Need-enum-known-v
 enum-known-v c = search needs
@@ -33,9 +42,9 @@ enum-known-v c = search needs
 enum-told : tie.Need-enum-told
 enum-told c = search needs
 
-add-t29 : tie.Need-add-t29
-add-t29 c =
-    let s = c .before .before .before .before .before .before .before .before .before .before in
+add-t38 : tie.Need-add-t38
+add-t38 c =
+    let s = c .before .before .before .before .before .before .before .before .before .before .before .before .before in
     omega (arith, s .pre .few-places)
 
 no-run-requires : tie.Need-no-run-requires
@@ -43,21 +52,21 @@ no-run-requires c κs = search needs
 
 returns-2 : tie.Need-returns-2
 returns-2 c =
-    let s = c .before .before .before .before .before .before .before .before .before .before .before in
-    let place-form = c .before .before .before .before .before .before .before .before .before .place-form in
-    let if1 = c .before .before .before .before .before .before .before .before .if1 in
-    let if2 = c .before .before .before .before .before .before .if2 in
+    let s = c .before .before .before .before .before .before .before .before .before .before .before .before .before .before in
+    let place-form = c .before .before .before .before .before .before .before .before .before .before .before .before .place-form in
+    let if1 = c .before .before .before .before .before .before .before .before .before .before .before .if1 in
+    let if2 = c .before .before .before .before .before .before .before .before .before .if2 in
     let take-place = c .before .before .before .take-place in
-    place-refused (s .args .line .now) (s .args .places) (s .args .transitions) (entry s) (place-form .result) (place-form .ensures) (if2 .left) (if1 .taken) _ _ (take-place .result) (take-place .ensures) _ _ (c .before .v .given .1)
+    place-refused (s .args .line .now) (s .args .places) (s .args .transitions) (entry s) (place-form .result) (place-form .ensures) (if2 .left) (if1 .taken) _ _ _ _ (take-place .result) (take-place .ensures) _ _ (c .before .v .given .1)
 
 returns-3 : tie.Need-returns-3
 returns-3 c =
-    let s = c .before .before .before .before .before .before .before .before .before .before .before in
-    let place-form = c .before .before .before .before .before .before .before .before .before .place-form in
-    let if1 = c .before .before .before .before .before .before .before .before .if1 in
-    let if2 = c .before .before .before .before .before .before .if2 in
+    let s = c .before .before .before .before .before .before .before .before .before .before .before .before .before .before in
+    let place-form = c .before .before .before .before .before .before .before .before .before .before .before .before .place-form in
+    let if1 = c .before .before .before .before .before .before .before .before .before .before .before .if1 in
+    let if2 = c .before .before .before .before .before .before .before .before .before .if2 in
     let take-place = c .before .before .before .take-place in
-    place-accepted (s .args .line .now) (s .args .places) (s .args .transitions) (entry s) (place-form .result) (place-form .ensures) (if2 .left) (if1 .taken) _ _ (take-place .result) (take-place .ensures) (c .no-run .result) (s .pre) (c .before .enum-told .given .1)
+    place-accepted (s .args .line .now) (s .args .places) (s .args .transitions) (entry s) (place-form .result) (place-form .ensures) (if2 .left) (if1 .taken) _ _ _ _ (take-place .result) (take-place .ensures) (c .no-run .result) (s .pre) (c .before .enum-told .given .1)
 
 run-form-requires : tie.Need-run-form-requires
 run-form-requires c κs = search needs
@@ -130,8 +139,8 @@ enum-known-v-3 c = search needs
 enum-told-3 : tie.Need-enum-told-3
 enum-told-3 c = search needs
 
-add-t51 : tie.Need-add-t51
-add-t51 c =
+add-t60 : tie.Need-add-t60
+add-t60 c =
     let s = c .before .before .before .before .before .before .before .before .before .before .before .before .before .before .before .before .before .before .before .before .before .before in
     omega (arith, s .pre .few-transitions)
 
@@ -179,10 +188,13 @@ inside-line-spec =
     (tie.spec
     place-form-requires
     returns
+    sub-take-place
+    part-take-place-start
+    part-take-place-end
     take-place-requires
     enum-known-v
     enum-told
-    add-t29
+    add-t38
     no-run-requires
     returns-2
     returns-3
@@ -199,7 +211,7 @@ inside-line-spec =
     take-move-requires
     enum-known-v-3
     enum-told-3
-    add-t51
+    add-t60
     no-run-requires-2
     returns-8
     returns-9

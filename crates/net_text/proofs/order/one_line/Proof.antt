@@ -9,8 +9,8 @@ use Rattle.net_text.proofs.order.one_line.Tie as tie
 -- the tables as they came
 abbrev entry : tie.Start → Tables
 entry s =
-    tables (s .args .initial .now) (s .args .capacity .now) (s .args .rate .now) (s .args .delay .now) (s .args .arcs .now) (s .args .kind .now)
-    (s .args .place .now) (s .args .weight .now)
+    tables (s .args .initial .now) (s .args .capacity .now) (s .args .label .now) (s .args .lengths .now) (s .args .rate .now) (s .args .delay .now)
+    (s .args .arcs .now) (s .args .kind .now) (s .args .place .now) (s .args .weight .now)
 
 enum-told : tie.Need-enum-told
 enum-told c = search needs
@@ -35,7 +35,7 @@ enum-told-2 c = search needs
 
 inside-line-requires : tie.Need-inside-line-requires
 inside-line-requires c κs =
-    let s = c .before .before .before .before .before .before .before .before .before .before .before in
+    let s = c .before .before .before .before .before .before .before .before .before .before .before .before .before in
     s .pre .room
 
 enum-told-3 : tie.Need-enum-told-3
@@ -64,8 +64,8 @@ returns-3 c =
 
 returns-4 : tie.Need-returns-4
 returns-4 c =
-    let s = c .before .before .before .before .before .before .before .before .before .before .before .before in
-    let enum-told2 = c .before .before .before .before .before .before .before .before .before .enum-told2 in
+    let s = c .before .before .before .before .before .before .before .before .before .before .before .before .before .before in
+    let enum-told2 = c .before .before .before .before .before .before .before .before .before .before .before .enum-told2 in
     between (s .args .line .now) (s .args .p) (entry s) _ (c .inside-line .result) (enum-told2 .given .1) (c .inside-line .ensures)
 
 returns-5 : tie.Need-returns-5

@@ -9,16 +9,17 @@ use Rattle.net_text.proofs.order.read_lines.Statement.{statement}
 use Rattle.net_text.proofs.order.read_lines.Tie as tie
 
 abbrev Inv-loop : tie.InvT-loop
-Inv-loop text initial₀ capacity₀ rate₀ delay₀ arcs₀ kind₀ place₀ weight₀ p₀ at₀ number₀ initial capacity rate delay arcs kind place weight p at number =
-    Reading text (tables initial capacity rate delay arcs kind place weight) p at number
+Inv-loop text initial₀ capacity₀ label₀ lengths₀ rate₀ delay₀ arcs₀ kind₀ place₀ weight₀ p₀ at₀ number₀ initial capacity label lengths rate delay arcs kind place weight p at number =
+    Reading text (tables initial capacity label lengths rate delay arcs kind place weight) p at number
 
 abbrev μ-loop : tie.MeasureT-loop
-μ-loop text initial₀ capacity₀ rate₀ delay₀ arcs₀ kind₀ place₀ weight₀ p₀ at₀ number₀ initial capacity rate delay arcs kind place weight p at number = length text - at
+μ-loop text initial₀ capacity₀ label₀ lengths₀ rate₀ delay₀ arcs₀ kind₀ place₀ weight₀ p₀ at₀ number₀ initial capacity label lengths rate delay arcs kind place weight p at number = length text - at
 
 -- the tables as they are at the loop's head
 abbrev held : tie.At-loop Inv-loop μ-loop → Tables
 held l =
-    tables (l .loop .initial) (l .loop .capacity) (l .loop .rate) (l .loop .delay) (l .loop .arcs) (l .loop .kind) (l .loop .place) (l .loop .weight)
+    tables (l .loop .initial) (l .loop .capacity) (l .loop .label) (l .loop .lengths) (l .loop .rate) (l .loop .delay) (l .loop .arcs) (l .loop .kind)
+    (l .loop .place) (l .loop .weight)
 
 no-run-requires : tie.Need-no-run-requires Inv-loop μ-loop
 no-run-requires c κs = search needs
@@ -26,7 +27,7 @@ no-run-requires c κs = search needs
 loop-holds : tie.Need-loop-holds Inv-loop μ-loop
 loop-holds c =
     let s = c .before .before in
-    begin (s .args .text .now) (tables (s .args .initial .now) (s .args .capacity .now) (s .args .rate .now) (s .args .delay .now) (s .args .arcs .now) (s .args .kind .now) (s .args .place .now) (s .args .weight .now)) (c .no-run .result) (s .pre)
+    begin (s .args .text .now) (tables (s .args .initial .now) (s .args .capacity .now) (s .args .label .now) (s .args .lengths .now) (s .args .rate .now) (s .args .delay .now) (s .args .arcs .now) (s .args .kind .now) (s .args .place .now) (s .args .weight .now)) (c .no-run .result) (s .pre)
 
 line-end-requires : tie.Need-line-end-requires Inv-loop μ-loop
 line-end-requires c κs =
@@ -55,7 +56,7 @@ part-one-line-end c = c .before .line-end .ensures .inside
 
 one-line-requires : tie.Need-one-line-requires Inv-loop μ-loop
 one-line-requires c κs =
-    let l = c .before .before .before .before .before .before .before .before .before .before .before .before in
+    let l = c .before .before .before .before .before .before .before .before .before .before .before .before .before .before in
     l .loop .inv .stands
 
 enum-known-t : tie.Need-enum-known-t Inv-loop μ-loop
@@ -66,10 +67,10 @@ refused-at-requires-2 c κs = search needs
 
 returns-2 : tie.Need-returns-2 Inv-loop μ-loop
 returns-2 c =
-    let s = c .before .before .before .before .before .before .before .before .before .before .before .before .before .before .before .before .before .before .before .before in
-    let l = c .before .before .before .before .before .before .before .before .before .before .before .before .before .before .before .before .before in
-    let line-end = c .before .before .before .before .before .before .before .before .before .before .before .before .before .before .before .line-end in
-    let if1 = c .before .before .before .before .before .before .before .before .before .before .before .before .before .before .if1 in
+    let s = c .before .before .before .before .before .before .before .before .before .before .before .before .before .before .before .before .before .before .before .before .before .before in
+    let l = c .before .before .before .before .before .before .before .before .before .before .before .before .before .before .before .before .before .before .before in
+    let line-end = c .before .before .before .before .before .before .before .before .before .before .before .before .before .before .before .before .before .line-end in
+    let if1 = c .before .before .before .before .before .before .before .before .before .before .before .before .before .before .before .before .if1 in
     let one-line = c .before .before .before .before .one-line in
     refused-there (s .args .text .now) (held l) (l .loop .p) (l .loop .at) (l .loop .number) (line-end .result) (l .loop .inv) (line-end .ensures) _ (one-line .result) (one-line .ensures) (if1 .left) (c .refused-at2 .result) _ (c .before .before .t .given .1) (c .refused-at2 .ensures)
 
@@ -78,29 +79,29 @@ enum-known-t-2 c = search needs
 
 add-at : tie.Need-add-at Inv-loop μ-loop
 add-at c =
-    let s = c .before .before .before .before .before .before .before .before .before .before .before .before .before .before .before .before .before .before .before in
-    let line-end = c .before .before .before .before .before .before .before .before .before .before .before .before .before .before .line-end in
+    let s = c .before .before .before .before .before .before .before .before .before .before .before .before .before .before .before .before .before .before .before .before .before in
+    let line-end = c .before .before .before .before .before .before .before .before .before .before .before .before .before .before .before .before .line-end in
     omega (arith, line-end .ensures .inside, s .good .0 .1)
 
 add-number : tie.Need-add-number Inv-loop μ-loop
 add-number c =
-    let s = c .before .before .before .before .before .before .before .before .before .before .before .before .before .before .before .before .before .before .before in
-    let l = c .before .before .before .before .before .before .before .before .before .before .before .before .before .before .before .before in
-    let loop-test = c .before .before .before .before .before .before .before .before .before .before .before .before .before .before .before .loop-test in
+    let s = c .before .before .before .before .before .before .before .before .before .before .before .before .before .before .before .before .before .before .before .before .before in
+    let l = c .before .before .before .before .before .before .before .before .before .before .before .before .before .before .before .before .before .before in
+    let loop-test = c .before .before .before .before .before .before .before .before .before .before .before .before .before .before .before .before .before .loop-test in
     omega (arith, l .loop .inv .numbered, loop-test .taken, s .good .0 .1)
 
 loop-less : tie.Need-loop-less Inv-loop μ-loop
 loop-less c =
-    let loop-test = c .before .before .before .before .before .before .before .before .before .before .before .before .before .before .before .loop-test in
-    let line-end = c .before .before .before .before .before .before .before .before .before .before .before .before .before .before .line-end in
+    let loop-test = c .before .before .before .before .before .before .before .before .before .before .before .before .before .before .before .before .before .loop-test in
+    let line-end = c .before .before .before .before .before .before .before .before .before .before .before .before .before .before .before .before .line-end in
     omega (arith, line-end .ensures .inside, line-end .ensures .from, loop-test .taken)
 
 loop-again : tie.Need-loop-again Inv-loop μ-loop
 loop-again c =
-    let s = c .before .before .before .before .before .before .before .before .before .before .before .before .before .before .before .before .before .before .before in
-    let l = c .before .before .before .before .before .before .before .before .before .before .before .before .before .before .before .before in
-    let line-end = c .before .before .before .before .before .before .before .before .before .before .before .before .before .before .line-end in
-    let if1 = c .before .before .before .before .before .before .before .before .before .before .before .before .before .if1 in
+    let s = c .before .before .before .before .before .before .before .before .before .before .before .before .before .before .before .before .before .before .before .before .before in
+    let l = c .before .before .before .before .before .before .before .before .before .before .before .before .before .before .before .before .before .before in
+    let line-end = c .before .before .before .before .before .before .before .before .before .before .before .before .before .before .before .before .line-end in
+    let if1 = c .before .before .before .before .before .before .before .before .before .before .before .before .before .before .before .if1 in
     let one-line = c .before .before .before .one-line in
     one-more (s .args .text .now) (held l) (l .loop .p) (l .loop .at) (l .loop .number) (line-end .result) (l .loop .inv) (line-end .ensures) _ (one-line .result) (one-line .ensures) (if1 .left) _ (c .before .t2 .given .1)
 

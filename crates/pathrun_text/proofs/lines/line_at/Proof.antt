@@ -15,9 +15,9 @@ same-length c = search needs
 
 returns : tie.Need-returns
 returns c =
-    let a = c .before .before .before .before .before .before .before .args in
+    let a = c .before .before .before .before .before .before .before .before .args in
     c .before .before .dev-line .ensures
-    ∙ ap (λ (b : Bool). written (a .out .now) (a .at) (lineOf b (a .place) (a .row .now))) (sym (c .before .before .before .before .if1 .taken))
+    ∙ ap (λ (b : Bool). written (a .out .now) (a .at) (lineOf b (a .label .now) (a .row .now))) (sym (c .before .before .before .before .if1 .taken))
 
 mean-line-requires : tie.Need-mean-line-requires
 mean-line-requires c κs = search needs
@@ -27,9 +27,9 @@ same-length-2 c = search needs
 
 returns-2 : tie.Need-returns-2
 returns-2 c =
-    let a = c .before .before .before .before .before .before .before .args in
+    let a = c .before .before .before .before .before .before .before .before .args in
     c .before .before .mean-line .ensures
-    ∙ ap (λ (b : Bool). written (a .out .now) (a .at) (lineOf b (a .place) (a .row .now))) (sym (c .before .before .before .before .if1 .left))
+    ∙ ap (λ (b : Bool). written (a .out .now) (a .at) (lineOf b (a .label .now) (a .row .now))) (sym (c .before .before .before .before .if1 .left))
 
 pub line-at-spec : {M : Type 1} → statement M
 line-at-spec =

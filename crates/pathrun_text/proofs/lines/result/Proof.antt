@@ -1,5 +1,7 @@
 -- `result` meets its contract: the lines fit, since no output is longer than `longest`, and each stands behind those before it.
 use borrow.Author.Needs.{needs}
+use Rattle.net.specs.Labels.{labelsFrom}
+use Rattle.pathrun_text.proofs.Names.{labels-short}
 use Rattle.pathrun_text.proofs.Rows.{with-deviations, without-deviations}
 use Rattle.pathrun_text.proofs.lines.result.Statement.{statement}
 use Rattle.pathrun_text.proofs.lines.result.Tie as tie
@@ -24,7 +26,7 @@ returns c =
     let s = c .before .before .before .before .before .before .before .before .before .before .before .before .before .before .before .before .before in
     let a = s .args in
     let q = s .pre in
-    with-deviations (a .out .now) (a .places) (a .samples) (a .realizations) (a .mean .now) (a .deviation .now) (q .0) (q .1) (q .2) (q .3) (q .4) (q .5) (s .fits .realizations .fits)
+    with-deviations (a .out .now) (a .places) (a .samples) (a .realizations) (labelsFrom (a .label .now) (a .lengths .now) 0 (a .places)) (labels-short (a .label .now) (a .lengths .now) 0 (a .places)) (a .mean .now) (a .deviation .now) (q .0) (q .1) (q .2) (q .3) (q .4) (q .5) (s .fits .realizations .fits)
     (c .before .before .before .before .before .if1 .taken)
     (c .before .before .before .before .before .before .before .before .before .before .before .before .result-line .ensures)
     (c .before .before .before .before .before .before .before .before .then-lines .ensures)
@@ -42,7 +44,7 @@ returns-2 c =
     let s = c .before .before .before .before .before .before .before .before .before .before .before .before .before in
     let a = s .args in
     let q = s .pre in
-    without-deviations (a .out .now) (a .places) (a .samples) (a .realizations) (a .mean .now) (a .deviation .now) (q .0) (q .1) (q .2) (q .3) (q .4) (q .5) (s .fits .realizations .fits)
+    without-deviations (a .out .now) (a .places) (a .samples) (a .realizations) (labelsFrom (a .label .now) (a .lengths .now) 0 (a .places)) (labels-short (a .label .now) (a .lengths .now) 0 (a .places)) (a .mean .now) (a .deviation .now) (q .0) (q .1) (q .2) (q .3) (q .4) (q .5) (s .fits .realizations .fits)
     (c .before .if1 .left)
     (c .before .before .before .before .before .before .before .before .result-line .ensures)
     (c .before .before .before .before .then-lines .ensures)

@@ -19,13 +19,13 @@ same-length c = search needs
 
 returns : tie.Need-returns
 returns c =
-    let a = c .before .before .before .before .before .before .before .before .before .args in
-    then-next (a .out .now) (lineOf (a .deviates) (a .place) (a .row .now)) _ (c .before .before .before .before .before .last .given .1) (c .before .before .line-at .ensures)
+    let a = c .before .before .before .before .before .before .before .before .before .before .args in
+    then-next (a .out .now) (lineOf (a .deviates) (a .label .now) (a .row .now)) _ (c .before .before .before .before .before .last .given .1) (c .before .before .line-at .ensures)
 
 returns-2 : tie.Need-returns-2
 returns-2 c =
-    let a = c .before .before .before .before .args in
-    then-short (a .out .now) (lineOf (a .deviates) (a .place) (a .row .now)) (c .enum-told .given .1)
+    let a = c .before .before .before .before .before .args in
+    then-short (a .out .now) (lineOf (a .deviates) (a .label .now) (a .row .now)) (c .enum-told .given .1)
 
 pub then-line-spec : {M : Type 1} → statement M
 then-line-spec =

@@ -1,10 +1,12 @@
 -- `then_lines` meets its contract. The invariant: what is left of the table, written from here, is the whole table written.
 use borrow.Author.Needs.{needs}
-use lib.ListN.{length, drop}
+use lib.ListN.{length, take, drop}
+use Rattle.net.specs.Labels.{labelsFrom}
 use Rattle.text.specs.Text.{Bytes}
+use Rattle.text.specs.Buffer.{andThen}
 use Rattle.text.specs.declared.Written.{Written}
 use Rattle.pathrun_text.specs.Pathrun.{rows}
-use Rattle.pathrun_text.specs.Printing.{thenLines}
+use Rattle.pathrun_text.specs.Printing.{lineOf, thenLines}
 use Rattle.pathrun_text.proofs.Rows.{left-turn, lines-turn}
 use native.Mathlib.Omega.{arith}
 use mathlib.Core.Path.{_≡_, refl, sym, ap, _∙_}
@@ -13,14 +15,15 @@ use Rattle.pathrun_text.proofs.lines.then_lines.Statement.{statement}
 use Rattle.pathrun_text.proofs.lines.then_lines.Tie as tie
 
 abbrev Inv-loop : tie.InvT-loop
-Inv-loop out₀ deviates places samples table last₀ p₀ from₀ out last p from =
-    (thenLines deviates (out, last) p (rows (places - p) samples (drop from table)) ≡ thenLines deviates (out₀, last₀) 0 (rows places samples table))
+Inv-loop out₀ deviates places samples label lengths table last₀ p₀ from₀ out last p from =
+    (thenLines deviates (out, last) (labelsFrom label lengths p (places - p)) (rows (places - p) samples (drop from table))
+    ≡ thenLines deviates (out₀, last₀) (labelsFrom label lengths 0 places) (rows places samples table))
     × (p ≤ places)
     × (from + (places - p) * samples ≤ length table)
     × (length out ≡ length out₀)
 
 abbrev μ-loop : tie.MeasureT-loop
-μ-loop out₀ deviates places samples table last₀ p₀ from₀ out last p from = places - p
+μ-loop out₀ deviates places samples label lengths table last₀ p₀ from₀ out last p from = places - p
 
 loop-holds : tie.Need-loop-holds Inv-loop μ-loop
 loop-holds c =
@@ -37,6 +40,9 @@ add-end c =
 add-q : tie.Need-add-q Inv-loop μ-loop
 add-q c = search needs
 
+label-of-requires : tie.Need-label-of-requires Inv-loop μ-loop
+label-of-requires c κs = search needs
+
 mul-then-line : tie.Need-mul-then-line Inv-loop μ-loop
 mul-then-line c = search needs
 
@@ -48,8 +54,8 @@ part-then-line-start c = omega arith
 
 part-then-line-end : tie.Need-part-then-line-end Inv-loop μ-loop
 part-then-line-end c =
-    let a = c .before .before .before .before .before .args in
-    omega (arith, left-turn (a .places) (c .before .before .loop .p) (a .samples) (c .before .loop-test .taken), c .before .before .loop .inv .2)
+    let a = c .before .before .before .before .before .before .args in
+    omega (arith, left-turn (a .places) (c .before .before .before .loop .p) (a .samples) (c .before .before .loop-test .taken), c .before .before .before .loop .inv .2)
 
 then-line-requires : tie.Need-then-line-requires Inv-loop μ-loop
 then-line-requires c κs = search needs
@@ -59,14 +65,17 @@ loop-less c = search needs
 
 loop-again : tie.Need-loop-again Inv-loop μ-loop
 loop-again c =
-    let l = c .before .before .before .before .before .before .loop in
-    let a = c .before .before .before .before .before .before .before .before .before .args in
-    let more : l .p < a .places = c .before .before .before .before .before .loop-test .taken in
+    let l = c .before .before .before .before .before .before .before .loop in
+    let a = c .before .before .before .before .before .before .before .before .before .before .args in
+    let more : l .p < a .places = c .before .before .before .before .before .before .loop-test .taken in
     let size : l .from + a .samples - l .from ≡ a .samples = omega arith in
+    let named = c .before .before .before .before .before .label-of .ensures in
     let one = c .before .before .then-line .ensures in
     let here = rw size at one in
-    let turn = lines-turn (a .deviates) (l .out, l .last) (a .places) (l .p) (a .samples) (l .from) (a .table .now) more in (
-      ap (λ (s : Bytes × Written). thenLines (a .deviates) s (l .p + 1) (rows (a .places - (l .p + 1)) (a .samples) (drop (l .from + a .samples) (a .table .now)))) here
+    let turn = lines-turn (a .label .now) (a .lengths .now) (a .deviates) (l .out, l .last) (a .places) (l .p) (a .samples) (l .from) (a .table .now) more in (
+      ap (λ (s : Bytes × Written). thenLines (a .deviates) s (labelsFrom (a .label .now) (a .lengths .now) (l .p + 1) (a .places - (l .p + 1)))
+          (rows (a .places - (l .p + 1)) (a .samples) (drop (l .from + a .samples) (a .table .now))))
+          (here ∙ ap (λ (w : Bytes). andThen (l .out, l .last) (lineOf (a .deviates) w (take (a .samples) (drop (l .from) (a .table .now))))) named)
           ∙ sym turn
           ∙ l .inv .0,
       omega arith,
@@ -93,6 +102,7 @@ then-lines-spec =
     loop-holds
     add-end
     add-q
+    label-of-requires
     mul-then-line
     sub-then-line
     part-then-line-start

@@ -1,7 +1,8 @@
--- The tidied net reads as the net, and has its places and initial counts. Assumes nothing.
+-- The tidied net reads as the net, and has its places and initial counts; it is lent without its labels. Assumes nothing.
 use borrow.Author.Needs.{needs}
 use Rattle.net.proofs.Sound.{sound}
 use Rattle.rng.specs.State.{words}
+use Rattle.engine.proofs.Tidying.{tidy-unlabelled}
 use Rattle.ssa.proofs.Accepted.{first-small, same-room, same-run}
 use Rattle.ssa.proofs.accept.accepted_path.Statement.{statement}
 use Rattle.ssa.proofs.accept.accepted_path.Tie as tie
@@ -14,7 +15,7 @@ lent-path-requires c κs =
     let t = c .before .before .before .before .before .before .before .before .before .before in
     let s = t .before .before .before in
     let e = t .tidied .ensures in
-    (e .1, first-small (t .tidied .result) (s .args .net) (sound (s .args .net) (s .pre .0)) (e .2) (e .3), s .pre .1, same-room _ _ (e .2) (s .pre .2))
+    (tidy-unlabelled (t .tidied .result) (e .1), first-small (t .tidied .result) (s .args .net) (sound (s .args .net) (s .pre .0)) (e .2) (e .3), s .pre .1, same-room _ _ (e .2) (s .pre .2))
 
 same-length : tie.Need-same-length
 same-length c = search needs

@@ -1,6 +1,7 @@
--- The tidied net reads as the net, and has its places and initial counts. Assumes nothing.
+-- The tidied net reads as the net, and has its places and initial counts; it is lent without its labels. Assumes nothing.
 use borrow.Author.Needs.{needs}
 use Rattle.net.proofs.Sound.{sound}
+use Rattle.engine.proofs.Tidying.{tidy-unlabelled}
 use Rattle.ssa.proofs.Accepted.{first-small, same-room}
 use Rattle.ssa.proofs.Requested.{same-ensemble}
 use Rattle.ssa.proofs.members.accepted.Statement.{statement}
@@ -14,7 +15,7 @@ lent-ensemble-requires c κs =
     let t = c .before .before .before .before .before .before .before .before .before .before .before .before .tidied in
     let s = c .before .before .before .before .before .before .before .before .before .before .before .before .before .before .before .before in
     let e = t .ensures in (
-      e .1,
+      tidy-unlabelled (t .result) (e .1),
       first-small (t .result) (s .args .net) (sound (s .args .net) (s .pre .0)) (e .2) (e .3),
       s .pre .1,
       same-room _ _ (e .2) (s .pre .2),
