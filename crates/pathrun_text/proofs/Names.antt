@@ -9,7 +9,6 @@ use lib.ListN.{length, getD, take, drop, length-take, List·getD-eq-default}
 use borrow.Author.Tests.{le-leb, lt-leb, leb-true}
 use Rattle.net.specs.Net.{pick}
 use Rattle.net.specs.Labels.{labelAt, labelsFrom}
-use Rattle.text.specs.Text.{Bytes}
 use Rattle.result_text.proofs.Bound.{Short}
 
 module _ (label lengths : List ℕ) (p : ℕ) where

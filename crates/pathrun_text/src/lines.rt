@@ -27,7 +27,7 @@ pub fn refused(out: &mut [u8], number: u64, line: u64) -> usize
     before(end)
 }
 
-// The label of a place of the net with these labels. Where there is none it has no byte.
+// The label of a place, as part of the bytes of all labels. It is empty behind the last place and where the length is that of no label.
 fn label_of<'a>(label: &'a [u8; 512], lengths: &'a [usize; 32], place: usize) -> &'a [u8]
     ensures { λ r. ⌜ now r ≡ labelAt (now (label .entry)) (now (lengths .entry)) place ⌝ }
 {

@@ -44,6 +44,7 @@ fn row_fits(len: usize, at: usize, head: usize, count: usize) -> bool
     false
 }
 
+// A line of a row. The word is short: the length of what stands beside the cells can then be formed.
 fn row_line(out: &mut [u8], at: usize, word: &[u8], label: &[u8], row: &[f64]) -> Written
     requires { ⌜ length (now word) ≤ 6 ⌝ }
     ensures { λ r. ⌜ (now (out .exit), r) ≡ written (now (out .entry)) at (rowLine (now (word .entry)) (now (label .entry)) (now (row .entry))) ⌝ }
