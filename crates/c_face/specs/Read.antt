@@ -6,4 +6,4 @@ use Rattle.net_text.specs.Reading.{Answer, refused, given}
 -- the refusal's number and line, or 0 and 0 where a net is given
 abbrev pub toldOf : Answer → List ℕ
 toldOf (refused c line) = c ∷ line ∷ []
-toldOf (given n r) = 0 ∷ 0 ∷ []
+toldOf (given n ls r) = 0 ∷ 0 ∷ []

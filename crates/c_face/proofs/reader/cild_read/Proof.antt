@@ -3,7 +3,6 @@ use borrow.Author.Needs.{needs}
 use Prim.Native.Nat.{ℕ}
 use mathlib.Core.Path.{_≡_, sym, ap, _∙_}
 use mathlib.Core.List.{List, [], _∷_}
-use Rattle.net.specs.Readable.{readable}
 use Rattle.net_text.specs.declared.Judged.{Judged}
 use Rattle.net_text.specs.declared.NetText.{NetText}
 use Rattle.net_text.specs.Position.{runOf, answer}
@@ -13,8 +12,8 @@ use Rattle.c_face.specs.Read.{toldOf}
 use Rattle.c_face.proofs.reader.cild_read.Statement.{statement}
 use Rattle.c_face.proofs.reader.cild_read.Tie as tie
 
-by-judged : (t : List ℕ) (r : NetText) (j : Judged) → NetRead t r → r .judged ≡ j → toldOf (answer j (readable (r .net)) (runOf (r .run))) ≡ toldOf (read t)
-by-judged t r j h e = sym (ap (λ (k : Judged). toldOf (answer k (readable (r .net)) (runOf (r .run)))) e) ∙ ap toldOf (h .is)
+by-judged : (t : List ℕ) (r : NetText) (j : Judged) → NetRead t r → r .judged ≡ j → toldOf (answer j (r .net) (runOf (r .run))) ≡ toldOf (read t)
+by-judged t r j h e = sym (ap (λ (k : Judged). toldOf (answer k (r .net) (runOf (r .run)))) e) ∙ ap toldOf (h .is)
 
 read-net-requires : tie.Need-read-net-requires
 read-net-requires c κs = search needs
