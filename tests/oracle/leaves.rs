@@ -45,6 +45,7 @@ pub fn compare(report: &mut Report, seed: u64, n: u64) {
     let mut draw = Draw::new(seed);
     the_words(report, &mut draw, n);
     the_generator(report, &mut draw, n);
+    its_laws(report, &mut draw, n);
     the_floats(report, &mut draw, n);
     the_combinations(report, &mut draw, n);
     the_slices(report, &mut draw, n);
@@ -87,6 +88,18 @@ fn the_words(report: &mut Report, draw: &mut Draw, n: u64) {
 /// How many outputs are taken from each state.
 const OUTPUTS: u64 = 32;
 
+/// Zero, all ones, each single bit, and the states of seeds at edges.
+fn special_states() -> Vec<[u64; 4]> {
+    let mut v = vec![[0; 4], [u64::MAX; 4], [1, 2, 3, 4]];
+    for i in 0..256 {
+        let mut s = [0; 4];
+        s[i / 64] = 1 << (i % 64);
+        v.push(s);
+    }
+    v.extend(words().iter().map(|&seed| Xoshiro256::new(seed).state()));
+    v
+}
+
 fn the_generator(report: &mut Report, draw: &mut Draw, n: u64) {
     report.compare("splitmix64", |case| {
         let mut one = |seed: u64| {
@@ -101,13 +114,7 @@ fn the_generator(report: &mut Report, draw: &mut Draw, n: u64) {
         }
     });
     let states = |draw: &mut Draw| -> Vec<[u64; 4]> {
-        let mut v = vec![[0; 4], [u64::MAX; 4], [1, 2, 3, 4]];
-        for i in 0..256 {
-            let mut s = [0; 4];
-            s[i / 64] = 1 << (i % 64);
-            v.push(s);
-        }
-        v.extend(words().iter().map(|&seed| Xoshiro256::new(seed).state()));
+        let mut v = special_states();
         v.extend((0..n / OUTPUTS).map(|_| draw.state()));
         v
     };
@@ -133,6 +140,47 @@ fn the_generator(report: &mut Report, draw: &mut Draw, n: u64) {
                     format!("state {start:x?}, draw {i}: {a:?} {ours:x?}, Rust {b:?} {:x?}", theirs.state())
                 });
             }
+        }
+    });
+}
+
+/// The two facts of the method sheet, which document 02's order 12 asks for: the source's step is undone by the step back, in either order, and it passes
+/// through the exclusive-or.
+fn its_laws(report: &mut Report, draw: &mut Draw, n: u64) {
+    let stepped = |s: [u64; 4]| {
+        let mut g = Xoshiro256::from_state(s);
+        g.next_u64();
+        g.state()
+    };
+    let back = |mut s: [u64; 4]| {
+        rattle::step_back(&mut s);
+        s
+    };
+    let xored = |a: [u64; 4], b: [u64; 4]| [a[0] ^ b[0], a[1] ^ b[1], a[2] ^ b[2], a[3] ^ b[3]];
+    let special = special_states();
+    report.compare("Xoshiro256 step_back", |case| {
+        let mut one = |s: [u64; 4]| {
+            let (after, before) = (back(stepped(s)), stepped(back(s)));
+            case(after == s && before == s, &|| format!("state {s:x?}: step and back {after:x?}, back and step {before:x?}"));
+        };
+        special.iter().for_each(|&s| one(s));
+        for _ in 0..n {
+            one(draw.state());
+        }
+    });
+    report.compare("Xoshiro256 is linear", |case| {
+        let mut one = |s: [u64; 4], t: [u64; 4]| {
+            let mut both = xored(s, t);
+            rattle::next_u64(&mut both);
+            let apart = xored(stepped(s), stepped(t));
+            case(both == apart, &|| format!("states {s:x?} and {t:x?}: {both:x?}, apart {apart:x?}"));
+        };
+        for &s in &special {
+            one(s, [1, 2, 3, 4]);
+            one(s, s);
+        }
+        for _ in 0..n {
+            one(draw.state(), draw.state());
         }
     });
 }

@@ -8,6 +8,7 @@ mod c {
         pub fn cild_splitmix64(seed: u64, state: *mut [u64; 4]);
         pub fn cild_next_u64(state: *mut [u64; 4]) -> u64;
         pub fn cild_uniform(state: *mut [u64; 4]) -> f64;
+        pub fn cild_step_back(state: *mut [u64; 4]);
         pub fn cild_frexp(x: f64, exp: *mut i32) -> f64;
         pub fn cild_plog(x: f64) -> f64;
         pub fn cild_combinations(m: i64, w: i64, value: *mut f64) -> bool;
@@ -110,6 +111,10 @@ pub fn next_u64(state: &mut [u64; 4]) -> u64 {
 
 pub fn uniform(state: &mut [u64; 4]) -> f64 {
     unsafe { c::cild_uniform(state) }
+}
+
+pub fn step_back(state: &mut [u64; 4]) {
+    unsafe { c::cild_step_back(state) }
 }
 
 pub fn frexp(x: f64) -> (f64, i32) {

@@ -4,6 +4,7 @@ ghost use lib.ListN.{length};
 ghost use Rattle.rng.specs.State.{words};
 ghost use Rattle.rng.specs.Splitmix.{seeded};
 ghost use Rattle.rng.specs.Xoshiro as Xoshiro;
+ghost use Rattle.rng.specs.Laws.{stepBack};
 ghost use Rattle.c_face.specs.Drawn.{drawn, after};
 use rng::Xoshiro256;
 
@@ -32,6 +33,15 @@ pub extern "C" fn cild_uniform(state: &mut [u64; 4]) -> f64
     let rng = drawn.rng;
     *state = rng.state();
     drawn.value
+}
+
+// The state before its last step.
+#[no_mangle]
+pub extern "C" fn cild_step_back(state: &mut [u64; 4])
+    ensures { λ _. ⌜ words (now (state .exit)) ≡ stepBack (words (now (state .entry))) ⌝ }
+{
+    let rng = Xoshiro256::from_state(*state).step_back();
+    *state = rng.state();
 }
 
 // As many outputs as out has room for.

@@ -1,1 +1,5 @@
 pub mod Floats
+pub mod Xor
+pub mod Turned
+pub mod Linear
+pub mod Reversed
