@@ -163,6 +163,56 @@ fn measure_diffusions() {
     }
 }
 
+/// Microseconds to read each net text of the folder, and one of 8,192 bytes: the least time of many rounds.
+pub fn bench_reader(folder: &str) {
+    let mut texts: Vec<(String, Vec<u8>)> = std::fs::read_dir(folder)
+        .unwrap()
+        .map(|entry| entry.unwrap().path())
+        .filter(|path| path.extension().is_some_and(|e| e == "net"))
+        .map(|path| (path.file_name().unwrap().to_string_lossy().into_owned(), std::fs::read(&path).unwrap()))
+        .collect();
+    texts.sort();
+    let first = String::from_utf8(texts.iter().find(|t| t.0 == "sample.net").expect("no sample.net").1.clone()).unwrap();
+    texts.push(("8,192 bytes".into(), full_text(&first).into_bytes()));
+    println!("{:34} {:>8} {:>8} {:>8}", "microseconds to read a net text", "bytes", "ours", "MB/s");
+    for (name, text) in texts {
+        let mut best = f64::INFINITY;
+        for _ in 0..ROUNDS {
+            let began = Instant::now();
+            black_box(rattle::read(black_box(&text)));
+            best = best.min(began.elapsed().as_nanos() as f64 / 1000.0);
+        }
+        println!("{name:34} {:>8} {best:8.2} {:8.0}   refusal and line {:?}", text.len(), text.len() as f64 / best, rattle::read(&text));
+    }
+}
+
+/// The places of a text, and transitions of 16 arcs up to 8,192 bytes in all, the last one with as many arcs as there is room for.
+fn full_text(text: &str) -> String {
+    let places = &text[..text.find("(move").unwrap()];
+    let run = &text[text.find("(run").unwrap()..];
+    let mut moves = String::new();
+    let left = |moves: &str| 8192 - places.len() - moves.len() - run.len();
+    let arc = " (put 1 1000000)";
+    let head = "(move 3ff0000000000000 0000000000000000";
+    while left(&moves) > 2 * (head.len() + 16 * arc.len() + 2) {
+        moves += &format!("{head}{})\n", arc.repeat(16));
+    }
+    // what is left, in two lines, is filled by weights of one to seven digits
+    for share in [2, 1] {
+        let mut body = left(&moves) / share - head.len() - 2;
+        moves += head;
+        while body > 0 {
+            let digits = if body < 2 * arc.len() { (body / body.div_ceil(arc.len())).min(arc.len()) } else { arc.len() } - (arc.len() - 7);
+            moves += &format!(" (put 1 {})", &"1000000"[..digits]);
+            body -= arc.len() - 7 + digits;
+        }
+        moves += ")\n";
+    }
+    let full = format!("{places}{moves}{run}");
+    assert_eq!(full.len(), 8192);
+    full
+}
+
 /// Steps of a path in a second, from the least time of some rounds. Both sides have to give the answer
 /// that the harness works out; filling their records is not timed.
 fn measure_paths() {

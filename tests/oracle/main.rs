@@ -36,8 +36,9 @@ fn main() {
             ensembles::record(ensembles);
         }
         ["bench"] => bench::bench(),
+        ["bench-reader", folder] => bench::bench_reader(folder),
         _ => {
-            eprintln!("compare SEED INPUTS | paths SEED COUNT FILE | ensembles SEED COUNT FOLDER | record FOLDER FOLDER FOLDER FILE | bench");
+            eprintln!("compare SEED INPUTS | paths SEED COUNT FILE | ensembles SEED COUNT FOLDER | record FOLDER FOLDER FOLDER FILE | bench | bench-reader FOLDER");
             std::process::exit(2);
         }
     }

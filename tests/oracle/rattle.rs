@@ -20,6 +20,7 @@ mod c {
         pub fn cild_roots(xs: *mut f64, len: usize);
         pub fn cild_outputs(state: *mut [u64; 4], out: *mut u64, len: usize);
         pub fn cild_uniforms(state: *mut [u64; 4], out: *mut f64, len: usize);
+        pub fn cild_read(text: *const u8, len: usize, told: *mut [u64; 2]);
         pub fn cild_path(
             places: usize,
             transitions: usize,
@@ -216,6 +217,13 @@ macro_rules! lend {
             c::$function($f.places, $f.transitions, &$f.initial, &$f.capacity, &$f.rate, &$f.delay, &$f.arcs, &$f.kind, &$f.place, &$f.weight, $($more),*)
         }
     };
+}
+
+/// The number and line by which a net text is turned down, or 0 and 0.
+pub fn read(text: &[u8]) -> [u64; 2] {
+    let mut told = [0; 2];
+    unsafe { c::cild_read(text.as_ptr(), text.len(), &mut told) };
+    told
 }
 
 /// The end's number (a refusal's own; 100 quiet, 101 spent, 102 reached), the steps, the settled instants, the peak.
