@@ -4,10 +4,10 @@ use native.Mathlib.Omega.{arith}
 use mathlib.Core.Path.{_≡_}
 use Prim.Native.Nat.{_+_, _-_}
 use Rattle.net.specs.Readable.{slots}
-use Rattle.sde.specs.Slots.{sortOf, countIf}
-use Rattle.sde.proofs.Counted.{count-most, count-turn, count-end}
-use Rattle.sde.proofs.gated.count_slots.Statement.{statement}
-use Rattle.sde.proofs.gated.count_slots.Tie as tie
+use Rattle.gates.specs.Slots.{sortOf, countIf}
+use Rattle.gates.proofs.Counted.{count-most, count-turn, count-end}
+use Rattle.gates.proofs.count_slots.Statement.{statement}
+use Rattle.gates.proofs.count_slots.Tie as tie
 
 abbrev Inv-loop : tie.InvT-loop
 Inv-loop gate kind place weight from end n₀ a₀ n a =

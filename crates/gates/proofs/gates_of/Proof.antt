@@ -1,10 +1,11 @@
 -- Each part is what its function says. Assumes nothing.
+use native.Mathlib.Omega.{arith}
 use Rattle.net.specs.declared.Net.{Net as NetRecord}
 use Rattle.net.specs.Record.{lent}
-use Rattle.sde.proofs.Mask.{gates-all}
+use Rattle.gates.proofs.Mask.{mask-fits, gates-all}
 use borrow.Author.Needs.{needs}
-use Rattle.sde.proofs.gated.gates_of.Statement.{statement}
-use Rattle.sde.proofs.gated.gates_of.Tie as tie
+use Rattle.gates.proofs.gates_of.Statement.{statement}
+use Rattle.gates.proofs.gates_of.Tie as tie
 
 abbrev netAt : tie.Start → NetRecord
 netAt s =
@@ -29,7 +30,10 @@ delayed-requires c κs = search needs
 returns : tie.Need-returns
 returns c =
     let s = c .before .before .before .before .before in
-    gates-all (netAt s) _ (s .pre .places) (c .before .before .before .before .count .ensures) (c .before .before .before .count2 .ensures) (c .before .before .count3 .ensures) (c .before .bounded-mask .ensures) (c .delayed .ensures)
+    (
+      gates-all (netAt s) _ (s .pre .places) (c .before .before .before .before .count .ensures) (c .before .before .before .count2 .ensures) (c .before .before .count3 .ensures) (c .before .bounded-mask .ensures) (c .delayed .ensures),
+      omega (arith, c .before .bounded-mask .ensures, mask-fits (netAt s) 0 (s .args .places) (s .pre .places)),
+    )
 
 pub gates-of-spec : {M : Type 1} → statement M
 gates-of-spec =

@@ -1,14 +1,14 @@
 -- From the last place down: the mask is that of the places from p on. Assumes nothing.
 use Rattle.net.specs.declared.Net.{Net as NetRecord}
 use Rattle.net.specs.Record.{lent}
-use Rattle.sde.specs.Slots.{boundedAt, maskFrom}
-use Rattle.sde.proofs.Mask.{one-most, mask-front, mask-none, mask-fits}
+use Rattle.gates.specs.Slots.{boundedAt, maskFrom}
+use Rattle.gates.proofs.Mask.{one-most, mask-front, mask-none, mask-fits}
 use borrow.Author.Needs.{needs}
 use native.Mathlib.Omega.{arith}
 use mathlib.Core.Path.{_≡_, refl, ap, _∙_}
 use Prim.Native.Nat.{ℕ, _-_, _≤_}
-use Rattle.sde.proofs.gated.bounded_mask.Statement.{statement}
-use Rattle.sde.proofs.gated.bounded_mask.Tie as tie
+use Rattle.gates.proofs.bounded_mask.Statement.{statement}
+use Rattle.gates.proofs.bounded_mask.Tie as tie
 
 abbrev Inv-loop : tie.InvT-loop
 Inv-loop places transitions initial capacity rate delay arcs kind place weight mask₀ p₀ mask p =

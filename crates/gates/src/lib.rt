@@ -1,16 +1,25 @@
 // What a continuous run cannot express: reads, inhibitors, takes that are not kinetic, capacities that bound, delays.
 ghost use mathlib.Core.Path.{_≡_};
-ghost use Prim.Native.Nat.{_+_, _-_, _*_, _<_, _≤_};
+ghost use Prim.Native.Nat.{_+_, _-_, _*_, _^_, _<_, _≤_};
 ghost use Rattle.net.specs.Net as Reader;
 ghost use Rattle.net.specs.Tests as Tests;
 ghost use Rattle.net.specs.declared.Net.{Net as NetRecord};
 ghost use Rattle.net.specs.Readable as Record;
 ghost use Rattle.net.specs.Record.{lent};
 ghost use Rattle.net.specs.Sound as Sound;
-ghost use Rattle.sde.specs.Gated as Spec;
-ghost use Rattle.sde.specs.Slots as Slots;
-use crate::Gates;
+ghost use Rattle.gates.specs.Gated as Spec;
+ghost use Rattle.gates.specs.Slots as Slots;
 use engine::slots;
+
+// How many reads, inhibitors and takes that are not kinetic there are, the bounded places as the bits of a mask (place p is bit p), and whether a
+// transition is delayed.
+pub struct Gates {
+    pub reads: u64,
+    pub inhibitors: u64,
+    pub nonkinetic: u64,
+    pub bounded: u64,
+    pub delayed: bool,
+}
 
 enum Gate {
     Read,
@@ -238,7 +247,7 @@ fn bounded_mask<'a>(
     mask
 }
 
-// All that gates the net whose fields are lent.
+// All that gates the net whose fields are lent. Its mask has a bit for each of 32 places.
 pub fn gates_of<'a>(
     places: usize,
     transitions: usize,
@@ -254,7 +263,7 @@ pub fn gates_of<'a>(
     ghost { NetRecord }
     requires { λ net. ⌜ lent places transitions (now initial) (now capacity) (now rate) (now delay) (now arcs) (now kind) (now place) (now weight) ≡ net ⌝ }
     requires { λ net. ⌜ Sound.Sound net ⌝ }
-    ensures { λ net r. ⌜ Spec.gatesOf r ≡ Spec.gates (Record.readable net) ⌝ }
+    ensures { λ net r. ⌜ (Spec.gatesOf r ≡ Spec.gates (Record.readable net)) × (r .bounded < 2 ^ 32) ⌝ }
 {
     let reads = count(
         Gate::Read,

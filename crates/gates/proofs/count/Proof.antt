@@ -1,14 +1,14 @@
 -- The count so far with that of the transitions from j on is the whole. Assumes nothing.
 use Rattle.net.specs.declared.Net.{Net as NetRecord}
 use Rattle.net.specs.Record.{lent}
-use Rattle.sde.specs.Slots.{sortOf, countFrom}
-use Rattle.sde.proofs.Counted.{count-span, all-most, from-whole, from-turn, from-end}
+use Rattle.gates.specs.Slots.{sortOf, countFrom}
+use Rattle.gates.proofs.Counted.{count-span, all-most, from-whole, from-turn, from-end}
 use borrow.Author.Needs.{needs}
 use native.Mathlib.Omega.{arith}
 use mathlib.Core.Path.{_≡_}
 use Prim.Native.Nat.{_+_, _-_, _≤_}
-use Rattle.sde.proofs.gated.count.Statement.{statement}
-use Rattle.sde.proofs.gated.count.Tie as tie
+use Rattle.gates.proofs.count.Statement.{statement}
+use Rattle.gates.proofs.count.Tie as tie
 
 abbrev Inv-loop : tie.InvT-loop
 Inv-loop gate places transitions initial capacity rate delay arcs kind place weight n₀ j₀ n j =

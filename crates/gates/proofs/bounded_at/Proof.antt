@@ -2,10 +2,10 @@
 use mathlib.Core.Bool.{true, false}
 use Rattle.net.specs.declared.Net.{Net as NetRecord}
 use Rattle.net.specs.Record.{lent}
-use Rattle.sde.proofs.Mask.{bounded-free, bounded-by}
+use Rattle.gates.proofs.Mask.{bounded-free, bounded-by}
 use borrow.Author.Needs.{needs}
-use Rattle.sde.proofs.gated.bounded_at.Statement.{statement}
-use Rattle.sde.proofs.gated.bounded_at.Tie as tie
+use Rattle.gates.proofs.bounded_at.Statement.{statement}
+use Rattle.gates.proofs.bounded_at.Tie as tie
 
 abbrev netAt : tie.Start → NetRecord
 netAt s =

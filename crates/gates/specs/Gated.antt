@@ -8,7 +8,7 @@ use lib.Dec.{eqb, ltb}
 use lib.ListN.{length}
 use Rattle.net.specs.Net.{Place, Take, Transition, Net, pick, timed, moved, takenBy}
 use Rattle.net.specs.Tests.{any, empty}
-use Rattle.sde.specs.declared.Gates.{Gates as GatesStruct}
+use Rattle.gates.specs.declared.Gates.{Gates as GatesStruct}
 
 -- ---- the three counts
 

@@ -3,14 +3,14 @@ use Rattle.net.specs.declared.Net.{Net as NetRecord}
 use Rattle.net.specs.Tests.{any}
 use Rattle.net.specs.Record.{lent}
 use Rattle.net.specs.Readable.{transitionsFrom}
-use Rattle.sde.specs.Gated.{raises}
-use Rattle.sde.proofs.Arcs.{light, any-whole, any-stop, any-go, any-end, raises-yes, raises-no}
+use Rattle.gates.specs.Gated.{raises}
+use Rattle.gates.proofs.Arcs.{light, any-whole, any-stop, any-go, any-end, raises-yes, raises-no}
 use borrow.Author.Needs.{needs}
 use native.Mathlib.Omega.{arith}
 use mathlib.Core.Path.{_≡_}
 use Prim.Native.Nat.{_-_}
-use Rattle.sde.proofs.gated.raised.Statement.{statement}
-use Rattle.sde.proofs.gated.raised.Tie as tie
+use Rattle.gates.proofs.raised.Statement.{statement}
+use Rattle.gates.proofs.raised.Tie as tie
 
 abbrev Inv-loop : tie.InvT-loop
 Inv-loop places transitions initial capacity rate delay arcs kind place weight p j₀ j =

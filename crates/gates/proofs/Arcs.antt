@@ -15,7 +15,7 @@ use Rattle.net.specs.Readable.{Slot, takesOf, arcsOf, isPut, transition, transi
 use borrow.Author.Tests.{lt-ltb, le-ltb}
 use Rattle.engine.specs.Arcs.{Light}
 use Rattle.engine.proofs.Arcs.{span, slots-of}
-use Rattle.sde.specs.Gated.{raises}
+use Rattle.gates.specs.Gated.{raises}
 
 -- the slots of transition j of an accepted net
 pub light : (n : NetRecord) → Sound n → (j : ℕ) → j < n .transitions → Light (16 * j) (16 * j + getD (n .arcs) j 0) (n .weight)

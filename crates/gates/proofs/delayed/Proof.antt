@@ -4,12 +4,12 @@ use Rattle.net.specs.Net.{timed}
 use Rattle.net.specs.Tests.{any}
 use Rattle.net.specs.Record.{lent}
 use Rattle.net.specs.Readable.{transitionsFrom}
-use Rattle.sde.proofs.Arcs.{any-whole, any-stop, any-go, any-end}
+use Rattle.gates.proofs.Arcs.{any-whole, any-stop, any-go, any-end}
 use borrow.Author.Needs.{needs}
 use mathlib.Core.Path.{_≡_}
 use Prim.Native.Nat.{_-_}
-use Rattle.sde.proofs.gated.delayed.Statement.{statement}
-use Rattle.sde.proofs.gated.delayed.Tie as tie
+use Rattle.gates.proofs.delayed.Statement.{statement}
+use Rattle.gates.proofs.delayed.Tie as tie
 
 abbrev Inv-loop : tie.InvT-loop
 Inv-loop places transitions initial capacity rate delay arcs kind place weight j₀ j =

@@ -1,8 +1,8 @@
 -- The tests in the definition's order; a mask of 64 bits is above 0 just where one is set. Assumes nothing.
 use native.Mathlib.Omega.{arith}
-use Rattle.sde.proofs.Mask.{gated-reads, gated-inhibitors, gated-nonkinetic, gated-bounded, gated-delayed}
-use Rattle.sde.proofs.gated.is_gated.Statement.{statement}
-use Rattle.sde.proofs.gated.is_gated.Tie as tie
+use Rattle.gates.proofs.Mask.{gated-reads, gated-inhibitors, gated-nonkinetic, gated-bounded, gated-delayed}
+use Rattle.gates.proofs.is_gated.Statement.{statement}
+use Rattle.gates.proofs.is_gated.Tie as tie
 
 returns : tie.Need-returns
 returns c = gated-reads (c .before .before .args .g) (omega arith) (c .if1 .taken)

@@ -4,10 +4,10 @@ use borrow.Author.Tests.{eq-eqb, ne-eqb, le-leb, lt-leb}
 use Prim.Native.Nat.{ℕ}
 use mathlib.Core.Path.{_≡_, sym, ap, _∙_}
 use mathlib.Core.Bool.{Bool}
-use Rattle.sde.specs.declared.gated.Gate.{Gate}
-use Rattle.sde.specs.Slots.{oneIf, sortOf}
-use Rattle.sde.proofs.gated.one_if.Statement.{statement}
-use Rattle.sde.proofs.gated.one_if.Tie as tie
+use Rattle.gates.specs.declared.Gate.{Gate}
+use Rattle.gates.specs.Slots.{oneIf, sortOf}
+use Rattle.gates.proofs.one_if.Statement.{statement}
+use Rattle.gates.proofs.one_if.Tie as tie
 
 -- by the arm, and the test in it
 said : (kind : ℕ) {g h : Gate} {b : Bool} → g ≡ h → sortOf h kind ≡ b → oneIf b ≡ oneIf (sortOf g kind)

@@ -14,8 +14,8 @@ use Rattle.net.specs.Net.{Arc, Take, Transition, pick}
 use Rattle.net.specs.Sound.{Sound}
 use Rattle.net.specs.Readable.{Slot, slots, slotsOf, takesOf, arcsOf, isRead, isBlock, transition, transitionsFrom}
 use Rattle.net.proofs.Slots.{slots-step, slots-end}
-use Rattle.sde.specs.Gated.{over, readsOf, inhibitorsOf, nonKinetic, nonKineticOf}
-use Rattle.sde.specs.Slots.{oneIf, countIf, countFrom}
+use Rattle.gates.specs.Gated.{over, readsOf, inhibitorsOf, nonKinetic, nonKineticOf}
+use Rattle.gates.specs.Slots.{oneIf, countIf, countFrom}
 
 -- ---- slot by slot
 
