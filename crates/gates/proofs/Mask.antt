@@ -26,23 +26,10 @@ one-most false = omega arith
 
 -- ---- bits
 
-pow-next : (k : ℕ) → 2 ^ suc k ≡ 2 * 2 ^ k
-pow-next k = pow-succ' 2 k
-
 bits-zero : (p k : ℕ) → bitsFrom p k 0 ≡ []
 unfolding bitsFrom
 bits-zero p zero = refl
 bits-zero p (suc k) = bits-zero (suc p) k
-
--- bits past those of a small number are not set
-pub bits-few : (p k j x : ℕ) → k ≤ j → x < 2 ^ k → bitsFrom p j x ≡ bitsFrom p k x
-unfolding bitsFrom
-bits-few p zero j x h l =
-    let d : x ≡ 0 = omega arith in
-    ap (bitsFrom p j) d ∙ bits-zero p j
-bits-few p (suc k) zero x h l = absurd (omega arith)
-bits-few p (suc k) (suc j) x h l =
-    ap (λ (ps : List ℕ). pick (eqb (x % 2) 1) (p ∷ ps) ps) (bits-few (suc p) k j (x / 2) (omega arith) (omega (arith, pow-next k)))
 
 -- a bit in front of a mask
 bits-front : (p k m : ℕ) (b : Bool) → bitsFrom p (suc k) (oneIf b + 2 * m) ≡ pick b (p ∷ bitsFrom (suc p) k m) (bitsFrom (suc p) k m)
@@ -55,6 +42,9 @@ bits-front p k m false =
     let r : (0 + 2 * m) % 2 ≡ 0 = omega arith in
     let d : (0 + 2 * m) / 2 ≡ m = omega arith in
     λ i. pick (eqb (r i) 1) (p ∷ bitsFrom (suc p) k (d i)) (bitsFrom (suc p) k (d i))
+
+pow-next : (k : ℕ) → 2 ^ suc k ≡ 2 * 2 ^ k
+pow-next k = pow-succ' 2 k
 
 empty-pick : (b : Bool) (p : ℕ) (ps : List ℕ) → not (empty (pick b (p ∷ ps) ps)) ≡ pick b true (not (empty ps))
 empty-pick true p ps = refl

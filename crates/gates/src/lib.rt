@@ -1,6 +1,6 @@
 // What a continuous run cannot express: reads, inhibitors, takes that are not kinetic, capacities that bound, delays.
 ghost use mathlib.Core.Path.{_≡_};
-ghost use Prim.Native.Nat.{_+_, _-_, _*_, _^_, _<_, _≤_};
+ghost use Prim.Native.Nat.{_+_, _-_, _*_, _<_, _≤_};
 ghost use Rattle.net.specs.Net as Reader;
 ghost use Rattle.net.specs.Tests as Tests;
 ghost use Rattle.net.specs.declared.Net.{Net as NetRecord};
@@ -247,7 +247,7 @@ fn bounded_mask<'a>(
     mask
 }
 
-// All that gates the net whose fields are lent. Its mask has a bit for each of 32 places.
+// All that gates the net whose fields are lent.
 pub fn gates_of<'a>(
     places: usize,
     transitions: usize,
@@ -263,7 +263,7 @@ pub fn gates_of<'a>(
     ghost { NetRecord }
     requires { λ net. ⌜ lent places transitions (now initial) (now capacity) (now rate) (now delay) (now arcs) (now kind) (now place) (now weight) ≡ net ⌝ }
     requires { λ net. ⌜ Sound.Sound net ⌝ }
-    ensures { λ net r. ⌜ (Spec.gatesOf r ≡ Spec.gates (Record.readable net)) × (r .bounded < 2 ^ 32) ⌝ }
+    ensures { λ net r. ⌜ Spec.gatesOf r ≡ Spec.gates (Record.readable net) ⌝ }
 {
     let reads = count(
         Gate::Read,

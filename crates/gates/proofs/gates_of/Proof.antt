@@ -1,8 +1,7 @@
 -- Each part is what its function says. Assumes nothing.
-use native.Mathlib.Omega.{arith}
 use Rattle.net.specs.declared.Net.{Net as NetRecord}
 use Rattle.net.specs.Record.{lent}
-use Rattle.gates.proofs.Mask.{mask-fits, gates-all}
+use Rattle.gates.proofs.Mask.{gates-all}
 use borrow.Author.Needs.{needs}
 use Rattle.gates.proofs.gates_of.Statement.{statement}
 use Rattle.gates.proofs.gates_of.Tie as tie
@@ -30,10 +29,7 @@ delayed-requires c κs = search needs
 returns : tie.Need-returns
 returns c =
     let s = c .before .before .before .before .before in
-    (
-      gates-all (netAt s) _ (s .pre .places) (c .before .before .before .before .count .ensures) (c .before .before .before .count2 .ensures) (c .before .before .count3 .ensures) (c .before .bounded-mask .ensures) (c .delayed .ensures),
-      omega (arith, c .before .bounded-mask .ensures, mask-fits (netAt s) 0 (s .args .places) (s .pre .places)),
-    )
+    gates-all (netAt s) _ (s .pre .places) (c .before .before .before .before .count .ensures) (c .before .before .before .count2 .ensures) (c .before .before .count3 .ensures) (c .before .bounded-mask .ensures) (c .delayed .ensures)
 
 pub gates-of-spec : {M : Type 1} → statement M
 gates-of-spec =

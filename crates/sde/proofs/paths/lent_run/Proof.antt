@@ -16,7 +16,7 @@ is-gated-requires : tie.Need-is-gated-requires
 is-gated-requires c κs = search needs
 
 returns : tie.Need-returns
-returns c = by-gated (c .before .before .gates-of .result) _ (c .before .before .gates-of .ensures .0) (c .before .is-gated .result) (c .before .is-gated .ensures) _ _ (c .if1 .taken)
+returns c = by-gated (c .before .before .gates-of .result) _ (c .before .before .gates-of .ensures) (c .before .is-gated .result) (c .before .is-gated .ensures) _ _ (c .if1 .taken)
 
 fill-rates-requires : tie.Need-fill-rates-requires
 fill-rates-requires c κs = search needs
@@ -80,7 +80,7 @@ returns-2 c =
     let s = c .before .before .before .before .before .before .before .before .before .before .before .before .before .before .before .before .before .before .before .before .before .before .before .before .before .before .before .before .before .before .before .before in
     let g = s .args in
     let r = c .before .before .before .before .before .before .before .before .before .before .before .before .before .before .before .before .before .before .before .before .before .before .before .before .fill-rates in
-    by-free (c .before .before .before .before .before .before .before .before .before .before .before .before .before .before .before .before .before .before .before .before .before .before .before .before .before .before .before .before .gates-of .result) _ (c .before .before .before .before .before .before .before .before .before .before .before .before .before .before .before .before .before .before .before .before .before .before .before .before .before .before .before .before .gates-of .ensures .0) (c .before .before .before .before .before .before .before .before .before .before .before .before .before .before .before .before .before .before .before .before .before .before .before .before .before .before .before .is-gated .result) (c .before .before .before .before .before .before .before .before .before .before .before .before .before .before .before .before .before .before .before .before .before .before .before .before .before .before .before .is-gated .ensures) _ _ (c .before .before .before .before .before .before .before .before .before .before .before .before .before .before .before .before .before .before .before .before .before .before .before .before .before .before .if1 .left)
+    by-free (c .before .before .before .before .before .before .before .before .before .before .before .before .before .before .before .before .before .before .before .before .before .before .before .before .before .before .before .before .gates-of .result) _ (c .before .before .before .before .before .before .before .before .before .before .before .before .before .before .before .before .before .before .before .before .before .before .before .before .before .before .before .before .gates-of .ensures) (c .before .before .before .before .before .before .before .before .before .before .before .before .before .before .before .before .before .before .before .before .before .before .before .before .before .before .before .is-gated .result) (c .before .before .before .before .before .before .before .before .before .before .before .before .before .before .before .before .before .before .before .before .before .before .before .before .before .before .before .is-gated .ensures) _ _ (c .before .before .before .before .before .before .before .before .before .before .before .before .before .before .before .before .before .before .before .before .before .before .before .before .before .before .if1 .left)
     (c .before .before .before .before .before .before .averaged .ensures
     ∙ ap (tabulated (g .places * g .samples) (record { mean = g .mean .now; deviation = g .deviation .now; path = g .path .now }))
     (members-same (g .places) (g .transitions) (g .initial .now) (g .capacity .now) (g .rate .now) (r .last .1 .1 .1 .0) (g .delay .now) (g .arcs .now) (g .kind .now) (g .place .now) (g .weight .now) (r .ensures)

@@ -1,8 +1,8 @@
--- `label_of` meets its contract: by its two tests there is no label, else the part is the label's (Names).
+-- `label_of` meets its contract: by its two tests there is no label, else the part is the label's (Naming).
 use borrow.Author.Needs.{needs}
-use Rattle.pathrun_text.proofs.Names.{behind, too-long, label-is}
-use Rattle.pathrun_text.proofs.lines.label_of.Statement.{statement}
-use Rattle.pathrun_text.proofs.lines.label_of.Tie as tie
+use Rattle.net.proofs.Naming.{none-behind, none-over, label-taken}
+use Rattle.net.proofs.label_of.Statement.{statement}
+use Rattle.net.proofs.label_of.Tie as tie
 
 sub-result : tie.Need-sub-result
 sub-result c = search needs
@@ -16,7 +16,7 @@ part-result-end c = search needs
 returns : tie.Need-returns
 returns c =
     let a = c .before .before .before .before .args in
-    behind (a .label .now) (a .lengths .now) (a .place) (c .before .if1 .taken)
+    none-behind (a .label .now) (a .lengths .now) (a .p) (c .before .if1 .taken)
 
 mul-n : tie.Need-mul-n
 mul-n c = search needs
@@ -36,7 +36,7 @@ part-result-end-2 c = search needs
 returns-2 : tie.Need-returns-2
 returns-2 c =
     let a = c .before .before .before .before .before .before .args in
-    too-long (a .label .now) (a .lengths .now) (a .place) (c .before .if2 .taken)
+    none-over (a .label .now) (a .lengths .now) (a .p) (c .before .if2 .taken)
 
 mul-from : tie.Need-mul-from
 mul-from c = search needs
@@ -56,7 +56,7 @@ part-result-end-3 c = search needs
 returns-3 : tie.Need-returns-3
 returns-3 c =
     let a = c .before .before .before .before .before .before .args in
-    label-is (a .label .now) (a .lengths .now) (a .place) (c .before .if2 .left)
+    label-taken (a .label .now) (a .lengths .now) (a .p) (c .before .if2 .left)
 
 pub label-of-spec : {M : Type 1} → statement M
 label-of-spec =
