@@ -3,4 +3,5 @@ pub mod Told
 pub mod Played
 pub mod Averaged
 pub mod Diffused
+pub mod Reasoned
 pub mod Normals

@@ -1,10 +1,11 @@
-// The leaf functions, the path, the ensemble and the diffusion under plain names, for a program in C or Rust to call. Those on slices do in one call
-// what as many calls would.
+// The leaf functions, the path, the ensemble, the diffusion and its objections to a net under plain names, for a program in C or Rust to call. Those on
+// slices do in one call what as many calls would.
 mod diffusion;
 mod ensemble;
 mod generator;
 mod leaves;
 mod path;
+mod reason;
 mod sampler;
 mod slices;
 

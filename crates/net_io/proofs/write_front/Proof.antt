@@ -2,8 +2,8 @@
 use borrow.Author.Needs.{needs}
 use mathlib.Core.Path.{sym}
 use lib.Seq.{length-take-le}
-use Rattle.pathrun.proofs.write_front.Statement.{statement}
-use Rattle.pathrun.proofs.write_front.Tie as tie
+use Rattle.net_io.proofs.write_front.Statement.{statement}
+use Rattle.net_io.proofs.write_front.Tie as tie
 
 slice-aggregate-write-all : tie.Need-slice-aggregate-write-all
 slice-aggregate-write-all c = sym (length-take-le _ _ (c .before .if1 .taken))

@@ -4,8 +4,8 @@ use native.Mathlib.Omega.{arith}
 use mathlib.Core.Path.{_≡_, refl}
 use Prim.Native.Nat.{_-_}
 use lib.ListN.{length}
-use Rattle.pathrun.proofs.read_input.Statement.{statement}
-use Rattle.pathrun.proofs.read_input.Tie as tie
+use Rattle.net_io.proofs.read_input.Statement.{statement}
+use Rattle.net_io.proofs.read_input.Tie as tie
 
 abbrev Inv-loop : tie.InvT-loop
 Inv-loop text₀ n₀ text n = length text ≡ length text₀
