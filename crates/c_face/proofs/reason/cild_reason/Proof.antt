@@ -18,8 +18,7 @@ same-length c = search needs
 
 returns : tie.Need-returns
 returns c =
-    let s = c .before .before .before in
-    (
+    let s = c .before .before .before in (
       c .reason-numbers .ensures ∙ ap (λ (x : Bytes × ReasonAnswer). toldOf (x .1)) (s .reason .ensures),
       ap (λ (x : Bytes × ReasonAnswer). x .0) (s .reason .ensures),
     )
