@@ -34,18 +34,19 @@ fn agrees(fields: &rattle::Fields, expected: Result<&str, u64>, lent: usize) -> 
     rattle::reason(fields, &mut buffer[..lent]) == told && buffer == left
 }
 
-/// A net of few or many arcs of every kind; one in four is not gated, one in eight is damaged.
+/// A net of few or many arcs, with any of the five kinds of gate; one in eight is damaged.
 fn drawn(draw: &mut Draw) -> Net {
-    let places = 1 + draw.below(one_of(draw, &[2, 5, 32])) as usize;
-    let [read, block, plain, bounded, timed] = std::array::from_fn(|_| draw.below(4) / 3 * draw.below(4));
+    let (most_places, most_moves) = one_of(draw, &[(2, 3), (5, 3), (5, 9), (32, 9), (32, 65)]);
+    let places = 1 + draw.below(most_places) as usize;
+    let [read, block, plain, bounded, timed] = std::array::from_fn(|_| draw.below(2) == 0);
     let places: Vec<Place> = (0..places)
         .map(|p| Place {
             initial: draw.below(9) as i64,
-            capacity: if draw.below(3) < bounded { 1 + draw.below(9) as i64 } else { 0 },
+            capacity: if bounded && draw.below(3) > 0 { 1 + draw.below(9) as i64 } else { 0 },
             label: if draw.below(2) == 0 { Label::numbered(p) } else { drawn_label(draw, p) },
         })
         .collect();
-    let moves = (0..draw.below(one_of(draw, &[3, 9, 65])))
+    let moves = (0..draw.below(most_moves))
         .map(|_| {
             let (mut taken, mut left) = (vec![false; places.len()], 16);
             let arcs: Vec<Arc> = (0..draw.below(17))
@@ -53,9 +54,9 @@ fn drawn(draw: &mut Draw) -> Net {
                     let (place, weight) = (draw.below(places.len() as u64) as usize, draw.below(4) as i64);
                     let amount = weight.max(1);
                     match draw.below(12) {
-                        0 if read > 0 => Some(Arc::Read { place, weight }),
-                        1 if block > 0 => Some(Arc::Block { place, weight }),
-                        2..=4 if plain > 0 && !taken[place] => {
+                        0 if read => Some(Arc::Read { place, weight }),
+                        1 if block => Some(Arc::Block { place, weight }),
+                        2..=4 if plain && !taken[place] => {
                             taken[place] = true;
                             Some(Arc::Take { place, weight, kinetic: false })
                         }
@@ -68,7 +69,7 @@ fn drawn(draw: &mut Draw) -> Net {
                     }
                 })
                 .collect();
-            let delayed = draw.below(4) < timed && taken.contains(&true);
+            let delayed = timed && draw.below(2) == 0 && taken.contains(&true);
             Move { rate: one_of(draw, &[0.0, 1.0, 0.5]), delay: if delayed { 0.5 } else { one_of(draw, &[0.0, -0.0]) }, arcs }
         })
         .collect();

@@ -4,8 +4,8 @@ mod diffusion;
 mod ensemble;
 mod generator;
 mod leaves;
+mod objections;
 mod path;
-mod reason;
 mod sampler;
 mod slices;
 

@@ -1,6 +1,6 @@
-// Reads a net text from standard input and writes why the diffusion has no answer for its net, the text of `reason::reason`; nothing where nothing stands
-// against it. For a text that is turned down it writes the line that pathrun prints. The run line is not tested. Standard output has nothing else: that the
-// input cannot be read or the output cannot be written is said on standard error.
+// Reads a net text from standard input and writes a line that says why the diffusion has no answer for its net, the text of `reason::reason`; an empty line
+// where nothing stands against it. For a text that is turned down it writes the line that pathrun prints. The run line is not tested. Standard output has
+// nothing else: that the input cannot be read or the output cannot be written is said on standard error.
 use net_io::Input;
 use net_io::read_input;
 use net_io::say;
@@ -27,7 +27,10 @@ fn show_refused(number: u64, line: u64) {
 fn show_reason(net: net::Net) {
     let mut out = [0u8; 2080];
     match reason::reason(net, &mut out) {
-        ReasonAnswer::Length(n) => show(&out, n),
+        ReasonAnswer::Length(n) => {
+            show(&out, n);
+            show(b"\n", 1);
+        }
         ReasonAnswer::TurnedDown(number) => show_refused(number, 0),
     }
 }

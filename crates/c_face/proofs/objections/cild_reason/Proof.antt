@@ -1,11 +1,11 @@
--- `c_face::reason::cild_reason` meets its contract: what `reason` ensures of the fields lent. Assumes nothing.
+-- `c_face::objections::cild_reason` meets its contract: what `reason` ensures of the fields lent. Assumes nothing.
 use borrow.Author.Needs.{needs}
 use mathlib.Core.Path.{_≡_, ap, _∙_}
 use Rattle.text.specs.Text.{Bytes}
 use Rattle.reason.specs.declared.ReasonAnswer.{ReasonAnswer}
 use Rattle.c_face.specs.Reasoned.{toldOf}
-use Rattle.c_face.proofs.reason.cild_reason.Statement.{statement}
-use Rattle.c_face.proofs.reason.cild_reason.Tie as tie
+use Rattle.c_face.proofs.objections.cild_reason.Statement.{statement}
+use Rattle.c_face.proofs.objections.cild_reason.Tie as tie
 
 reason-requires : tie.Need-reason-requires
 reason-requires c κs = search needs

@@ -1,10 +1,10 @@
--- `c_face::reason::reason_numbers` meets its contract: the case that the answer is says its numbers. Assumes nothing.
+-- `c_face::objections::reason_numbers` meets its contract: the case that the answer is says its numbers. Assumes nothing.
 use borrow.Author.Needs.{needs}
 use mathlib.Core.Path.{sym, ap}
 use Rattle.reason.specs.declared.ReasonAnswer.{ReasonAnswer}
 use Rattle.c_face.specs.Reasoned.{toldOf}
-use Rattle.c_face.proofs.reason.reason_numbers.Statement.{statement}
-use Rattle.c_face.proofs.reason.reason_numbers.Tie as tie
+use Rattle.c_face.proofs.objections.reason_numbers.Statement.{statement}
+use Rattle.c_face.proofs.objections.reason_numbers.Tie as tie
 
 enum-known-answer : tie.Need-enum-known-answer
 enum-known-answer c = search needs
