@@ -94,7 +94,7 @@ fn then_bound(out: &mut [u8], before: Written, first: bool) -> Written
     )
 }
 
-// The sentence on bounded places, those whose bits are set in the mask.
+// The sentence on bounded places, those whose bits are set in the mask, in place order.
 fn then_labels<'a>(
     out: &mut [u8],
     before: Written,
@@ -174,7 +174,8 @@ fn deliver(out: &mut [u8], text: &[u8], n: usize) -> ReasonAnswer
     }
 }
 
-// Writes the text for what gates a net with these labels. Where nothing gates the text is empty.
+// Writes the text for what gates a net with these labels; it is empty where nothing does. 2,080 bytes hold every text: three counts of 64 bits and 64 labels
+// of 16 bytes, though a net has no more than 32.
 pub fn write_reason<'a>(
     out: &mut [u8],
     g: Gates,
