@@ -9,6 +9,7 @@ mod leaves;
 mod nets;
 mod paths;
 mod rattle;
+mod reasons;
 mod report;
 mod runs;
 mod sample;
@@ -24,6 +25,7 @@ fn main() {
             leaves::compare(&mut report, number(seed), number(inputs));
             runs::compare(&mut report, number(seed), number(inputs) / 1000);
             diffusions::compare(&mut report, number(seed), number(inputs) / 1000);
+            reasons::compare(&mut report, number(seed), number(inputs) / 100);
             println!("{} passed, {} failed", report.passed, report.failed);
             std::process::exit((report.failed > 0) as i32);
         }

@@ -92,6 +92,23 @@ mod c {
             paths: usize,
             told: *mut [u64; 7],
         );
+        pub fn cild_reason(
+            places: usize,
+            transitions: usize,
+            initial: *const [u64; 32],
+            capacity: *const [u64; 32],
+            label: *const [u8; 512],
+            lengths: *const [usize; 32],
+            rate: *const [f64; 64],
+            delay: *const [f64; 64],
+            arcs: *const [usize; 64],
+            kind: *const [u64; 1024],
+            place: *const [usize; 1024],
+            weight: *const [u64; 1024],
+            out: *mut u8,
+            bytes: usize,
+            told: *mut [u64; 2],
+        );
         pub fn cild_normals(state: *mut [u64; 4], spare: *mut f64, waiting: *mut bool, out: *mut f64, len: usize) -> usize;
     }
 }
@@ -257,6 +274,13 @@ pub fn ensemble(f: &Fields, samples: u64, realizations: u64, seed: u64, horizon:
 pub fn diffusion(f: &Fields, samples: u64, realizations: u64, seed: u64, horizon: f64, [mean, deviation, path]: &mut [Vec<f64>; 3]) -> [u64; 7] {
     let mut told = [0; 7];
     lend!(cild_diffusion, f, samples, realizations, seed, horizon, mean.as_mut_ptr(), mean.len(), deviation.as_mut_ptr(), deviation.len(), path.as_mut_ptr(), path.len(), &mut told);
+    told
+}
+
+/// The refusal's number or 0, and the length of the text in front of the buffer.
+pub fn reason(f: &Fields, out: &mut [u8]) -> [u64; 2] {
+    let mut told = [0; 2];
+    lend!(cild_reason, f, out.as_mut_ptr(), out.len(), &mut told);
     told
 }
 

@@ -8,7 +8,7 @@ use lib.Arith.{mod-mul}
 use lib.Dec.{eqb}
 use lib.Pow.{pow-pos}
 use Rattle.net.specs.Net.{pick}
-use Rattle.sde.specs.Gated.{bitsFrom}
+use Rattle.gates.specs.Gated.{bitsFrom}
 use Rattle.c_face.specs.Diffused.{maskOf}
 
 -- one bit more

@@ -3,5 +3,6 @@ pub mod Told
 pub mod Played
 pub mod Averaged
 pub mod Diffused
+pub mod Reasoned
 pub mod Normals
 pub mod Read

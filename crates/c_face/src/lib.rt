@@ -1,9 +1,10 @@
-// The leaf functions, the reader of net texts, the path, the ensemble and the diffusion under plain names, for a program in C or Rust to call. Those on
-// slices do in one call what as many calls would.
+// The leaf functions, the reader of net texts, the path, the ensemble, the diffusion and its objections to a net under plain names, for a program in C or
+// Rust to call. Those on slices do in one call what as many calls would.
 mod diffusion;
 mod ensemble;
 mod generator;
 mod leaves;
+mod objections;
 mod path;
 mod reader;
 mod sampler;

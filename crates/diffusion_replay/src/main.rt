@@ -3,6 +3,7 @@
 // the takes that are not kinetic, the bounded places as a mask, and 1 where a transition is delayed; or `refused` with the number; or `stopped` with the
 // number and the path's; then, for the means, the deviations and the last path, the answer's cells by their bits, with the one behind them. Each table
 // has 2,048 cells of 7.
+use gates::Gates;
 use net::Net;
 use replay_io::float;
 use replay_io::next_number;
@@ -13,7 +14,6 @@ use replay_io::write;
 use replay_io::write_cells;
 use replay_io::write_number;
 use sde::DiffusionAnswer;
-use sde::Gates;
 
 fn write_flag(b: bool) {
     if b {

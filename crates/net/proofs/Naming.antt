@@ -8,7 +8,7 @@ use native.Mathlib.Omega.{arith}
 use native.Mathlib.Numerals.{add-one}
 use borrow.Author.Tests.{le-leb, lt-leb, leb-true, leb-false}
 use lib.Dec.{eqb, leb}
-use lib.ListN.{length, getD, take, drop-of-length-le}
+use lib.ListN.{length, getD, take, length-take, drop, drop-of-length-le, List·getD-eq-default}
 use lib.Seq.{take-nil}
 use Rattle.text.specs.Text.{Bytes, same}
 use Rattle.net.specs.Net.{pick}
@@ -33,6 +33,26 @@ module _ (label lengths : List ℕ) (p : ℕ) where
 
   pub label-part : n ≤ 16 → l ≡ part (16 * p) n label
   label-part h = ap (λ (b : Bool). pick b (part (16 * p) n label) []) (le-leb n 16 h)
+
+  -- what is read of it: no byte behind the lengths or of more than 16, else its part of the bytes
+  pub none-behind : length lengths ≤ p → [] ≡ l
+  none-behind h = sym (label-none (List·getD-eq-default lengths 0 h))
+
+  pub none-over : 16 < n → [] ≡ l
+  none-over h = sym (label-over h)
+
+  pub label-taken : n ≤ 16 → part (16 * p) (16 * p + n - 16 * p) label ≡ l
+  label-taken h =
+      let size : 16 * p + n - 16 * p ≡ n = omega arith in
+      ap (λ (m : ℕ). part (16 * p) m label) size ∙ sym (label-part h)
+
+  -- and so at most 16 bytes
+  pub label-short : length l ≤ 16
+  label-short = go (leb n 16) refl
+    where
+      go : (b : Bool) → leb n 16 ≡ b → length (pick b (part (16 * p) n label) []) ≤ 16
+      go true e = let few : n ≤ 16 = leb-true n 16 e in omega (arith, length-take n (drop (16 * p) label))
+      go false e = omega arith
 
   -- a place behind the bytes has none
   label-behind : length label ≤ 16 * p → l ≡ []

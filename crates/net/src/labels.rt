@@ -7,7 +7,7 @@ ghost use Rattle.text.specs.Text.{same};
 ghost use Rattle.net.specs.Tests as Tests;
 ghost use Rattle.net.specs.Labels as Labels;
 
-const MOST_BYTES: usize = 16;
+pub const MOST_BYTES: usize = 16;
 
 // A letter a to z, a digit or a hyphen.
 fn label_byte(b: u8) -> bool

@@ -84,6 +84,24 @@ pub fn label_fault<'a>(label: &'a [u8; 512], lengths: &'a [usize; 32], p: usize)
     Verdict::Accepted
 }
 
+// The label of a place, where the record has one of at most 16 bytes; else no byte.
+pub fn label_of<'a>(label: &'a [u8; 512], lengths: &'a [usize; 32], p: usize) -> &'a [u8]
+    ensures { λ r. ⌜ now r ≡ Labels.labelAt (now (label .entry)) (now (lengths .entry)) p ⌝ }
+{
+    let bytes: &[u8] = label;
+    let sizes: &[usize] = lengths;
+    if sizes.len() <= p {
+        return &bytes[0..0];
+    }
+    let n = sizes[p];
+    if labels::MOST_BYTES < n {
+        return &bytes[0..0];
+    }
+    let from = 16 * p;
+    let end = from + n;
+    &bytes[from..end]
+}
+
 // The first of 2 to 7 that applies to a transition over so many places, with so many transitions before it. Its arcs stand in `count`
 // slots from 16 * before on. strange: its text holds a value that no transition can have.
 pub fn transition_fault<'a>(

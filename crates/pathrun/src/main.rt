@@ -2,16 +2,11 @@
 // read or the output cannot be written is said on standard error.
 ghost use mathlib.Core.Path.{_≡_};
 ghost use lib.ListN.{length};
-use libc::STDERR_FILENO;
-use libc::STDIN_FILENO;
-use libc::STDOUT_FILENO;
-
-// One byte more than a net text may have: enough to know that it has too many.
-fn text_room() -> [u8; 8193]
-    ensures { λ r. ⌜ 8193 ≡ length r ⌝ }
-{
-    [0; 8193]
-}
+use net_io::Input;
+use net_io::read_input;
+use net_io::say;
+use net_io::text_room;
+use net_io::write_front;
 
 // Room for every output.
 fn output_room() -> [u8; pathrun_text::LONGEST]
@@ -20,46 +15,13 @@ fn output_room() -> [u8; pathrun_text::LONGEST]
     [0; pathrun_text::LONGEST]
 }
 
-fn say(words: &[u8]) {
-    io::write_all(STDERR_FILENO, words);
-}
-
-// How many bytes were read, or that a read failed.
-enum Input {
-    Read(usize),
-    Failed,
-}
-
-// Reads standard input until it ends or the text is full.
-fn read_input(text: &mut [u8]) -> Input {
-    let mut n = 0;
-    while n < text.len() {
-        let got = libc::read(STDIN_FILENO, &mut text[n..]);
-        if got < 0 {
-            return Input::Failed;
-        }
-        let more = io::count(got, text);
-        if more == 0 {
-            return Input::Read(n);
-        }
-        n += more;
-    }
-    Input::Read(n)
-}
-
-fn write_front(out: &[u8], n: usize) {
-    if n <= out.len() {
-        if !io::write_all(STDOUT_FILENO, &out[..n]) {
-            say(b"pathrun: standard output cannot be written\n");
-        }
-    }
-}
-
 fn play_front(text: &[u8], n: usize) {
     if n <= text.len() {
         let mut out = output_room();
         let written = pathrun_text::played(&text[..n], &mut out);
-        write_front(&out, written);
+        if !write_front(&out, written) {
+            say(b"pathrun: standard output cannot be written\n");
+        }
     }
 }
 

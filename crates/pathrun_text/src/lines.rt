@@ -2,7 +2,7 @@
 ghost use mathlib.Core.Path.{_≡_};
 ghost use Prim.Native.Nat.{_*_, _≤_};
 ghost use lib.ListN.{length};
-ghost use Rattle.net.specs.Labels.{labelAt, labelsFrom};
+ghost use Rattle.net.specs.Labels.{labelsFrom};
 ghost use Rattle.text.specs.Buffer.{andThen, written};
 ghost use Rattle.result_text.specs.Lines.{refusedLine, printed};
 ghost use Rattle.pathrun_text.specs.Pathrun.{rows, longest, tableCells};
@@ -25,24 +25,6 @@ pub fn refused(out: &mut [u8], number: u64, line: u64) -> usize
 {
     let end = result_text::refused_line(out, 0, number, line);
     before(end)
-}
-
-// The label of a place, as part of the bytes of all labels. It is empty behind the last place and where the length is that of no label.
-fn label_of<'a>(label: &'a [u8; 512], lengths: &'a [usize; 32], place: usize) -> &'a [u8]
-    ensures { λ r. ⌜ now r ≡ labelAt (now (label .entry)) (now (lengths .entry)) place ⌝ }
-{
-    let bytes: &[u8] = label;
-    let sizes: &[usize] = lengths;
-    if sizes.len() <= place {
-        return &bytes[0..0];
-    }
-    let n = sizes[place];
-    if 16 < n {
-        return &bytes[0..0];
-    }
-    let from = 16 * place;
-    let end = from + n;
-    &bytes[from..end]
 }
 
 fn line_at(out: &mut [u8], at: usize, deviates: bool, label: &[u8], row: &[f64]) -> Written
@@ -83,7 +65,7 @@ fn then_lines<'a>(
     while p < places {
         let end = from + samples;
         let q = p + 1;
-        let named = label_of(label, lengths, p);
+        let named = net::label_of(label, lengths, p);
         last = then_line(out, last, deviates, named, &table[from..end]);
         from = end;
         p = q;

@@ -11,7 +11,7 @@ use Rattle.net.specs.Readable.{LabelsApart}
 use Rattle.net.proofs.Apart.{labels-apart}
 use Rattle.averages.specs.Request.{Request, requestFault, tablesFault}
 use Rattle.averages.specs.Tables.{Tables}
-use Rattle.sde.specs.Gated.{gates, gated}
+use Rattle.gates.specs.Gated.{gates, gated}
 use Rattle.sde.specs.Call.{Call, membersFrom, tabulated, unlessFault, unlessGated, called}
 use Rattle.sde.specs.Labels.{SameFigures}
 

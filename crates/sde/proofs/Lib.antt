@@ -1,6 +1,3 @@
-pub mod Arcs
-pub mod Counted
-pub mod Mask
 pub mod Changes
 pub mod Factors
 pub mod Ends

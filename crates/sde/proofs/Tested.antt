@@ -11,8 +11,8 @@ use Rattle.net.specs.Tests.{orElse}
 use Rattle.net.specs.Readable.{readable, fault}
 use Rattle.averages.specs.Request.{Request, requestFault, tablesFault}
 use Rattle.averages.specs.Tables.{Tables}
-use Rattle.sde.specs.declared.Gates.{Gates as GatesStruct}
-use Rattle.sde.specs.Gated.{Gates, gates, gated, gatesOf}
+use Rattle.gates.specs.declared.Gates.{Gates as GatesStruct}
+use Rattle.gates.specs.Gated.{Gates, gates, gated, gatesOf}
 use Rattle.sde.specs.Call.{gatedBy, Call, membersFrom, tabulated, unlessFault, unlessGated, called}
 
 pub cells-fit : (p n : ℕ) → p ≤ 32 → n ≤ 1024 → p * n < 2 ^ 64

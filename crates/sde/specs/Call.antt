@@ -16,7 +16,7 @@ use Rattle.averages.specs.Members.{Members, refusedAt, members, pathsFrom, last
 use Rattle.averages.specs.Tables.{Tables, allCleared, averagedOver, callFault}
 use Rattle.sde.specs.declared.DiffusionAnswer.{DiffusionAnswer}
 use Rattle.sde.specs.declared.DiffusionAnswer.the-variants.{Averaged, Gated, TurnedDown, Stopped}
-use Rattle.sde.specs.Gated.{Gates, gates, gated, gatesOf}
+use Rattle.gates.specs.Gated.{Gates, gates, gated, gatesOf}
 use Rattle.sde.specs.Diffusion.{worked, cellsOf}
 
 -- ---- its paths

@@ -1,4 +1,3 @@
-pub mod Gated
 pub mod Diffusion
 pub mod Call
 pub mod Slots

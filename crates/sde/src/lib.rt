@@ -1,7 +1,6 @@
 // Diffusion over a net: paths of the chemical Langevin equation, their means and deviations. In the contracts of the private functions, `net` is the
 // record whose fields are lent.
 mod change;
-mod gated;
 mod paths;
 mod propensity;
 mod substep;
@@ -10,18 +9,9 @@ mod walk;
 ghost use mathlib.Core.Path.{_≡_};
 ghost use Rattle.sde.specs.Call as Call;
 use averages::request;
+use gates::Gates;
 use net::Net;
 use net::Verdict;
-
-// How many reads, inhibitors and takes that are not kinetic there are, the bounded places as the bits of a mask (place p is bit p), and whether a
-// transition is delayed.
-pub struct Gates {
-    pub reads: u64,
-    pub inhibitors: u64,
-    pub nonkinetic: u64,
-    pub bounded: u64,
-    pub delayed: bool,
-}
 
 // Whether there are deviations; or what gates the net; or the number by which the call was turned down; or the number by which a path was refused, and
 // the path's own.

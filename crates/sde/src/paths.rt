@@ -17,12 +17,11 @@ ghost use Rattle.averages.specs.Front as Front;
 ghost use Rattle.averages.specs.Moments as Moments;
 ghost use Rattle.sde.specs.Call as Call;
 ghost use Rattle.sde.specs.Diffusion as Diffusion;
-ghost use Rattle.sde.specs.Gated as Gated;
+ghost use Rattle.gates.specs.Gated as Gated;
 ghost use Rattle.sde.specs.Slots as Slots;
 ghost use Rattle.sde.specs.Summed as Summed;
 use crate::DiffusionAnswer;
 use crate::change;
-use crate::gated;
 use crate::propensity;
 use crate::walk;
 use averages::moments;
@@ -239,7 +238,7 @@ pub fn lent_run<'a>(
         (Call.tabulated (places * samples) (record { mean = now (mean .entry); deviation = now (deviation .entry); path = now (path .entry) })
         (Call.membersFrom (Record.readable net) (record { samples = samples; realizations = realizations; seed = seed; horizon = horizon }) 0 realizations)) ⌝ }
 {
-    let g = gated::gates_of(
+    let g = gates::gates_of(
         places,
         transitions,
         initial,
@@ -251,7 +250,7 @@ pub fn lent_run<'a>(
         place,
         weight,
     );
-    if gated::is_gated(g) {
+    if gates::is_gated(g) {
         return DiffusionAnswer::Gated(g);
     }
     let mut rates = [0.0; 64];

@@ -1,5 +1,5 @@
 //! Added to the source's module as its child, so that it can fill the private records: what
-//! document 01 says that compiling a net yields, arcs in line order.
+//! document 01 says that compiling a net yields, arcs in line order; labels stand for place ids.
 use super::{Compiled, CompiledModel};
 use crate::nets::{Arc, Net};
 
@@ -55,7 +55,7 @@ pub fn filled(net: &Net) -> CompiledModel {
         })
         .collect();
     CompiledModel {
-        place_ids: (0..net.places.len()).map(|p| format!("p{p}")).collect(),
+        place_ids: net.places.iter().map(|p| p.label.text().into()).collect(),
         initial: net.places.iter().map(|p| p.initial).collect(),
         transitions,
     }

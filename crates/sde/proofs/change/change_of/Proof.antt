@@ -3,7 +3,7 @@ use Prim.Native.Nat.{_/_, _%_, _<_}
 use native.Mathlib.Omega.{arith}
 use Rattle.net.specs.declared.Net.{Net as NetRecord}
 use Rattle.net.specs.Record.{lent}
-use Rattle.sde.proofs.Arcs.{light}
+use Rattle.gates.proofs.Arcs.{light}
 use Rattle.sde.proofs.Changes.{change-made}
 use borrow.Author.Needs.{needs}
 use Rattle.sde.proofs.change.change_of.Statement.{statement}

@@ -3,7 +3,7 @@ use native.Mathlib.Omega.{arith}
 use Rattle.net.specs.declared.Net.{Net as NetRecord}
 use Rattle.net.specs.Record.{lent}
 use lib.ListN.{getD, take}
-use Rattle.sde.proofs.Arcs.{light}
+use Rattle.gates.proofs.Arcs.{light}
 use Rattle.sde.proofs.Factors.{inside}
 use Rattle.sde.proofs.Ends.{propensity-within}
 use borrow.Author.Needs.{needs}

@@ -1,0 +1,49 @@
+// Standard input and output of a program that reads a net text.
+ghost use mathlib.Core.Path.{_≡_};
+ghost use lib.ListN.{length};
+use libc::STDERR_FILENO;
+use libc::STDIN_FILENO;
+use libc::STDOUT_FILENO;
+
+// One byte more than a net text may have: enough to know that it has too many.
+pub fn text_room() -> [u8; 8193]
+    ensures { λ r. ⌜ 8193 ≡ length r ⌝ }
+{
+    [0; 8193]
+}
+
+// Words on standard error.
+pub fn say(words: &[u8]) {
+    io::write_all(STDERR_FILENO, words);
+}
+
+// How many bytes were read, or that a read failed.
+pub enum Input {
+    Read(usize),
+    Failed,
+}
+
+// Reads standard input until it ends or the text is full.
+pub fn read_input(text: &mut [u8]) -> Input {
+    let mut n = 0;
+    while n < text.len() {
+        let got = libc::read(STDIN_FILENO, &mut text[n..]);
+        if got < 0 {
+            return Input::Failed;
+        }
+        let more = io::count(got, text);
+        if more == 0 {
+            return Input::Read(n);
+        }
+        n += more;
+    }
+    Input::Read(n)
+}
+
+// Writes the first n bytes to standard output. Were they written?
+pub fn write_front(out: &[u8], n: usize) -> bool {
+    if n <= out.len() {
+        return io::write_all(STDOUT_FILENO, &out[..n]);
+    }
+    false
+}

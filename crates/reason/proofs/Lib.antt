@@ -1,0 +1,9 @@
+pub mod ReadBack
+pub mod Same
+pub mod Nets
+pub mod Sample
+pub mod Called
+pub mod Cases
+pub mod Told
+pub mod Bound
+pub mod Scratch

@@ -1,0 +1,4 @@
+pub mod Reasons
+pub mod Call
+pub mod Same
+pub mod Parts
