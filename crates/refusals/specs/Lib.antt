@@ -66,3 +66,7 @@ badLabel = 17
 -- a label that an earlier place has already
 abbrev pub usedLabel : ℕ
 usedLabel = 18
+
+-- a buffer shorter than the text that is to be written
+abbrev pub shortBuffer : ℕ
+shortBuffer = 19

@@ -35,3 +35,5 @@ pub const NO_NORMAL: u64 = 16;
 pub const BAD_LABEL: u64 = 17;
 
 pub const USED_LABEL: u64 = 18;
+
+pub const SHORT_BUFFER: u64 = 19;
