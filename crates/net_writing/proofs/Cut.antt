@@ -2,7 +2,7 @@
 use Prim.Native.Nat.{ℕ, zero, suc, _+_, _/_, _%_, _≤_, _<_}
 use native.Mathlib.Omega.{arith}
 use mathlib.Core.Path.{_≡_, refl, sym, ap, _∙_}
-use mathlib.Core.Bool.{Bool, true, false}
+use mathlib.Core.Bool.{Bool, true, false, _&&_, not}
 use mathlib.Core.List.{List, [], _∷_, _++_}
 use lib.Dec.{eqb, ltb}
 use borrow.Author.Tests.{ne-eqb}
@@ -31,6 +31,21 @@ line-together (w ∷ ws) h = line-more w (together ws) (h .0) (line-together ws 
 pub lines-more : (ls ms : List Bytes) → oneLines ls → oneLines ms → oneLines (ls ++ ms)
 lines-more [] ms h k = k
 lines-more (l ∷ ls) ms h k = (h .0, lines-more ls ms (h .1) k)
+
+-- the same as a test, for bytes that are quoted
+abbrev pub noNewline : Bytes → Bool
+noNewline [] = true
+noNewline (b ∷ t) = not (eqb b newline) && noNewline t
+
+unless-newline : (x y : Bool) → not x && y ≡ true → (x ≡ false) × (y ≡ true)
+unless-newline true y e = let z : _≡_ {A = ℕ} 0 1 = cc in absurd (omega arith)
+unless-newline false y e = (refl, e)
+
+pub quoted-line : (t : Bytes) → noNewline t ≡ true → oneLine t
+quoted-line [] e = tt
+quoted-line (b ∷ t) e =
+    let two = unless-newline (eqb b newline) (noNewline t) e in
+    (two .0, quoted-line t (two .1))
 
 -- ---- numbers
 

@@ -52,11 +52,11 @@ abbrev Reads : Bytes → RawArc → Type 0
 Reads p a = (1 ≤ length p) × ((t : Bytes) → nextArc (p ++ t) ≡ met a t)
 
 -- parts with bytes behind them
-abbrev chained : List Bytes → Bytes → Bytes
+abbrev pub chained : List Bytes → Bytes → Bytes
 chained [] t = t
 chained (w ∷ ws) t = w ++ chained ws t
 
-chain-is : (ws : List Bytes) (t : Bytes) → together ws ++ t ≡ chained ws t
+pub chain-is : (ws : List Bytes) (t : Bytes) → together ws ++ t ≡ chained ws t
 chain-is [] t = refl
 chain-is (w ∷ ws) t = append-assoc w (together ws) t ∙ ap (λ (l : Bytes). w ++ l) (chain-is ws t)
 

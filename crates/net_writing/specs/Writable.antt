@@ -11,7 +11,7 @@ use Rattle.net.specs.Net.{Place, Transition, Net}
 use Rattle.net.specs.Tests.{firstOf, empty, placeTests, moveTests}
 use Rattle.net.specs.Labels.{labelTests}
 use Rattle.text.specs.Text.{Bytes}
-use Rattle.net_text.specs.Reading.{RunLine}
+use Rattle.net_text.specs.Reading.{RunLine, given, read}
 use Rattle.net_writing.specs.Writing.{netText}
 
 -- not 2, 4, 17 or 18, of each place behind so many places with these labels; there are as many labels as places
@@ -38,3 +38,7 @@ pub record Writable (n : Net) (labels : List Bytes) (r : RunLine) : Type 0 where
   pub horizon : r .horizon < 2 ^ 64
   -- "Over 8,192 bytes: 2"
   pub short : length (netText n labels r) ≤ 8192
+
+-- Written, then read: the reader answers the same net, the same labels and the same run line. proofs/Reread has it.
+abbrev pub ReadsBack : Type 0
+ReadsBack = (n : Net) (labels : List Bytes) (r : RunLine) → Writable n labels r → read (netText n labels r) ≡ given n labels r
