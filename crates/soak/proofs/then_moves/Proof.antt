@@ -1,0 +1,83 @@
+use borrow.Author.Needs.{needs}
+use native.Mathlib.Omega.{arith}
+use mathlib.Core.Path.{_≡_, refl, sym, ap, _∙_}
+use Prim.Native.Nat.{ℕ, _+_, _-_, _*_, _≤_, _<_}
+use Rattle.soak.proofs.then_moves.Statement.{statement}
+use Rattle.soak.proofs.then_moves.Tie as tie
+use Rattle.soak.proofs.then_moves.Reads as reads
+use Rattle.soak.proofs.then_moves.Lts as lts
+use Rattle.rng.proofs.Xoshiro256.next_u64.Reads as next-u64-reads
+use Rattle.soak.proofs.then_move.Reads as then-move-reads
+
+abbrev Inv-loop : tie.InvT-loop
+Inv-loop out₀ places transitions last₀ rng₀ number₀ out last rng number = ?
+
+abbrev μ-loop : tie.MeasureT-loop
+μ-loop out₀ places transitions last₀ rng₀ number₀ out last rng number = ?
+
+-- src/lib.rt:101:5
+loop-holds : tie.Need-loop-holds Inv-loop μ-loop
+loop-holds c = ?
+
+-- src/lib.rt:102:20
+add-next : tie.Need-add-next Inv-loop μ-loop
+add-next c = search needs
+
+-- src/lib.rt:103:13
+next-u64-requires : tie.Need-next-u64-requires Inv-loop μ-loop
+next-u64-requires c κs = search needs
+
+-- src/lib.rt:105:13
+next-u64-requires-2 : tie.Need-next-u64-requires-2 Inv-loop μ-loop
+next-u64-requires-2 c κs = search needs
+
+-- src/lib.rt:107:13
+next-u64-requires-3 : tie.Need-next-u64-requires-3 Inv-loop μ-loop
+next-u64-requires-3 c κs = search needs
+
+-- src/lib.rt:109:37
+rem-then-move : tie.Need-rem-then-move Inv-loop μ-loop
+rem-then-move c = ?
+
+-- src/lib.rt:109:59
+rem-then-move-2 : tie.Need-rem-then-move-2 Inv-loop μ-loop
+rem-then-move-2 c = ?
+
+-- src/lib.rt:109:9
+then-move-requires : tie.Need-then-move-requires Inv-loop μ-loop
+then-move-requires c κs = search needs
+
+-- src/lib.rt:101:5
+loop-less : tie.Need-loop-less Inv-loop μ-loop
+loop-less c = search needs
+
+-- src/lib.rt:101:5
+loop-again : tie.Need-loop-again Inv-loop μ-loop
+loop-again c = ?
+
+-- src/lib.rt:94:1
+same-length : tie.Need-same-length Inv-loop μ-loop
+same-length c = search needs
+
+-- src/lib.rt:94:1
+returns : tie.Need-returns Inv-loop μ-loop
+returns c = ?
+
+pub then-moves-spec : {M : Type 1} → statement M
+then-moves-spec =
+    tie.close
+    (tie.spec
+    Inv-loop
+    μ-loop
+    loop-holds
+    add-next
+    next-u64-requires
+    next-u64-requires-2
+    next-u64-requires-3
+    rem-then-move
+    rem-then-move-2
+    then-move-requires
+    loop-less
+    loop-again
+    same-length
+    returns)

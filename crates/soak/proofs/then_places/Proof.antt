@@ -1,0 +1,63 @@
+use borrow.Author.Needs.{needs}
+use native.Mathlib.Omega.{arith}
+use mathlib.Core.Path.{_≡_, refl, sym, ap, _∙_}
+use Prim.Native.Nat.{ℕ, _+_, _-_, _*_, _≤_, _<_}
+use Rattle.soak.proofs.then_places.Statement.{statement}
+use Rattle.soak.proofs.then_places.Tie as tie
+use Rattle.soak.proofs.then_places.Reads as reads
+use Rattle.soak.proofs.then_places.Lts as lts
+use Rattle.rng.proofs.Xoshiro256.next_u64.Reads as next-u64-reads
+use Rattle.soak.proofs.then_place.Reads as then-place-reads
+
+abbrev Inv-loop : tie.InvT-loop
+Inv-loop out₀ places last₀ rng₀ number₀ out last rng number = ?
+
+abbrev μ-loop : tie.MeasureT-loop
+μ-loop out₀ places last₀ rng₀ number₀ out last rng number = ?
+
+-- src/lib.rt:68:5
+loop-holds : tie.Need-loop-holds Inv-loop μ-loop
+loop-holds c = ?
+
+-- src/lib.rt:69:20
+add-next : tie.Need-add-next Inv-loop μ-loop
+add-next c = search needs
+
+-- src/lib.rt:70:13
+next-u64-requires : tie.Need-next-u64-requires Inv-loop μ-loop
+next-u64-requires c κs = search needs
+
+-- src/lib.rt:72:9
+then-place-requires : tie.Need-then-place-requires Inv-loop μ-loop
+then-place-requires c κs = search needs
+
+-- src/lib.rt:68:5
+loop-less : tie.Need-loop-less Inv-loop μ-loop
+loop-less c = search needs
+
+-- src/lib.rt:68:5
+loop-again : tie.Need-loop-again Inv-loop μ-loop
+loop-again c = ?
+
+-- src/lib.rt:62:1
+same-length : tie.Need-same-length Inv-loop μ-loop
+same-length c = search needs
+
+-- src/lib.rt:62:1
+returns : tie.Need-returns Inv-loop μ-loop
+returns c = ?
+
+pub then-places-spec : {M : Type 1} → statement M
+then-places-spec =
+    tie.close
+    (tie.spec
+    Inv-loop
+    μ-loop
+    loop-holds
+    add-next
+    next-u64-requires
+    then-place-requires
+    loop-less
+    loop-again
+    same-length
+    returns)

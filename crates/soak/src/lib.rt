@@ -1,0 +1,128 @@
+// The published soak load: a net text from a seed and two counts, the same on every bench. specs/Soak says which.
+ghost use mathlib.Core.Path.{_≡_};
+ghost use Prim.Native.Nat.{_<_};
+ghost use Rattle.rng.specs.State.{words};
+ghost use Rattle.text.specs.Text.{bytes};
+ghost use Rattle.text.specs.Buffer.{written};
+ghost use Rattle.soak.specs.Soak as Soak;
+ghost use Rattle.soak.specs.Words as Words;
+use rng::Xoshiro256;
+use text::Written;
+
+// A buffer of so many bytes holds every text.
+pub const LONGEST: usize = 1614;
+
+// The length of the text at the buffer's front, or a refusal's number.
+pub enum Answer {
+    Text(usize),
+    Refused(u64),
+}
+
+// The generator behind the choices of the places, and what was written.
+struct Drawn {
+    rng: Xoshiro256,
+    last: Written,
+}
+
+// Seed 0 draws as 1.
+fn first_state(seed: u64) -> Xoshiro256
+    ensures { λ r. ⌜ words (r .s) ≡ Soak.start seed ⌝ }
+{
+    if seed == 0 {
+        return Xoshiro256::new(1);
+    }
+    Xoshiro256::new(seed)
+}
+
+fn rate_of(choice: u64) -> f64
+    ensures { λ r. ⌜ r ≡ Soak.rateFrom choice ⌝ }
+{
+    if choice == 0 {
+        return 1.0;
+    }
+    if choice == 1 {
+        return 2.0;
+    }
+    if choice == 2 {
+        return 4.0;
+    }
+    8.0
+}
+
+fn then_place(out: &mut [u8], before: Written, initial: u64, number: u64) -> Written
+    ensures { λ r. ⌜ (now (out .exit), r) ≡ Words.thenAll (now (out .entry), before) (Words.placeWords initial number) ⌝ }
+{
+    let word = text::then_bytes(out, before, b"(place ");
+    let count = text::then_decimal(out, word, initial);
+    let label = text::then_bytes(out, count, b" 0 q");
+    let named = text::then_decimal(out, label, number);
+    text::then_bytes(out, named, b")\n")
+}
+
+fn then_places(out: &mut [u8], before: Written, start: Xoshiro256, places: u64) -> Drawn
+    ensures { λ r. ⌜ ((now (out .exit), r .last) ≡ Words.thenAll (now (out .entry), before) (Words.placesWords 0 places (words (start .s)))) × (words (r .rng .s) ≡ Soak.after places (words (start .s))) ⌝ }
+{
+    let mut last = before;
+    let mut rng = start;
+    let mut number: u64 = 0;
+    while number < places {
+        let next = number + 1;
+        let drawn = rng.next_u64();
+        let stepped = drawn.rng;
+        last = then_place(out, last, drawn.value % 10, number);
+        rng = stepped;
+        number = next;
+    }
+    Drawn {
+        rng: rng,
+        last: last,
+    }
+}
+
+fn then_move(out: &mut [u8], before: Written, taken: u64, put: u64, rate: u64) -> Written
+    ensures { λ r. ⌜ (now (out .exit), r) ≡ Words.thenAll (now (out .entry), before) (Words.moveWords taken put rate) ⌝ }
+{
+    let word = text::then_bytes(out, before, b"(move ");
+    let rated = text::then_float(out, word, rate_of(rate));
+    let undelayed = text::then_bytes(out, rated, b" 0000000000000000 (take ");
+    let taking = text::then_decimal(out, undelayed, taken);
+    let kinetic = text::then_bytes(out, taking, b" 1 1) (put ");
+    let putting = text::then_decimal(out, kinetic, put);
+    text::then_bytes(out, putting, b" 1))\n")
+}
+
+fn then_moves(out: &mut [u8], before: Written, start: Xoshiro256, places: u64, transitions: u64) -> Written
+    requires { ⌜ 0 < places ⌝ }
+    ensures { λ r. ⌜ (now (out .exit), r) ≡ Words.thenAll (now (out .entry), before) (Words.movesWords places transitions (words (start .s))) ⌝ }
+{
+    let mut last = before;
+    let mut rng = start;
+    let mut number: u64 = 0;
+    while number < transitions {
+        let next = number + 1;
+        let taken = rng.next_u64();
+        let second = taken.rng;
+        let put = second.next_u64();
+        let third = put.rng;
+        let rate = third.next_u64();
+        let stepped = rate.rng;
+        last = then_move(out, last, taken.value % places, put.value % places, rate.value % 4);
+        rng = stepped;
+        number = next;
+    }
+    last
+}
+
+fn write_all(out: &mut [u8], seed: u64, places: u64, transitions: u64) -> Written
+    requires { ⌜ 0 < places ⌝ }
+    ensures { λ r. ⌜ (now (out .exit), r) ≡ Words.thenAll (written (now (out .entry)) 0 (bytes "(net\n")) (Words.allWords seed places transitions) ⌝ }
+{
+    let head = text::put_bytes(out, 0, b"(net\n");
+    let placed = then_places(out, head, first_state(seed), places);
+    let rng = placed.rng;
+    let last = placed.last;
+    let moved = then_moves(out, last, rng, places, transitions);
+    let run = text::then_bytes(out, moved, b"(run 11 1 ");
+    let seeded = text::then_decimal(out, run, seed);
+    text::then_bytes(out, seeded, b" 4024000000000000)\n)\n")
+}
