@@ -60,10 +60,10 @@ pub chain-is : (ws : List Bytes) (t : Bytes) → together ws ++ t ≡ chained ws
 chain-is [] t = refl
 chain-is (w ∷ ws) t = append-assoc w (together ws) t ∙ ap (λ (l : Bytes). w ++ l) (chain-is ws t)
 
-abbrev takeWords : Take → List Bytes
+abbrev pub takeWords : Take → List Bytes
 takeWords k = bytes " (take " ∷ decimalText (k .place) ∷ bytes " " ∷ decimalText (k .weight) ∷ bytes " " ∷ decimalText (pick (k .kinetic) 1 0) ∷ bytes ")" ∷ []
 
-abbrev arcWords : String → Arc → List Bytes
+abbrev pub arcWords : String → Arc → List Bytes
 arcWords word a = bytes word ∷ decimalText (a .place) ∷ bytes " " ∷ decimalText (a .weight) ∷ bytes ")" ∷ []
 
 take-reads : (k : Take) → Reads (takePart k) (rawOfTake k)

@@ -90,13 +90,16 @@ soakText seed places transitions = netText (soakNet seed places transitions) (so
 abbrev pub sized : ℕ → ℕ → Bool
 sized places transitions = leb 1 places && leb places 32 && leb 1 transitions && leb transitions 16
 
--- "a short buffer 19, …, nothing written; otherwise the text's length is returned"
-abbrev pub answered : Bytes × Written → Bytes × Answer
-answered (out, Next n) = (out, Text n)
-answered (out, Short) = (out, Refused Refusal.shortBuffer)
+-- "a short buffer 19, …; otherwise the text's length is returned"
+abbrev pub answerOf : Written → Answer
+answerOf (Next n) = Text n
+answerOf Short = Refused Refusal.shortBuffer
 
--- The buffer that a call leaves, and its answer: "A wrong P or T is refusal 2 and a short buffer 19, in that order". The text stands at the
--- buffer's front, and "the bytes after it stay".
+abbrev pub answered : Bytes × Written → Bytes × Answer
+answered s = (s .0, answerOf (s .1))
+
+-- The buffer that a call leaves, and its answer: "A wrong P or T is refusal 2 and a short buffer 19, in that order, nothing written". The text stands
+-- at the buffer's front, and "the bytes after it stay".
 unfoldable pub called : Bytes → ℕ → ℕ → ℕ → Bytes × Answer
 called out seed places transitions =
     pick (sized places transitions) (answered (written out 0 (soakText seed places transitions))) (out, Refused Refusal.badSize)

@@ -7,6 +7,7 @@ use Rattle.text.specs.Text.{Bytes, bytes}
 use Rattle.text.specs.Numbers.{decimalText, floatText}
 use Rattle.text.specs.Buffer.{andThen}
 use Rattle.text.specs.declared.Written.{Written}
+use Rattle.text.specs.declared.Written.the-variants.{Next, Short}
 use Rattle.soak.specs.Soak.{choice, rateFrom, after, start}
 
 -- words behind what was written before
@@ -45,3 +46,8 @@ runWords seed = bytes "(run 11 1 " ∷ decimalText seed ∷ bytes " 402400000000
 abbrev pub allWords : ℕ → ℕ → ℕ → List Bytes
 allWords seed places transitions =
     placesWords 0 places (start seed) ++ (movesWords places transitions (after places (start seed)) ++ runWords seed)
+
+-- how many bytes stand in front of a position
+abbrev pub reached : Written → ℕ
+reached (Next i) = i
+reached Short = 0

@@ -1,6 +1,8 @@
 // The published soak load: a net text from a seed and two counts, the same on every bench. specs/Soak says which.
 ghost use mathlib.Core.Path.{_≡_};
+ghost use mathlib.Core.Bool.{true};
 ghost use Prim.Native.Nat.{_<_};
+ghost use lib.ListN.{length};
 ghost use Rattle.rng.specs.State.{words};
 ghost use Rattle.text.specs.Text.{bytes};
 ghost use Rattle.text.specs.Buffer.{written};
@@ -49,20 +51,20 @@ fn rate_of(choice: u64) -> f64
     8.0
 }
 
-fn then_place(out: &mut [u8], before: Written, initial: u64, number: u64) -> Written
-    ensures { λ r. ⌜ (now (out .exit), r) ≡ Words.thenAll (now (out .entry), before) (Words.placeWords initial number) ⌝ }
+fn then_place(out: &mut [u8], first: Written, initial: u64, number: u64) -> Written
+    ensures { λ r. ⌜ (now (out .exit), r) ≡ Words.thenAll (now (out .entry), first) (Words.placeWords initial number) ⌝ }
 {
-    let word = text::then_bytes(out, before, b"(place ");
+    let word = text::then_bytes(out, first, b"(place ");
     let count = text::then_decimal(out, word, initial);
     let label = text::then_bytes(out, count, b" 0 q");
     let named = text::then_decimal(out, label, number);
     text::then_bytes(out, named, b")\n")
 }
 
-fn then_places(out: &mut [u8], before: Written, start: Xoshiro256, places: u64) -> Drawn
-    ensures { λ r. ⌜ ((now (out .exit), r .last) ≡ Words.thenAll (now (out .entry), before) (Words.placesWords 0 places (words (start .s)))) × (words (r .rng .s) ≡ Soak.after places (words (start .s))) ⌝ }
+fn then_places(out: &mut [u8], first: Written, start: Xoshiro256, places: u64) -> Drawn
+    ensures { λ r. ⌜ ((now (out .exit), r .last) ≡ Words.thenAll (now (out .entry), first) (Words.placesWords 0 places (words (start .s)))) × (words (r .rng .s) ≡ Soak.after places (words (start .s))) ⌝ }
 {
-    let mut last = before;
+    let mut last = first;
     let mut rng = start;
     let mut number: u64 = 0;
     while number < places {
@@ -79,10 +81,10 @@ fn then_places(out: &mut [u8], before: Written, start: Xoshiro256, places: u64) 
     }
 }
 
-fn then_move(out: &mut [u8], before: Written, taken: u64, put: u64, rate: u64) -> Written
-    ensures { λ r. ⌜ (now (out .exit), r) ≡ Words.thenAll (now (out .entry), before) (Words.moveWords taken put rate) ⌝ }
+fn then_move(out: &mut [u8], first: Written, taken: u64, put: u64, rate: u64) -> Written
+    ensures { λ r. ⌜ (now (out .exit), r) ≡ Words.thenAll (now (out .entry), first) (Words.moveWords taken put rate) ⌝ }
 {
-    let word = text::then_bytes(out, before, b"(move ");
+    let word = text::then_bytes(out, first, b"(move ");
     let rated = text::then_float(out, word, rate_of(rate));
     let undelayed = text::then_bytes(out, rated, b" 0000000000000000 (take ");
     let taking = text::then_decimal(out, undelayed, taken);
@@ -91,11 +93,11 @@ fn then_move(out: &mut [u8], before: Written, taken: u64, put: u64, rate: u64) -
     text::then_bytes(out, putting, b" 1))\n")
 }
 
-fn then_moves(out: &mut [u8], before: Written, start: Xoshiro256, places: u64, transitions: u64) -> Written
+fn then_moves(out: &mut [u8], first: Written, start: Xoshiro256, places: u64, transitions: u64) -> Written
     requires { ⌜ 0 < places ⌝ }
-    ensures { λ r. ⌜ (now (out .exit), r) ≡ Words.thenAll (now (out .entry), before) (Words.movesWords places transitions (words (start .s))) ⌝ }
+    ensures { λ r. ⌜ (now (out .exit), r) ≡ Words.thenAll (now (out .entry), first) (Words.movesWords places transitions (words (start .s))) ⌝ }
 {
-    let mut last = before;
+    let mut last = first;
     let mut rng = start;
     let mut number: u64 = 0;
     while number < transitions {
@@ -125,4 +127,67 @@ fn write_all(out: &mut [u8], seed: u64, places: u64, transitions: u64) -> Writte
     let run = text::then_bytes(out, moved, b"(run 11 1 ");
     let seeded = text::then_decimal(out, run, seed);
     text::then_bytes(out, seeded, b" 4024000000000000)\n)\n")
+}
+
+// Room for every text.
+fn text_room() -> [u8; LONGEST]
+    ensures { λ r. ⌜ length r ≡ 1614 ⌝ }
+{
+    [0; LONGEST]
+}
+
+fn reached(end: Written) -> usize
+    ensures { λ r. ⌜ r ≡ Words.reached end ⌝ }
+{
+    match end {
+        Written::Next(n) => n,
+        Written::Short => 0,
+    }
+}
+
+// The text is written apart first, so that a buffer that is too short keeps every byte.
+fn put_text(out: &mut [u8], seed: u64, places: u64, transitions: u64) -> Written
+    requires { ⌜ Soak.sized places transitions ≡ true ⌝ }
+    ensures { λ r. ⌜ (now (out .exit), r) ≡ written (now (out .entry)) 0 (Soak.soakText seed places transitions) ⌝ }
+{
+    let mut room = text_room();
+    let end = write_all(&mut room, seed, places, transitions);
+    let n = reached(end);
+    text::put_bytes(out, 0, &room[..n])
+}
+
+fn sizes_fit(places: u64, transitions: u64) -> bool
+    ensures { λ r. ⌜ r ≡ Soak.sized places transitions ⌝ }
+{
+    if places < 1 {
+        return false;
+    }
+    if 32 < places {
+        return false;
+    }
+    if transitions < 1 {
+        return false;
+    }
+    transitions <= 16
+}
+
+fn answer_of(end: Written) -> Answer
+    ensures { λ r. ⌜ r ≡ Soak.answerOf end ⌝ }
+{
+    match end {
+        Written::Next(n) => Answer::Text(n),
+        Written::Short => Answer::Refused(refusals::SHORT_BUFFER),
+    }
+}
+
+// Writes the soak net of this seed, with so many places and transitions, as a net text at the buffer's front, and answers its length. Further bytes
+// stay. Refused, with nothing written: 2 where there are not 1 to 32 places or not 1 to 16 transitions, then 19 where the text does not fit.
+pub fn soak(seed: u64, places: u64, transitions: u64, out: &mut [u8]) -> Answer
+    ensures { λ r. ⌜ (now (out .exit), r) ≡ Soak.called (now (out .entry)) seed places transitions ⌝ }
+{
+    if sizes_fit(places, transitions) {
+        let end = put_text(out, seed, places, transitions);
+        return answer_of(end);
+    }
+    Answer::Refused(refusals::BAD_SIZE)
 }

@@ -1,4 +1,6 @@
 use borrow.Author.Needs.{needs}
+use Rattle.text.specs.Text.{bytes}
+use Rattle.soak.proofs.Steps.{seven}
 use Rattle.soak.proofs.then_move.Statement.{statement}
 use Rattle.soak.proofs.then_move.Tie as tie
 use Rattle.soak.proofs.then_move.Reads as reads
@@ -62,7 +64,16 @@ same-length c = search needs
 
 -- src/lib.rt:82:1
 returns : tie.Need-returns
-returns c = ?
+returns c =
+    let a = c .before .before .before .before .before .before .before .before .before .before .before .before .before .before .before .before .before .before .before .before .before .before .before .before .before .before .before .before .before .before .before .before .before .before .args in
+    seven (bytes "(move ") _ _ _ _ _ _ (a .out .now, a .first) _ _ _ _ _ _ _
+    (c .before .before .before .before .before .before .before .before .before .before .before .before .before .before .before .before .before .before .before .before .before .before .before .before .before .before .before .before .before .before .then-bytes .ensures)
+    (rw (c .before .before .before .before .before .before .before .before .before .before .before .before .before .before .before .before .before .before .before .before .before .before .before .before .before .before .rate-of .ensures) at (c .before .before .before .before .before .before .before .before .before .before .before .before .before .before .before .before .before .before .before .before .before .before .before .before .before .then-float .ensures))
+    (c .before .before .before .before .before .before .before .before .before .before .before .before .before .before .before .before .before .before .before .before .then-bytes2 .ensures)
+    (c .before .before .before .before .before .before .before .before .before .before .before .before .before .before .before .before .then-decimal .ensures)
+    (c .before .before .before .before .before .before .before .before .before .before .before .then-bytes3 .ensures)
+    (c .before .before .before .before .before .before .before .then-decimal2 .ensures)
+    (c .before .before .then-bytes4 .ensures)
 
 pub then-move-spec : {M : Type 1} → statement M
 then-move-spec =

@@ -1,4 +1,6 @@
 use borrow.Author.Needs.{needs}
+use Rattle.text.specs.Text.{bytes}
+use Rattle.soak.proofs.Steps.{five}
 use Rattle.soak.proofs.then_place.Statement.{statement}
 use Rattle.soak.proofs.then_place.Tie as tie
 use Rattle.soak.proofs.then_place.Reads as reads
@@ -44,7 +46,14 @@ same-length c = search needs
 
 -- src/lib.rt:52:1
 returns : tie.Need-returns
-returns c = ?
+returns c =
+    let a = c .before .before .before .before .before .before .before .before .before .before .before .before .before .before .before .before .before .before .before .before .before .before .before .before .args in
+    five (bytes "(place ") _ _ _ _ (a .out .now, a .first) _ _ _ _ _
+    (c .before .before .before .before .before .before .before .before .before .before .before .before .before .before .before .before .before .before .before .before .then-bytes .ensures)
+    (c .before .before .before .before .before .before .before .before .before .before .before .before .before .before .before .before .then-decimal .ensures)
+    (c .before .before .before .before .before .before .before .before .before .before .before .then-bytes2 .ensures)
+    (c .before .before .before .before .before .before .before .then-decimal2 .ensures)
+    (c .before .before .then-bytes3 .ensures)
 
 pub then-place-spec : {M : Type 1} → statement M
 then-place-spec =

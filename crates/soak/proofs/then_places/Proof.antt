@@ -1,4 +1,9 @@
 use borrow.Author.Needs.{needs}
+use lib.ListN.{length}
+use Rattle.rng.specs.State.{words}
+use Rattle.soak.specs.Soak.{after}
+use Rattle.soak.specs.Words.{thenAll, placesWords}
+use Rattle.soak.proofs.Steps.{place-turn, after-turn}
 use native.Mathlib.Omega.{arith}
 use mathlib.Core.Path.{_≡_, refl, sym, ap, _∙_}
 use Prim.Native.Nat.{ℕ, _+_, _-_, _*_, _≤_, _<_}
@@ -10,14 +15,20 @@ use Rattle.rng.proofs.Xoshiro256.next_u64.Reads as next-u64-reads
 use Rattle.soak.proofs.then_place.Reads as then-place-reads
 
 abbrev Inv-loop : tie.InvT-loop
-Inv-loop out₀ places last₀ rng₀ number₀ out last rng number = ?
+Inv-loop out₀ places last₀ rng₀ number₀ out last rng number =
+    (thenAll (out, last) (placesWords number (places - number) (words (rng .s))) ≡ thenAll (out₀, last₀) (placesWords 0 places (words (rng₀ .s))))
+    × (after (places - number) (words (rng .s)) ≡ after places (words (rng₀ .s)))
+    × (number ≤ places)
+    × (length out ≡ length out₀)
 
 abbrev μ-loop : tie.MeasureT-loop
-μ-loop out₀ places last₀ rng₀ number₀ out last rng number = ?
+μ-loop out₀ places last₀ rng₀ number₀ out last rng number = places - number
 
 -- src/lib.rt:68:5
 loop-holds : tie.Need-loop-holds Inv-loop μ-loop
-loop-holds c = ?
+loop-holds c =
+    let all : c .before .args .places - 0 ≡ c .before .args .places = omega arith in
+    (rw all, rw all, omega arith, refl)
 
 -- src/lib.rt:69:20
 add-next : tie.Need-add-next Inv-loop μ-loop
@@ -37,7 +48,17 @@ loop-less c = search needs
 
 -- src/lib.rt:68:5
 loop-again : tie.Need-loop-again Inv-loop μ-loop
-loop-again c = ?
+loop-again c =
+    let l = c .before .before .before .before .before .before .before .before .loop in
+    let places = c .before .before .before .before .before .before .before .before .before .before .args .places in
+    let more : l .number < places = c .before .before .before .before .before .before .before .loop-test .taken in
+    let drawn = c .before .before .before .before .before .before .next-u64 .ensures in
+    (
+      place-turn (l .out, l .last) _ places (l .number) (words (l .rng .s)) _ _ more (drawn .0) (drawn .1) (c .before .before .then-place .ensures) ∙ l .inv .0,
+      after-turn places (l .number) (words (l .rng .s)) _ more (drawn .1) ∙ l .inv .1,
+      omega arith,
+      omega arith,
+    )
 
 -- src/lib.rt:62:1
 same-length : tie.Need-same-length Inv-loop μ-loop
@@ -45,7 +66,10 @@ same-length c = search needs
 
 -- src/lib.rt:62:1
 returns : tie.Need-returns Inv-loop μ-loop
-returns c = ?
+returns c =
+    let l = c .before .loop in
+    let none : c .before .before .before .args .places - l .number ≡ 0 = omega arith in
+    (rw none at (l .inv .0), rw none at (l .inv .1))
 
 pub then-places-spec : {M : Type 1} → statement M
 then-places-spec =
