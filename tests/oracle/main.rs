@@ -12,6 +12,7 @@ mod rattle;
 mod report;
 mod runs;
 mod sample;
+mod soaks;
 #[allow(dead_code, unused_imports)]
 mod ssa;
 
@@ -24,6 +25,7 @@ fn main() {
             leaves::compare(&mut report, number(seed), number(inputs));
             runs::compare(&mut report, number(seed), number(inputs) / 1000);
             diffusions::compare(&mut report, number(seed), number(inputs) / 1000);
+            soaks::compare(&mut report, number(seed), number(inputs) / 1000);
             println!("{} passed, {} failed", report.passed, report.failed);
             std::process::exit((report.failed > 0) as i32);
         }

@@ -4,3 +4,4 @@ pub mod Played
 pub mod Averaged
 pub mod Diffused
 pub mod Normals
+pub mod Soaked

@@ -1,4 +1,4 @@
-// The leaf functions, the path, the ensemble and the diffusion under plain names, for a program in C or Rust to call. Those on slices do in one call
+// The leaf functions, the path, the ensemble, the diffusion and the soak load under plain names, for a program in C or Rust to call. Those on slices do in one call
 // what as many calls would.
 mod diffusion;
 mod ensemble;
@@ -7,6 +7,7 @@ mod leaves;
 mod path;
 mod sampler;
 mod slices;
+mod soak_load;
 
 ghost use mathlib.Core.Path.{_≡_};
 ghost use Rattle.net.specs.Net.{pick};

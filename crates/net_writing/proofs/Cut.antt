@@ -1,14 +1,14 @@
 -- Lines that hold no newline, each with one behind it, are cut into the same lines again. Assumes nothing.
-use Prim.Native.Nat.{ℕ, zero, suc, _+_, _/_, _%_, _≤_, _<_}
+use Prim.Native.Nat.{ℕ, zero, suc, _+_, _/_, _%_}
 use native.Mathlib.Omega.{arith}
-use mathlib.Core.Path.{_≡_, refl, sym, ap, _∙_}
+use mathlib.Core.Path.{_≡_, refl}
 use mathlib.Core.Bool.{Bool, true, false, _&&_, not}
 use mathlib.Core.List.{List, [], _∷_, _++_}
 use lib.Dec.{eqb, ltb}
 use borrow.Author.Tests.{ne-eqb}
 use Rattle.text.specs.Text.{Bytes, newline}
 use Rattle.text.specs.Numbers.{digit, lowDigits, leadingDigits, decimalText}
-use Rattle.net_text.specs.Lines.{Lines, lines}
+use Rattle.net_text.specs.Lines.{lines}
 use Rattle.net_writing.specs.Writing.{ended, together}
 
 -- no byte of them ends a line

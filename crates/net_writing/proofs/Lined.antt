@@ -2,19 +2,19 @@
 use Prim.Native.Nat.{ℕ, zero, suc, _+_, _^_, _≤_, _<_}
 use Prim.Native.String.{String}
 use native.Mathlib.Omega.{arith}
-use mathlib.Core.Path.{_≡_, refl, sym, ap, _∙_}
-use mathlib.Core.Bool.{Bool, true, false}
+use mathlib.Core.Path.{_≡_, refl, ap, _∙_}
+use mathlib.Core.Bool.{false}
 use mathlib.Core.List.{List, [], _∷_, _++_, map, append-assoc}
-use mathlib.Core.Option.{Option, none, some}
-use lib.Dec.{eqb, T}
+use mathlib.Core.Option.{some}
+use lib.Dec.{T}
 use lib.ListN.{length, length-append}
-use lib.Ieee.{Float, binary64, ofBits, toBits, fits, top}
-use lib.Ieee.Bits.{ofBits-toBits, toBits-lt}
+use lib.Ieee.{Float, binary64, toBits, fits}
+use lib.Ieee.Bits.{toBits-lt}
 use Rattle.net.specs.Net.{Place, Arc, Take, Transition, pick}
 use Rattle.text.specs.Text.{Bytes, bytes}
 use Rattle.text.specs.Numbers.{decimalText, hexDigits, floatText}
-use Rattle.net_text.specs.Forms.{Met, wrong, met, behind, instead, alone, Decimal, decimal, hexadecimal, upToLast, upTo, nextArc, RawArc, rawTake, rawPut, rawRead, rawBlock, RawLine, rawPlace, rawMove, rawRun, placeForm, moveForm, runForm, lineOf}
-use Rattle.net_text.specs.Reading.{RunLine, transition}
+use Rattle.net_text.specs.Forms.{wrong, met, Decimal, upToLast, upTo, nextArc, RawArc, rawTake, rawPut, rawRead, rawBlock, rawPlace, rawMove, rawRun, lineOf}
+use Rattle.net_text.specs.Reading.{RunLine}
 use Rattle.net_text.proofs.Written.{decimal-reads, hexadecimal-reads}
 use Rattle.net_writing.specs.Writing.{together, placeLine, takePart, arcPart, arcParts, moveLine, runLine}
 
@@ -67,13 +67,15 @@ abbrev pub arcWords : String → Arc → List Bytes
 arcWords word a = bytes word ∷ decimalText (a .place) ∷ bytes " " ∷ decimalText (a .weight) ∷ bytes ")" ∷ []
 
 take-reads : (k : Take) → Reads (takePart k) (rawOfTake k)
-take-reads k =
-    (omega arith, λ t.
+take-reads k = (
+  omega arith,
+  λ t.
       ap nextArc (chain-is (takeWords k) t) ∙ rw (
         decimal-reads (k .place) (32 ∷ (decimalText (k .weight) ++ (32 ∷ (decimalText (pick (k .kinetic) 1 0) ++ (41 ∷ t))))) refl,
         decimal-reads (k .weight) (32 ∷ (decimalText (pick (k .kinetic) 1 0) ++ (41 ∷ t))) refl,
         decimal-reads (pick (k .kinetic) 1 0) (41 ∷ t) refl,
-      ))
+      ),
+)
 
 put-reads : (a : Arc) → Reads (arcPart " (put " a) (rawOfPut a)
 put-reads a =

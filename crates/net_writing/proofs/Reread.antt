@@ -1,29 +1,28 @@
 -- Written, then read, is the same net: the lines are cut as they were written, each says what was written and passes its tests, and the reading goes
 -- on behind it, place by place and transition by transition. Assumes nothing.
-use Prim.Native.Nat.{ℕ, zero, suc, _+_, _^_, _≤_, _<_}
+use Prim.Native.Nat.{ℕ, suc, _+_, _^_, _≤_, _<_}
 use Prim.Native.String.{String}
 use native.Mathlib.Omega.{arith}
-use mathlib.Core.Path.{_≡_, refl, sym, ap, _∙_}
-use mathlib.Core.Bool.{Bool, true, false, _||_, not}
+use mathlib.Core.Path.{_≡_, refl, ap, _∙_}
+use mathlib.Core.Bool.{Bool, true, false}
 use mathlib.Core.List.{List, [], _∷_, _++_, map, append-assoc, append-nil}
-use mathlib.Core.Option.{Option, none, some}
-use lib.Dec.{eqb, ltb, T}
+use mathlib.Core.Option.{none}
+use lib.Dec.{eqb, T}
 use lib.ListN.{length, length-append}
 use borrow.Author.Tests.{le-ltb}
 use lib.Ieee.{binary64, ofBits, toBits, fits}
 use lib.Ieee.Bits.{ofBits-toBits}
 use Rattle.net.specs.Net.{Place, Arc, Take, Transition, Net, pick}
-use Rattle.net.specs.Tests.{firstOf, any, empty, placeTests, moveTests}
+use Rattle.net.specs.Tests.{firstOf, empty, placeTests, moveTests}
 use Rattle.net.specs.Labels.{labelTests}
 use Rattle.text.specs.Text.{Bytes, bytes}
 use Rattle.text.specs.Numbers.{decimalText, floatText, hexDigits}
-use Rattle.net_text.specs.Lines.{Lines, lines}
-use Rattle.net_text.specs.Forms.{RawArc, RawLine, rawPlace, rawMove, rawRun, lineOf}
-use Rattle.net_text.specs.Reading.{RunLine, Answer, given, Due, opening, inside, closing, Outcome, goOn, onward, unless, badly, badArc, transition, insideLine, lineRead, readFrom, read, noNet}
+use Rattle.net_text.specs.Lines.{lines}
+use Rattle.net_text.specs.Reading.{RunLine, Answer, given, Due, opening, inside, closing, Outcome, goOn, onward, transition, insideLine, lineRead, readFrom, read}
 use Rattle.net_writing.specs.Writing.{together, placeLine, takePart, arcPart, arcParts, moveLine, runLine, placeLines, netLines, ended, netText}
 use Rattle.net_writing.specs.Writable.{placesFit, movesFit, Writable, ReadsBack}
 use Rattle.net_writing.proofs.Cut.{oneLine, oneLines, quoted-line, line-together, lines-more, decimal-line, hex-line, cut}
-use Rattle.net_writing.proofs.Lined.{plain, rawOfTake, rawOfPut, rawOfRead, rawOfBlock, rawArcs, place-reads, move-reads, run-reads}
+use Rattle.net_writing.proofs.Lined.{rawOfTake, rawOfPut, rawOfRead, rawOfBlock, rawArcs, place-reads, move-reads, run-reads}
 use Rattle.net_writing.proofs.Tested.{place-says, few-places, well, move-well}
 
 -- ---- a transition from its arcs
@@ -158,9 +157,11 @@ lined-places before earlier (q ∷ qs) (l ∷ ls) f =
     (lined-place q l (place-says before earlier q l (f .0) .1 .label), lined-places (suc before) (earlier ++ (l ∷ [])) qs ls (f .1))
 
 lined : (n : Net) (labels : List Bytes) (r : RunLine) → placesFit 0 [] (n .places) labels → oneLines (netLines n labels r)
-lined n labels r f =
-    (quoted-line (bytes "(net") refl, lines-more (placeLines (n .places) labels) _ (lined-places 0 [] (n .places) labels f)
-    (lines-more (map moveLine (n .transitions)) (runLine r ∷ bytes ")" ∷ []) (each-lined moveLine lined-move (n .transitions)) (lined-run r, (quoted-line (bytes ")") refl, tt))))
+lined n labels r f = (
+  quoted-line (bytes "(net") refl,
+  lines-more (placeLines (n .places) labels) _ (lined-places 0 [] (n .places) labels f)
+      (lines-more (map moveLine (n .transitions)) (runLine r ∷ bytes ")" ∷ []) (each-lined moveLine lined-move (n .transitions)) (lined-run r, (quoted-line (bytes ")") refl, tt))),
+)
 
 -- ---- the text
 

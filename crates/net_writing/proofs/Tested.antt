@@ -1,15 +1,15 @@
 -- What the reader's tests say where none applies: labels hold no newline, and no number of a net is too large for its decimal. Assumes nothing.
-use Prim.Native.Nat.{ℕ, zero, suc, _+_, _^_, _≤_, _<_}
+use Prim.Native.Nat.{ℕ, suc, _+_, _^_, _≤_, _<_}
 use native.Mathlib.Omega.{arith}
 use mathlib.Core.Path.{_≡_, refl, sym, ap, _∙_}
 use mathlib.Core.Bool.{Bool, true, false, _&&_, _||_, not}
 use mathlib.Core.List.{List, [], _∷_, _++_, map}
-use mathlib.Core.Option.{Option, none, some}
+use mathlib.Core.Option.{none}
 use lib.Dec.{eqb, leb, ltb}
 use lib.ListN.{length}
 use borrow.Author.Tests.{eqb-true, lt-leb, leb-false, ltb-false}
 use Rattle.net.specs.Net.{Place, Arc, Take, Transition, pick}
-use Rattle.net.specs.Tests.{Test, firstOf, any, asArc, arcs, placeTests, moveTests, noSuchPlace, outside, rateFits, delayFits}
+use Rattle.net.specs.Tests.{Test, firstOf, any, asArc, arcs, placeTests, moveTests, rateFits, delayFits}
 use Rattle.net.specs.Labels.{labelByte, every, labelFits, labelTests}
 use Rattle.text.specs.Text.{Bytes, newline}
 use Rattle.net_text.specs.Forms.{RawArc}

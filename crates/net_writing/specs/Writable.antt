@@ -1,9 +1,9 @@
 -- Which nets a text can hold: those that the reader's own tests find no fault in, place by place and transition by transition.
 use Prim.Native.Nat.{ℕ, suc, _^_, _≤_, _<_}
 use mathlib.Core.Path.{_≡_}
-use mathlib.Core.Bool.{Bool, true, false}
+use mathlib.Core.Bool.{false}
 use mathlib.Core.List.{List, [], _∷_, _++_}
-use mathlib.Core.Option.{Option, none, some}
+use mathlib.Core.Option.{none}
 use lib.ListN.{length}
 use lib.Dec.{T}
 use lib.Ieee.{binary64, fits}

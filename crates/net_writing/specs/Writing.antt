@@ -1,6 +1,5 @@
 -- The text of a net: the way a writer puts a net, the labels of its places and a run line into the lines of document 01, "Net text (added, house
 -- format)", and document 02, order 1. A reader's answer to it is the same net, labels and run line (Writable says for which).
-use Prim.Native.Nat.{ℕ}
 use Prim.Native.String.{String}
 use mathlib.Core.List.{List, [], _∷_, _++_, map}
 use Rattle.net.specs.Net.{Place, Arc, Take, Transition, Net, pick}

@@ -4,29 +4,29 @@ use Prim.Native.Nat.{ℕ, zero, suc, _+_, _%_, _/_, _^_, _≤_, _<_}
 use native.Mathlib.Omega.{arith}
 use native.Mathlib.Nat.{mod-lt}
 use mathlib.Core.Path.{_≡_, refl, sym, ap, _∙_}
-use mathlib.Core.Bool.{Bool, true, false, _&&_, _||_, not}
+use mathlib.Core.Bool.{Bool, true, false, _&&_}
 use mathlib.Core.List.{List, [], _∷_, _++_}
-use mathlib.Core.Option.{Option, none, some}
-use lib.Dec.{eqb, leb, ltb, T}
-use lib.ListN.{length, length-append}
+use mathlib.Core.Option.{none, some}
+use lib.Dec.{eqb, T}
+use lib.ListN.{length}
 use lib.Ieee.{binary64, ofBits, fits, le, lt, eq, isNan}
 use lib.Ieee.Bits.{ofBits-fits}
 use borrow.Author.Tests.{eqb-true, ne-eqb, le-leb, lt-leb, lt-ltb, le-ltb}
-use Rattle.net.specs.Net.{Place, Transition, Net, numbered, zero64, timed}
-use Rattle.net.specs.Tests.{firstOf, any, empty, placeTests, moveTests, rateFits, delayFits, tooMany, noSuchPlace, outside, delayedForNothing}
+use Rattle.net.specs.Net.{Place, numbered, zero64}
+use Rattle.net.specs.Tests.{firstOf, any, empty, placeTests, moveTests, rateFits, delayFits}
 use Rattle.net.specs.Labels.{labelByte, every, labelFits, labelTests}
 use Rattle.rng.specs.State.{State}
 use Rattle.rng.specs.Xoshiro.{output, step}
 use Rattle.text.specs.Text.{Bytes, same}
 use Rattle.text.specs.Numbers.{digit, leadingDigits, decimalText}
-use Rattle.net_text.specs.Forms.{Met, met, decimal}
+use Rattle.net_text.specs.Forms.{met, decimal}
 use Rattle.net_text.proofs.Written.{decimal-reads}
 use Rattle.net_writing.specs.Writable.{placesFit, movesFit, Writable}
 use Rattle.net_writing.proofs.Lined.{plain}
 use Rattle.net_writing.proofs.Reread.{reread}
-use Rattle.soak.specs.Soak.{start, choice, after, placesFrom, rateFrom, moving, movesFrom, soakNet, soakLabel, soakLabels, soakRun, soakText, sized}
-use Rattle.soak.specs.Published.{Published, AllPublished}
-use Rattle.soak.proofs.Bound.{Sizes, sizes, one-digit, two-digits, text-bound}
+use Rattle.soak.specs.Soak.{start, choice, after, placesFrom, rateFrom, moving, movesFrom, soakNet, soakLabel, soakLabels, soakRun, soakText}
+use Rattle.soak.specs.Published.{AllPublished}
+use Rattle.soak.proofs.Bound.{Sizes, sizes, two-digits, text-bound}
 
 -- ---- labels
 
@@ -110,8 +110,7 @@ places-pass : (number k : ℕ) (s : State) → number + k ≤ 32 → placesFit n
 places-pass number zero s h = tt
 places-pass number (suc k) s h =
     let last = numbered-last 0 number in
-    let start-at : 0 + number ≡ number = omega arith in
-    (
+    let start-at : 0 + number ≡ number = omega arith in (
       place-passes number (record { initial = choice s 10; capacity = 0 }) (omega arith) (mod-lt (output s) (omega arith)) refl,
       rw (rw start-at at last) (places-pass (suc number) k (step s) (omega arith)),
     )
@@ -154,13 +153,12 @@ move-passes places before taken put rate h few a b =
 
 moves-pass : (places before k : ℕ) (s : State) → 1 ≤ places → before + k ≤ 64 → movesFit places before (movesFrom places k s)
 moves-pass places before zero s h few = tt
-moves-pass places before (suc k) s h few =
-    (
-      move-passes places before (choice s places) (choice (step s) places) (choice (step (step s)) 4) h (omega arith) (mod-lt (output s) h) (mod-lt (output (step s)) h),
-      rate-held (choice (step (step s)) 4),
-      ofBits-fits binary64 0,
-      moves-pass places (suc before) k (step (step (step s))) h (omega arith),
-    )
+moves-pass places before (suc k) s h few = (
+  move-passes places before (choice s places) (choice (step s) places) (choice (step (step s)) 4) h (omega arith) (mod-lt (output s) h) (mod-lt (output (step s)) h),
+  rate-held (choice (step (step s)) 4),
+  ofBits-fits binary64 0,
+  moves-pass places (suc before) k (step (step (step s))) h (omega arith),
+)
 
 -- ---- the whole
 
@@ -187,7 +185,7 @@ writable seed places transitions h z =
       realizations = omega arith;
       seed = h;
       horizon = omega arith;
-      short = omega arith
+      short = omega arith;
     }
 
 accepted-is : (seed places transitions : ℕ) → Writable (soakNet seed places transitions) (soakLabels places) (soakRun seed)

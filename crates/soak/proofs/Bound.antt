@@ -1,10 +1,10 @@
 -- No text has more than 1,614 bytes: 15 or 16 bytes a place, at most 66 a transition, at most 49 for the run line. Assumes nothing.
-use Prim.Native.Nat.{ℕ, zero, suc, _+_, _-_, _*_, _/_, _%_, _^_, _≤_, _<_}
+use Prim.Native.Nat.{ℕ, zero, suc, _+_, _-_, _*_, _/_, _^_, _≤_, _<_}
 use native.Mathlib.Omega.{arith}
 use native.Mathlib.Nat.{mod-lt}
-use mathlib.Core.Path.{_≡_, refl, sym, ap, _∙_}
+use mathlib.Core.Path.{_≡_, refl, ap, _∙_}
 use mathlib.Core.Bool.{Bool, true, false, _&&_}
-use mathlib.Core.List.{List, [], _∷_, _++_}
+use mathlib.Core.List.{List, _++_}
 use lib.Dec.{leb, ltb}
 use lib.ListN.{length, length-append}
 use borrow.Author.Tests.{leb-true, ltb-true, ltb-false}
@@ -55,7 +55,7 @@ sizes places transitions e =
       some-place = leb-true 1 places (a .0);
       few-places = leb-true places 32 (a .1);
       some-move = leb-true 1 transitions (b .1);
-      few-moves = leb-true transitions 16 (c .1)
+      few-moves = leb-true transitions 16 (c .1);
     }
 
 -- ---- lines

@@ -3,20 +3,20 @@ use Prim.Native.Nat.{ℕ, _+_, _^_, _≤_, _<_}
 use native.Mathlib.Omega.{arith}
 use mathlib.Core.Path.{_≡_, refl, sym, ap, _∙_}
 use mathlib.Core.Bool.{Bool, true, false}
-use mathlib.Core.List.{List, [], _∷_, _++_}
+use mathlib.Core.List.{_++_}
 use lib.ListN.{length, take, drop}
 use lib.Seq.{take-append-seam}
 use Rattle.text.specs.Text.{Bytes, bytes}
 use Rattle.text.specs.Buffer.{placed, written}
 use Rattle.text.specs.declared.Written.{Written}
-use Rattle.text.specs.declared.Written.the-variants.{Next, Short}
+use Rattle.text.specs.declared.Written.the-variants.{Next}
 use Rattle.text.proofs.Places.{fitted, length-placed}
 use Rattle.net.specs.Net.{pick}
 use Rattle.net_writing.specs.Writing.{together}
 use Rattle.soak.specs.Soak.{sized, soakText, answerOf, answered, called}
 use Rattle.soak.specs.Words.{thenAll, allWords, reached}
 use Rattle.soak.specs.declared.Answer.{Answer}
-use Rattle.soak.specs.declared.Answer.the-variants.{Text, Refused}
+use Rattle.soak.specs.declared.Answer.the-variants.{Refused}
 use Rattle.soak.proofs.Steps.{Left, joined}
 use Rattle.soak.proofs.Texts.{whole-text}
 use Rattle.soak.proofs.Bound.{Sizes, words-bound, text-bound}
@@ -36,7 +36,7 @@ front-of room w later end n h e r =
     record {
       long = long;
       fits = omega (arith, ap length left, length-placed room 0 w fits);
-      is = rw (left, long) (take-append-seam w (drop (0 + length w) room))
+      is = rw (left, long) (take-append-seam w (drop (0 + length w) room));
     }
 
 pub text-in : (seed places transitions : ℕ) (room later : Bytes) (end : Written) (n : ℕ) → seed < 2 ^ 64 → Sizes places transitions → length room ≡ 1614

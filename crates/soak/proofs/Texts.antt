@@ -3,13 +3,13 @@ use Prim.Native.Nat.{ℕ, zero, suc, _+_}
 use mathlib.Core.Path.{_≡_, refl, sym, ap, _∙_}
 use mathlib.Core.Bool.{true}
 use mathlib.Core.List.{List, [], _∷_, _++_, map, append-assoc}
-use lib.Ieee.{binary64, ofBits, toBits}
-use Rattle.net.specs.Net.{Place, Take, Arc, Transition, numbered, zero64}
+use lib.Ieee.{ofBits, toBits}
+use Rattle.net.specs.Net.{Take, Arc, numbered, zero64}
 use Rattle.rng.specs.State.{State}
 use Rattle.rng.specs.Xoshiro.{step}
 use Rattle.text.specs.Text.{Bytes, bytes, newline}
 use Rattle.text.specs.Numbers.{decimalText, hexDigits, floatText}
-use Rattle.net_writing.specs.Writing.{together, placeLine, takePart, arcPart, arcParts, moveLine, runLine, placeLines, netLines, ended, netText}
+use Rattle.net_writing.specs.Writing.{together, placeLine, takePart, arcPart, moveLine, runLine, placeLines, ended, netText}
 use Rattle.net_writing.proofs.Lined.{chained, chain-is, takeWords, arcWords}
 use Rattle.soak.specs.Soak.{start, choice, after, placesFrom, rateFrom, moving, movesFrom, soakNet, soakLabel, soakLabels, soakRun, soakText}
 use Rattle.soak.specs.Words.{placeWords, placesWords, moveWords, movesWords, runWords, allWords}

@@ -1,6 +1,6 @@
 -- The published soak load: its net, its text, and what a call leaves. Document 02, order 14.
 use Prim.Native.Nat.{ℕ, zero, suc, _%_}
-use mathlib.Core.Bool.{Bool, true, false, _&&_}
+use mathlib.Core.Bool.{Bool, true, _&&_}
 use mathlib.Core.List.{List, [], _∷_, _++_}
 use lib.Dec.{eqb, leb}
 use lib.Ieee.{Float, binary64, ofBits}
@@ -22,8 +22,11 @@ use Rattle.soak.specs.declared.Answer.the-variants.{Text, Refused}
 -- ---- the choices
 
 -- "with seed 0 read as 1"
+abbrev pub drawnAs : ℕ → ℕ
+drawnAs seed = pick (eqb seed 0) 1 seed
+
 abbrev pub start : ℕ → State
-start seed = seeded (pick (eqb seed 0) 1 seed)
+start seed = seeded (drawnAs seed)
 
 -- "each choice is the next raw output modulo the number of options"; behind it the generator has made one step
 abbrev pub choice : State → ℕ → ℕ
@@ -57,7 +60,7 @@ moving taken put rate =
       takes = record { place = taken; weight = 1; kinetic = true } ∷ [];
       puts = record { place = put; weight = 1 } ∷ [];
       reads = [];
-      blocks = []
+      blocks = [];
     }
 
 -- "then per transition a take place, a put place, and a rate", over so many places

@@ -27,13 +27,13 @@ struct Drawn {
 }
 
 // Seed 0 draws as 1.
-fn first_state(seed: u64) -> Xoshiro256
-    ensures { λ r. ⌜ words (r .s) ≡ Soak.start seed ⌝ }
+fn drawn_seed(seed: u64) -> u64
+    ensures { λ r. ⌜ r ≡ Soak.drawnAs seed ⌝ }
 {
     if seed == 0 {
-        return Xoshiro256::new(1);
+        return 1;
     }
-    Xoshiro256::new(seed)
+    seed
 }
 
 fn rate_of(choice: u64) -> f64
@@ -93,7 +93,13 @@ fn then_move(out: &mut [u8], first: Written, taken: u64, put: u64, rate: u64) ->
     text::then_bytes(out, putting, b" 1))\n")
 }
 
-fn then_moves(out: &mut [u8], first: Written, start: Xoshiro256, places: u64, transitions: u64) -> Written
+fn then_moves(
+    out: &mut [u8],
+    first: Written,
+    start: Xoshiro256,
+    places: u64,
+    transitions: u64,
+) -> Written
     requires { ⌜ 0 < places ⌝ }
     ensures { λ r. ⌜ (now (out .exit), r) ≡ Words.thenAll (now (out .entry), first) (Words.movesWords places transitions (words (start .s))) ⌝ }
 {
@@ -108,7 +114,13 @@ fn then_moves(out: &mut [u8], first: Written, start: Xoshiro256, places: u64, tr
         let third = put.rng;
         let rate = third.next_u64();
         let stepped = rate.rng;
-        last = then_move(out, last, taken.value % places, put.value % places, rate.value % 4);
+        last = then_move(
+            out,
+            last,
+            taken.value % places,
+            put.value % places,
+            rate.value % 4,
+        );
         rng = stepped;
         number = next;
     }
@@ -120,7 +132,8 @@ fn write_all(out: &mut [u8], seed: u64, places: u64, transitions: u64) -> Writte
     ensures { λ r. ⌜ (now (out .exit), r) ≡ Words.thenAll (written (now (out .entry)) 0 (bytes "(net\n")) (Words.allWords seed places transitions) ⌝ }
 {
     let head = text::put_bytes(out, 0, b"(net\n");
-    let placed = then_places(out, head, first_state(seed), places);
+    let drawn_as = drawn_seed(seed);
+    let placed = then_places(out, head, Xoshiro256::new(drawn_as), places);
     let rng = placed.rng;
     let last = placed.last;
     let moved = then_moves(out, last, rng, places, transitions);

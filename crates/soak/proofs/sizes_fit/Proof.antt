@@ -1,26 +1,21 @@
+-- `sizes_fit` meets its contract: each test is one of the four.
 use borrow.Author.Tests.{le-leb, lt-leb}
 use Rattle.soak.proofs.sizes_fit.Statement.{statement}
 use Rattle.soak.proofs.sizes_fit.Tie as tie
-use Rattle.soak.proofs.sizes_fit.Reads as reads
-use Rattle.soak.proofs.sizes_fit.Lts as lts
 
--- src/lib.rt:163:9
 returns : tie.Need-returns
 returns c = rw (lt-leb 1 (c .before .args .places) (c .if1 .taken))
 
--- src/lib.rt:166:9
 returns-2 : tie.Need-returns-2
 returns-2 c =
     let a = c .before .before .args in
     rw (le-leb 1 (a .places) (c .before .if1 .left), lt-leb (a .places) 32 (c .if2 .taken))
 
--- src/lib.rt:169:9
 returns-3 : tie.Need-returns-3
 returns-3 c =
     let a = c .before .before .before .args in
     rw (le-leb 1 (a .places) (c .before .before .if1 .left), le-leb (a .places) 32 (c .before .if2 .left), lt-leb 1 (a .transitions) (c .if3 .taken))
 
--- src/lib.rt:159:1
 returns-4 : tie.Need-returns-4
 returns-4 c =
     let a = c .before .before .before .args in

@@ -1,68 +1,49 @@
+-- `then_move` meets its contract: seven words, one behind the other.
 use borrow.Author.Needs.{needs}
 use Rattle.text.specs.Text.{bytes}
 use Rattle.soak.proofs.Steps.{seven}
 use Rattle.soak.proofs.then_move.Statement.{statement}
 use Rattle.soak.proofs.then_move.Tie as tie
-use Rattle.soak.proofs.then_move.Reads as reads
-use Rattle.soak.proofs.then_move.Lts as lts
-use Rattle.soak.proofs.rate_of.Reads as rate-of-reads
-use Rattle.text.proofs.then_bytes.Reads as then-bytes-reads
-use Rattle.text.proofs.then_decimal.Reads as then-decimal-reads
-use Rattle.text.proofs.then_float.Reads as then-float-reads
 
--- src/lib.rt:85:46
 slice-aggregate-then-bytes : tie.Need-slice-aggregate-then-bytes
 slice-aggregate-then-bytes c = search needs
 
--- src/lib.rt:85:9
 then-bytes-requires : tie.Need-then-bytes-requires
 then-bytes-requires c κs = search needs
 
--- src/lib.rt:86:45
 rate-of-requires : tie.Need-rate-of-requires
 rate-of-requires c κs = search needs
 
--- src/lib.rt:86:9
 then-float-requires : tie.Need-then-float-requires
 then-float-requires c κs = search needs
 
--- src/lib.rt:87:50
 slice-aggregate-then-bytes-2 : tie.Need-slice-aggregate-then-bytes-2
 slice-aggregate-then-bytes-2 c = search needs
 
--- src/lib.rt:87:9
 then-bytes-requires-2 : tie.Need-then-bytes-requires-2
 then-bytes-requires-2 c κs = search needs
 
--- src/lib.rt:88:9
 then-decimal-requires : tie.Need-then-decimal-requires
 then-decimal-requires c κs = search needs
 
--- src/lib.rt:89:49
 slice-aggregate-then-bytes-3 : tie.Need-slice-aggregate-then-bytes-3
 slice-aggregate-then-bytes-3 c = search needs
 
--- src/lib.rt:89:9
 then-bytes-requires-3 : tie.Need-then-bytes-requires-3
 then-bytes-requires-3 c κs = search needs
 
--- src/lib.rt:90:9
 then-decimal-requires-2 : tie.Need-then-decimal-requires-2
 then-decimal-requires-2 c κs = search needs
 
--- src/lib.rt:91:36
 slice-aggregate-then-bytes-4 : tie.Need-slice-aggregate-then-bytes-4
 slice-aggregate-then-bytes-4 c = search needs
 
--- src/lib.rt:91:5
 then-bytes-requires-4 : tie.Need-then-bytes-requires-4
 then-bytes-requires-4 c κs = search needs
 
--- src/lib.rt:82:1
 same-length : tie.Need-same-length
 same-length c = search needs
 
--- src/lib.rt:82:1
 returns : tie.Need-returns
 returns c =
     let a = c .before .before .before .before .before .before .before .before .before .before .before .before .before .before .before .before .before .before .before .before .before .before .before .before .before .before .before .before .before .before .before .before .before .before .args in

@@ -1,3 +1,5 @@
+-- `then_places` meets its contract. The invariant: what is left of the places, written from here, is all of them written; and the choices left from here
+-- lead to the generator behind all of them.
 use borrow.Author.Needs.{needs}
 use lib.ListN.{length}
 use Rattle.rng.specs.State.{words}
@@ -5,14 +7,10 @@ use Rattle.soak.specs.Soak.{after}
 use Rattle.soak.specs.Words.{thenAll, placesWords}
 use Rattle.soak.proofs.Steps.{place-turn, after-turn}
 use native.Mathlib.Omega.{arith}
-use mathlib.Core.Path.{_≡_, refl, sym, ap, _∙_}
-use Prim.Native.Nat.{ℕ, _+_, _-_, _*_, _≤_, _<_}
+use mathlib.Core.Path.{_≡_, refl, _∙_}
+use Prim.Native.Nat.{_-_, _≤_, _<_}
 use Rattle.soak.proofs.then_places.Statement.{statement}
 use Rattle.soak.proofs.then_places.Tie as tie
-use Rattle.soak.proofs.then_places.Reads as reads
-use Rattle.soak.proofs.then_places.Lts as lts
-use Rattle.rng.proofs.Xoshiro256.next_u64.Reads as next-u64-reads
-use Rattle.soak.proofs.then_place.Reads as then-place-reads
 
 abbrev Inv-loop : tie.InvT-loop
 Inv-loop out₀ places last₀ rng₀ number₀ out last rng number =
@@ -24,47 +22,38 @@ Inv-loop out₀ places last₀ rng₀ number₀ out last rng number =
 abbrev μ-loop : tie.MeasureT-loop
 μ-loop out₀ places last₀ rng₀ number₀ out last rng number = places - number
 
--- src/lib.rt:68:5
 loop-holds : tie.Need-loop-holds Inv-loop μ-loop
 loop-holds c =
     let all : c .before .args .places - 0 ≡ c .before .args .places = omega arith in
     (rw all, rw all, omega arith, refl)
 
--- src/lib.rt:69:20
 add-next : tie.Need-add-next Inv-loop μ-loop
 add-next c = search needs
 
--- src/lib.rt:70:13
 next-u64-requires : tie.Need-next-u64-requires Inv-loop μ-loop
 next-u64-requires c κs = search needs
 
--- src/lib.rt:72:9
 then-place-requires : tie.Need-then-place-requires Inv-loop μ-loop
 then-place-requires c κs = search needs
 
--- src/lib.rt:68:5
 loop-less : tie.Need-loop-less Inv-loop μ-loop
 loop-less c = search needs
 
--- src/lib.rt:68:5
 loop-again : tie.Need-loop-again Inv-loop μ-loop
 loop-again c =
     let l = c .before .before .before .before .before .before .before .before .loop in
     let places = c .before .before .before .before .before .before .before .before .before .before .args .places in
     let more : l .number < places = c .before .before .before .before .before .before .before .loop-test .taken in
-    let drawn = c .before .before .before .before .before .before .next-u64 .ensures in
-    (
+    let drawn = c .before .before .before .before .before .before .next-u64 .ensures in (
       place-turn (l .out, l .last) _ places (l .number) (words (l .rng .s)) _ _ more (drawn .0) (drawn .1) (c .before .before .then-place .ensures) ∙ l .inv .0,
       after-turn places (l .number) (words (l .rng .s)) _ more (drawn .1) ∙ l .inv .1,
       omega arith,
       omega arith,
     )
 
--- src/lib.rt:62:1
 same-length : tie.Need-same-length Inv-loop μ-loop
 same-length c = search needs
 
--- src/lib.rt:62:1
 returns : tie.Need-returns Inv-loop μ-loop
 returns c =
     let l = c .before .loop in
