@@ -1,62 +1,48 @@
+-- `number_of` is safe and ends: the loop passes one byte a turn.
 use borrow.Author.Needs.{needs}
-use native.Mathlib.Omega.{arith}
-use mathlib.Core.Path.{_≡_, refl, sym, ap, _∙_}
-use Prim.Native.Nat.{ℕ, _+_, _-_, _*_, _≤_, _<_}
+use lib.ListN.{length}
+use Prim.Native.Nat.{_-_, _≤_}
 use Rattle.soak_text.proofs.number_of.Statement.{statement}
 use Rattle.soak_text.proofs.number_of.Tie as tie
-use Rattle.soak_text.proofs.number_of.Reads as reads
-use Rattle.soak_text.proofs.number_of.Lts as lts
-use Rattle.soak_text.proofs.with_digit.Reads as with-digit-reads
 
 abbrev Inv-loop : tie.InvT-loop
-Inv-loop digits v₀ i₀ v i = ?
+Inv-loop digits v₀ i₀ v i = i ≤ length digits
 
 abbrev μ-loop : tie.MeasureT-loop
-μ-loop digits v₀ i₀ v i = ?
+μ-loop digits v₀ i₀ v i = length digits - i
 
--- src/main.rt:35:9
 returns : tie.Need-returns Inv-loop μ-loop
-returns c = ?
+returns c = search needs
 
--- src/main.rt:39:5
 loop-holds : tie.Need-loop-holds Inv-loop μ-loop
-loop-holds c = ?
+loop-holds c = search needs
 
--- src/main.rt:40:46
 shared-slice-read-with-digit : tie.Need-shared-slice-read-with-digit Inv-loop μ-loop
 shared-slice-read-with-digit c = search needs
 
--- src/main.rt:40:32
 with-digit-requires : tie.Need-with-digit-requires Inv-loop μ-loop
 with-digit-requires c κs = search needs
 
--- src/main.rt:40:24
 enum-known-more : tie.Need-enum-known-more Inv-loop μ-loop
-enum-known-more c = ?
+enum-known-more c = search needs
 
--- src/main.rt:41:13
 enum-told : tie.Need-enum-told Inv-loop μ-loop
-enum-told c = ?
+enum-told c = search needs
 
--- src/main.rt:41:13
 returns-2 : tie.Need-returns-2 Inv-loop μ-loop
-returns-2 c = ?
+returns-2 c = search needs
 
--- src/main.rt:44:9
 add-i : tie.Need-add-i Inv-loop μ-loop
 add-i c = search needs
 
--- src/main.rt:39:5
 loop-less : tie.Need-loop-less Inv-loop μ-loop
 loop-less c = search needs
 
--- src/main.rt:39:5
 loop-again : tie.Need-loop-again Inv-loop μ-loop
-loop-again c = ?
+loop-again c = search needs
 
--- src/main.rt:33:1
 returns-3 : tie.Need-returns-3 Inv-loop μ-loop
-returns-3 c = ?
+returns-3 c = search needs
 
 pub number-of-spec : {M : Type 1} → statement M
 number-of-spec =

@@ -1,36 +1,28 @@
+-- `write_front` is safe: past the test the part has the n bytes that are asked for.
 use borrow.Author.Needs.{needs}
+use mathlib.Core.Path.{sym}
+use lib.Seq.{length-take-le}
 use Rattle.soak_text.proofs.write_front.Statement.{statement}
 use Rattle.soak_text.proofs.write_front.Tie as tie
-use Rattle.soak_text.proofs.write_front.Reads as reads
-use Rattle.soak_text.proofs.write_front.Lts as lts
-use Rattle.io.proofs.write_all.Reads as write-all-reads
-use Rattle.soak_text.proofs.say.Reads as say-reads
 
--- src/main.rt:74:42
 slice-aggregate-write-all : tie.Need-slice-aggregate-write-all
-slice-aggregate-write-all c = ?
+slice-aggregate-write-all c = sym (length-take-le _ _ (c .before .if1 .taken))
 
--- src/main.rt:74:13
 write-all-requires : tie.Need-write-all-requires
 write-all-requires c κs = search needs
 
--- src/main.rt:75:17
 slice-aggregate-say : tie.Need-slice-aggregate-say
 slice-aggregate-say c = search needs
 
--- src/main.rt:75:13
 say-requires : tie.Need-say-requires
 say-requires c κs = search needs
 
--- src/main.rt:72:1
 returns : tie.Need-returns
 returns c = search needs
 
--- src/main.rt:72:1
 returns-2 : tie.Need-returns-2
 returns-2 c = search needs
 
--- src/main.rt:72:1
 returns-3 : tie.Need-returns-3
 returns-3 c = search needs
 
