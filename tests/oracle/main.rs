@@ -13,6 +13,7 @@ mod reasons;
 mod report;
 mod runs;
 mod sample;
+mod soaks;
 #[allow(dead_code, unused_imports)]
 mod ssa;
 
@@ -26,6 +27,7 @@ fn main() {
             runs::compare(&mut report, number(seed), number(inputs) / 1000);
             diffusions::compare(&mut report, number(seed), number(inputs) / 1000);
             reasons::compare(&mut report, number(seed), number(inputs) / 100);
+            soaks::compare(&mut report, number(seed), number(inputs) / 1000);
             println!("{} passed, {} failed", report.passed, report.failed);
             std::process::exit((report.failed > 0) as i32);
         }

@@ -110,6 +110,7 @@ mod c {
             told: *mut [u64; 2],
         );
         pub fn cild_normals(state: *mut [u64; 4], spare: *mut f64, waiting: *mut bool, out: *mut f64, len: usize) -> usize;
+        pub fn cild_soak(seed: u64, places: u64, transitions: u64, out: *mut u8, len: usize, told: *mut [u64; 2]);
     }
 }
 
@@ -287,4 +288,11 @@ pub fn reason(f: &Fields, out: &mut [u8]) -> [u64; 2] {
 /// Normal draws into out; how many before one was refused.
 pub fn normals(state: &mut [u64; 4], spare: &mut f64, waiting: &mut bool, out: &mut [f64]) -> usize {
     unsafe { c::cild_normals(state, spare, waiting, out.as_mut_ptr(), out.len()) }
+}
+
+/// The refusal's number, or 0; the length of the text at the front of out.
+pub fn soak(seed: u64, places: u64, transitions: u64, out: &mut [u8]) -> [u64; 2] {
+    let mut told = [0; 2];
+    unsafe { c::cild_soak(seed, places, transitions, out.as_mut_ptr(), out.len(), &mut told) };
+    told
 }

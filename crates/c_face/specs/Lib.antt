@@ -6,3 +6,4 @@ pub mod Diffused
 pub mod Reasoned
 pub mod Normals
 pub mod Read
+pub mod Soaked

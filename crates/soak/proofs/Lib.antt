@@ -1,0 +1,5 @@
+pub mod Steps
+pub mod Texts
+pub mod Bound
+pub mod Accepted
+pub mod Placed

@@ -1,0 +1,3 @@
+pub mod Soak
+pub mod Words
+pub mod Published
