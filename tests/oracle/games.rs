@@ -235,7 +235,7 @@ fn case(net: Net, sides: &[u64], place: u64, count: u64, turns: u64) -> Case {
     Case { net, sides: sides.to_vec(), place, count, turns }
 }
 
-/// The cases that order 13 names, each with its answer as worked by hand.
+/// The cases that order 13 names, each with its answer, worked by hand where the game is short.
 pub fn edges() -> Vec<(Case, [u64; 3])> {
     let mut v = vec![];
     let mut told = |c: Case, first: u64, who: u64, positions: u64| v.push((c, [first, who, positions]));
@@ -344,6 +344,13 @@ pub fn edges() -> Vec<(Case, [u64; 3])> {
         told(case(paths::net(&[1], vec![(1.0, 1.0, vec![put(0, 1)])]), sides, place, 1, turns), 6, 0, 0);
     }
     told(case(delayed(-0.0), &[0, 1], 1, 1, 1), TRANSITION, 0, 2);
+    // the games of nets/storm.net and nets/shed.net, as nets/README.md tells them
+    let cells: [&[Arc]; 5] = [&[plain(0, 3), put(2, 3)], &[plain(1, 2), put(2, 2)], &[plain(3, 1), put(4, 1)], &[plain(2, 1), read(3, 1), put(5, 1)], &[plain(4, 1), put(3, 1)]];
+    let storm = |initial: &[i64], arcs: &[&[Arc]]| bounded(net(initial, arcs), &[0, 0, 8]);
+    let shed = || storm(&[9, 8, 0, 2, 0, 0, 0], &[&cells[..], &[&[plain(2, 3), put(6, 3)]]].concat());
+    told(case(storm(&[9, 8, 0, 2, 0, 0], &cells), &[0, 0, 0, 1, 1], 2, 8, 6), NO, 0, 79);
+    told(case(storm(&[9, 8, 0, 2, 0, 0], &cells), &[0, 0, 0, 1, 1], 2, 8, 8), TRANSITION, 0, 8);
+    told(case(shed(), &[0, 0, 0, 1, 1, 1], 2, 8, 8), NO, 0, 247);
     // the net's own, one of each
     told(case(net(&[], &[]), &[], 0, 1, 0), 2, 0, 0);
     told(case(net(&[0; 33], &[]), &[], 0, 1, 1), 2, 0, 0);
