@@ -3,6 +3,7 @@
 //! machine counts as little as it can.
 use crate::draw::Draw;
 use crate::ensembles;
+use crate::games;
 use crate::leaves::{ways, ways_real};
 use crate::paths;
 use crate::rattle;
@@ -15,6 +16,7 @@ use std::time::Instant;
 const N: usize = 4096;
 const ROUNDS: usize = 2000;
 const PATH_ROUNDS: usize = 50;
+const GAME_ROUNDS: usize = 5;
 
 /// Both functions get a fresh copy of the inputs in each round; making it is not timed.
 fn measure<T: Clone>(name: &str, input: &[T], ours: impl Fn(&mut [T]), theirs: impl Fn(&mut [T])) {
@@ -183,6 +185,26 @@ pub fn bench_reader(folder: &str) {
             best = best.min(began.elapsed().as_nanos() as f64 / 1000.0);
         }
         println!("{name:34} {:>8} {best:8.2} {:8.0}   refusal and line {:?}", text.len(), text.len() as f64 / best, rattle::read(&text));
+    }
+}
+
+/// Positions of a game in a second, and the time of a whole search: the least of some rounds. The Rust is the harness's own search, since the source
+/// has none; both have to give the same answer first.
+pub fn bench_game() {
+    println!("{:34} {:>8} {:>8} {:>7} {:>8} {:>8}", "million positions a second", "ours", "Rust", "ratio", "ours, s", "Rust, s");
+    for (name, case) in games::measured() {
+        let answer = games::searched(&case);
+        assert_eq!(games::by_library(&case), answer, "{name}: the answers differ");
+        let mut best = [f64::INFINITY; 2];
+        for _ in 0..GAME_ROUNDS {
+            for (side, run) in [games::by_library, games::searched].into_iter().enumerate() {
+                let began = Instant::now();
+                black_box(run(black_box(&case)));
+                best[side] = best[side].min(began.elapsed().as_secs_f64());
+            }
+        }
+        let rate = |time: f64| answer[2] as f64 / time / 1e6;
+        println!("{name:34} {:8.1} {:8.1} {:7.2} {:8.3} {:8.3}   {} positions", rate(best[0]), rate(best[1]), best[0] / best[1], best[0], best[1], answer[2]);
     }
 }
 

@@ -4,6 +4,7 @@ mod bench;
 mod diffusions;
 mod draw;
 mod ensembles;
+mod games;
 mod leaves;
 #[allow(dead_code)]
 mod nets;
@@ -28,6 +29,7 @@ fn main() {
             diffusions::compare(&mut report, number(seed), number(inputs) / 1000);
             reasons::compare(&mut report, number(seed), number(inputs) / 100);
             soaks::compare(&mut report, number(seed), number(inputs) / 1000);
+            games::compare(&mut report, number(seed), number(inputs) / 200);
             println!("{} passed, {} failed", report.passed, report.failed);
             std::process::exit((report.failed > 0) as i32);
         }
@@ -41,8 +43,9 @@ fn main() {
         }
         ["bench"] => bench::bench(),
         ["bench-reader", folder] => bench::bench_reader(folder),
+        ["bench-game"] => bench::bench_game(),
         _ => {
-            eprintln!("compare SEED INPUTS | paths SEED COUNT FILE | ensembles SEED COUNT FOLDER | record FOLDER FOLDER FOLDER FILE | bench | bench-reader FOLDER");
+            eprintln!("compare SEED INPUTS | paths SEED COUNT FILE | ensembles SEED COUNT FOLDER | record FOLDER FOLDER FOLDER FILE | bench | bench-reader FOLDER | bench-game");
             std::process::exit(2);
         }
     }

@@ -116,7 +116,7 @@ fn puts(m: &Move) -> impl Iterator<Item = (usize, i64)> + '_ {
     })
 }
 
-fn enabled(net: &Net, counts: &[i64], m: &Move) -> bool {
+pub fn enabled(net: &Net, counts: &[i64], m: &Move) -> bool {
     let arcs = m.arcs.iter().all(|a| match *a {
         Arc::Take { place, weight, .. } | Arc::Read { place, weight } => amount(weight) <= counts[place],
         Arc::Block { place, weight } => counts[place] < amount(weight),
@@ -363,34 +363,34 @@ pub fn by_library(case: &Case) -> String {
 
 // ---- the cases at edges
 
-fn take(place: usize, weight: i64) -> Arc {
+pub fn take(place: usize, weight: i64) -> Arc {
     Arc::Take { place, weight, kinetic: true }
 }
 
-fn plain(place: usize, weight: i64) -> Arc {
+pub fn plain(place: usize, weight: i64) -> Arc {
     Arc::Take { place, weight, kinetic: false }
 }
 
-fn put(place: usize, weight: i64) -> Arc {
+pub fn put(place: usize, weight: i64) -> Arc {
     Arc::Put { place, weight }
 }
 
-fn read(place: usize, weight: i64) -> Arc {
+pub fn read(place: usize, weight: i64) -> Arc {
     Arc::Read { place, weight }
 }
 
-fn block(place: usize, weight: i64) -> Arc {
+pub fn block(place: usize, weight: i64) -> Arc {
     Arc::Block { place, weight }
 }
 
-fn net(initial: &[i64], moves: Vec<(f64, f64, Vec<Arc>)>) -> Net {
+pub fn net(initial: &[i64], moves: Vec<(f64, f64, Vec<Arc>)>) -> Net {
     Net {
         places: initial.iter().enumerate().map(|(p, &initial)| Place { initial, capacity: 0, label: Label::numbered(p) }).collect(),
         moves: moves.into_iter().map(|(rate, delay, arcs)| Move { rate, delay, arcs }).collect(),
     }
 }
 
-fn bounded(mut net: Net, capacities: &[i64]) -> Net {
+pub fn bounded(mut net: Net, capacities: &[i64]) -> Net {
     net.places.iter_mut().zip(capacities).for_each(|(p, &c)| p.capacity = c);
     net
 }

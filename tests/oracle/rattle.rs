@@ -109,6 +109,26 @@ mod c {
             bytes: usize,
             told: *mut [u64; 2],
         );
+        pub fn cild_game(
+            places: usize,
+            transitions: usize,
+            initial: *const [u64; 32],
+            capacity: *const [u64; 32],
+            label: *const [u8; 512],
+            lengths: *const [usize; 32],
+            rate: *const [f64; 64],
+            delay: *const [f64; 64],
+            arcs: *const [usize; 64],
+            kind: *const [u64; 1024],
+            place: *const [usize; 1024],
+            weight: *const [u64; 1024],
+            sides: *const u64,
+            n: usize,
+            named: u64,
+            count: u64,
+            turns: u64,
+            told: *mut [u64; 3],
+        );
         pub fn cild_normals(state: *mut [u64; 4], spare: *mut f64, waiting: *mut bool, out: *mut f64, len: usize) -> usize;
         pub fn cild_soak(seed: u64, places: u64, transitions: u64, out: *mut u8, len: usize, told: *mut [u64; 2]);
     }
@@ -282,6 +302,13 @@ pub fn diffusion(f: &Fields, samples: u64, realizations: u64, seed: u64, horizon
 pub fn reason(f: &Fields, out: &mut [u8]) -> [u64; 2] {
     let mut told = [0; 2];
     lend!(cild_reason, f, out.as_mut_ptr(), out.len(), &mut told);
+    told
+}
+
+/// A refusal's number, or 100 no, 101 already there, 102 pass, 103 a transition; the transition's number; the positions.
+pub fn game(f: &Fields, sides: &[u64], place: u64, count: u64, turns: u64) -> [u64; 3] {
+    let mut told = [7; 3];
+    lend!(cild_game, f, sides.as_ptr(), sides.len(), place, count, turns, &mut told);
     told
 }
 
