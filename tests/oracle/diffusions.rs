@@ -224,11 +224,18 @@ pub fn compare(report: &mut Report, seed: u64, count: u64) {
         }
     });
     report.compare("diffusions against the source", |case| {
-        let mut draw = Draw::new(seed);
+        let (mut draw, mut labels) = (Draw::new(seed), Draw::new(seed));
         for k in 0..count {
-            let c = drawn(&mut draw);
+            let mut c = drawn(&mut draw);
             let a = answer(&c);
             case(library_agrees(&c, &a), &|| format!("case {k}: {:?}", a.0));
+            paths::relabel(&mut labels, &mut c.net);
+            case(library_agrees(&c, &a), &|| format!("case {k} with other labels: {:?}", a.0));
+            paths::spoil_label(&mut labels, &mut c.net);
+            if fault(&c).is_some() {
+                let a = answer(&c);
+                case(library_agrees(&c, &a), &|| format!("case {k} with damaged labels: {:?}", a.0));
+            }
         }
     });
 }

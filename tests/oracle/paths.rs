@@ -678,7 +678,7 @@ pub fn spoil(draw: &mut Draw, net: &mut Net) {
 }
 
 /// A label that is accepted: one that no place has whose label is numbered.
-pub fn drawn_label(draw: &mut Draw, p: usize) -> Label {
+fn drawn_label(draw: &mut Draw, p: usize) -> Label {
     let mut text = format!("{p}-").into_bytes();
     for _ in 0..draw.below(17 - text.len() as u64) {
         text.push(one_of(draw, b"abcdefghijklmnopqrstuvwxyz0123456789-"));
@@ -687,6 +687,13 @@ pub fn drawn_label(draw: &mut Draw, p: usize) -> Label {
     // bytes behind the length do not matter
     label.room[text.len()..].iter_mut().for_each(|b| *b = draw.below(256) as u8);
     label
+}
+
+/// Other labels, all accepted.
+pub fn relabel(draw: &mut Draw, net: &mut Net) {
+    for (p, place) in net.places.iter_mut().enumerate() {
+        place.label = drawn_label(draw, p);
+    }
 }
 
 /// A label damaged in one of the ways that 17 and 18 speak of.

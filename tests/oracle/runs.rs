@@ -31,9 +31,7 @@ pub fn compare(report: &mut Report, seed: u64, count: u64) {
         for _ in 0..count {
             // other labels, the same figures
             let (mut c, answer) = paths::drawn(&mut draw);
-            for (p, place) in c.net.places.iter_mut().enumerate() {
-                place.label = paths::drawn_label(&mut draw, p);
-            }
+            paths::relabel(&mut draw, &mut c.net);
             let ours = paths::by_library(&c);
             case(ours == answer.line(&c), &|| format!("{ours}with other labels {}", answer.line(&c)));
             // damaged ones
@@ -43,14 +41,21 @@ pub fn compare(report: &mut Report, seed: u64, count: u64) {
         }
     });
     report.compare("ensembles by the library", |case| {
-        let mut draw = Draw::new(seed);
+        let (mut draw, mut labels) = (Draw::new(seed), Draw::new(seed));
         for k in 0..count {
-            let c = ensembles::drawn(&mut draw);
+            let mut c = ensembles::drawn(&mut draw);
             let answer = ensembles::play(&c);
             if let Some(agrees) = ensembles::source_agrees(&c, &answer) {
                 case(agrees, &|| format!("case {k}: the source differs from the rules as worked here"));
             }
             case(ensembles::library_agrees(&c, &answer), &|| format!("case {k}: {:?}", answer.outcome));
+            paths::relabel(&mut labels, &mut c.net);
+            case(ensembles::library_agrees(&c, &answer), &|| format!("case {k} with other labels: {:?}", answer.outcome));
+            paths::spoil_label(&mut labels, &mut c.net);
+            if ensembles::fault(&c).is_some() {
+                let answer = ensembles::play(&c);
+                case(ensembles::library_agrees(&c, &answer), &|| format!("case {k} with damaged labels: {:?}", answer.outcome));
+            }
         }
     });
     report.compare("normal draws of the source", |case| {
