@@ -23,11 +23,20 @@ slice-aggregate-write-front c = search needs
 write-front-requires : tie.Need-write-front-requires
 write-front-requires c κs = search needs
 
+slice-aggregate-say : tie.Need-slice-aggregate-say
+slice-aggregate-say c = search needs
+
+say-requires : tie.Need-say-requires
+say-requires c κs = search needs
+
 returns : tie.Need-returns
 returns c = search needs
 
 returns-2 : tie.Need-returns-2
 returns-2 c = search needs
+
+returns-3 : tie.Need-returns-3
+returns-3 c = search needs
 
 pub play-front-spec : {M : Type 1} → statement M
 play-front-spec =
@@ -39,5 +48,8 @@ play-front-spec =
     played-requires
     slice-aggregate-write-front
     write-front-requires
+    slice-aggregate-say
+    say-requires
     returns
-    returns-2)
+    returns-2
+    returns-3)
