@@ -7,3 +7,4 @@ pub mod Reasoned
 pub mod Normals
 pub mod Read
 pub mod Soaked
+pub mod Searched

@@ -261,7 +261,7 @@ fn recovery_move<'a>(
     }
     let less = left - 1;
     let mut examined: u64 = 1;
-    let mut moved = false;
+    let mut replied = false;
     let mut j: usize = 0;
     while j < transitions {
         let k = j + 1;
@@ -310,12 +310,12 @@ fn recovery_move<'a>(
                     };
                 }
                 examined = e;
-                moved = true;
+                replied = true;
             }
         }
         j = k;
     }
-    if moved {
+    if replied {
         return RecoveryFound {
             won: true,
             examined: examined,
