@@ -80,6 +80,7 @@ fn write_front(out: &[u8], n: usize) {
 fn refuse(number: u64) {
     say(b"soak_text: refused by ");
     io::print_decimal(STDERR_FILENO, number);
+    say(b"\n");
     say_usage();
 }
 
