@@ -5,3 +5,4 @@ pub mod Averaged
 pub mod Diffused
 pub mod Normals
 pub mod Read
+pub mod Searched

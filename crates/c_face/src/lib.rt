@@ -1,5 +1,5 @@
-// The leaf functions, the reader of net texts, the path, the ensemble and the diffusion under plain names, for a program in C or Rust to call. Those on
-// slices do in one call what as many calls would.
+// The leaf functions, the reader of net texts, the path, the ensemble, the diffusion and the game under plain names, for a program in C or Rust to
+// call. Those on slices do in one call what as many calls would.
 mod diffusion;
 mod ensemble;
 mod generator;
@@ -7,6 +7,7 @@ mod leaves;
 mod path;
 mod reader;
 mod sampler;
+mod search;
 mod slices;
 
 ghost use mathlib.Core.Path.{_≡_};

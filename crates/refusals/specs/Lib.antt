@@ -66,3 +66,15 @@ badLabel = 17
 -- a label that an earlier place has already
 abbrev pub usedLabel : ℕ
 usedLabel = 18
+
+-- a game on a net with a delayed transition
+abbrev pub delayedTransition : ℕ
+delayedTransition = 23
+
+-- a list of sides that does not give each transition one side with at most 8 on each, or a turn number out of range
+abbrev pub badSides : ℕ
+badSides = 24
+
+-- the place that a game is about is none of the net's
+abbrev pub noSuchGoal : ℕ
+noSuchGoal = 25

@@ -35,3 +35,9 @@ pub const NO_NORMAL: u64 = 16;
 pub const BAD_LABEL: u64 = 17;
 
 pub const USED_LABEL: u64 = 18;
+
+pub const DELAYED_TRANSITION: u64 = 23;
+
+pub const BAD_SIDES: u64 = 24;
+
+pub const NO_SUCH_GOAL: u64 = 25;

@@ -1,0 +1,49 @@
+-- Enabled by the table of limits, then the takes and the puts: the game's firing.
+use borrow.Author.Needs.{needs}
+use borrow.Author.Tests.{not-true, not-false}
+use mathlib.Core.Path.{sym, _∙_}
+use Rattle.net.specs.declared.Net.{Net as NetRecord}
+use Rattle.net.specs.Record.{lent}
+use Rattle.engine.specs.Engine.{marking}
+use Rattle.game.proofs.Firing.{not-fired, is-fired}
+use Rattle.game.proofs.search.fired.Statement.{statement}
+use Rattle.game.proofs.search.fired.Tie as tie
+
+abbrev net : tie.Start → NetRecord
+net s =
+    lent (s .args .places) (s .args .transitions) (s .args .initial .now) (s .args .capacity .now) (s .args .rate .now) (s .args .delay .now) (s .args .arcs .now)
+    (s .args .kind .now) (s .args .place .now) (s .args .weight .now)
+
+enabled-requires : tie.Need-enabled-requires
+enabled-requires c κs = search needs
+
+returns : tie.Need-returns
+returns c =
+    let e = c .before in
+    let s = e .before .before in
+    let a = s .args in (
+      not-fired (net s) (marking (a .places) (a .counts)) (a .j) (s .pre .0) (marking (a .places) (a .counts))
+          (sym (e .enabled .ensures) ∙ not-true _ (c .if1 .taken)),
+      s .pre .3,
+    )
+
+take-requires : tie.Need-take-requires
+take-requires c κs = search needs
+
+put-requires : tie.Need-put-requires
+put-requires c κs = search needs
+
+returns-2 : tie.Need-returns-2
+returns-2 c =
+    let t = c .before .before in
+    let e = t .before .before .before in
+    let s = e .before .before in
+    let a = s .args in (
+      is-fired (net s) (marking (a .places) (a .counts)) (a .j) (s .pre .0)
+          (marking (a .places) (t .take .last .1 .1 .1 .1 .1 .0)) (marking (a .places) (c .put .last .1 .1 .1 .1 .1 .0)) (c .put .result)
+          (sym (e .enabled .ensures) ∙ not-false _ (t .before .before .if1 .left)) (t .take .ensures .0) (c .put .ensures .0),
+      c .put .ensures .1,
+    )
+
+pub fired-spec : {M : Type 1} → statement M
+fired-spec = tie.close (tie.spec enabled-requires returns take-requires put-requires returns-2)
