@@ -4,20 +4,19 @@ use native.Mathlib.Omega.{arith}
 use mathlib.Core.Path.{_≡_, refl, ap, _∙_}
 use mathlib.Core.Bool.{Bool, true, false, _||_, not}
 use mathlib.Core.List.{List, [], _∷_, map}
-use mathlib.Core.Logic.{_↔_}
 use mathlib.Core.Option.{none}
 use lib.Dec.{ltb}
 use lib.ListN.{getD}
 use Rattle.text.specs.Text.{Bytes}
 use Rattle.net.specs.declared.Net.{Net as NetRecord}
-use Rattle.net.specs.Net.{Transition, Place, pick}
+use Rattle.net.specs.Net.{Transition, pick}
 use Rattle.net.specs.Labels.{labelFits, labelAt}
 use Rattle.net.specs.Readable.{readable, fault, placesFrom, transitionsFrom}
 use Rattle.net.specs.Tests.{empty}
 use Rattle.net.proofs.Sound.{labelled}
 use Rattle.gates.specs.Gated.{Gates, bounded, boundedFrom, gates, gated}
 use Rattle.reason.specs.Reasons.{Reasons, reasonText}
-use Rattle.reason.specs.Call.{reasons, reasonsOf, reasonOf}
+use Rattle.reason.specs.Call.{reasonsOf}
 use Rattle.reason.specs.Same.{EmptyText, SameParts, SameTexts}
 use Rattle.reason.proofs.ReadBack.{Labels}
 use Rattle.reason.proofs.Same.{same-text, no-text}

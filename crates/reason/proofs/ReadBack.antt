@@ -12,10 +12,10 @@ use lib.Seq.{drop-nil, drop-append-seam}
 use borrow.Author.Tests.{eq-eqb, ne-eqb}
 use Rattle.text.specs.Text.{Bytes, bytes}
 use Rattle.text.specs.Numbers.{decimalText}
-use Rattle.net_text.specs.Forms.{Met, wrong, met, Form, Decimal, say, _>>=_, _>>_, _or_, exactly, decimal}
+use Rattle.net_text.specs.Forms.{Met, wrong, met, Form, say, _>>=_, _>>_, _or_, exactly, decimal}
 use Rattle.net_text.proofs.Written.{noDigit, decimal-reads}
 use Rattle.net.specs.Labels.{labelByte, every, labelFits}
-use Rattle.reason.specs.Reasons.{Reasons, opening, readWords, inhibitorWords, nonKineticWords, capacityWords, boundWords, dash, delayWords, counted, behind, joined, bracketed, timed, sentences, told, reasonText}
+use Rattle.reason.specs.Reasons.{Reasons, opening, readWords, inhibitorWords, nonKineticWords, capacityWords, boundWords, delayWords, counted, behind, joined, bracketed, timed, sentences, told, reasonText}
 
 -- labels that 17 does not turn down
 abbrev pub Labels : List Bytes → Type 0

@@ -7,12 +7,11 @@ use mathlib.Core.Bool.{Bool, true, false, _||_, not}
 use mathlib.Core.Logic.{_↔_}
 use mathlib.Core.List.{List, [], _∷_, _++_}
 use lib.Dec.{ltb}
-use lib.ListN.{length, length-append}
 use borrow.Author.Tests.{lt-ltb}
 use Rattle.net.specs.Tests.{empty}
 use Rattle.text.specs.Text.{Bytes, bytes}
-use Rattle.net_text.specs.Forms.{Met, met}
-use Rattle.reason.specs.Reasons.{Reasons, opening, readWords, inhibitorWords, nonKineticWords, counted, joined, bracketed, timed, sentences, told, reasonText}
+use Rattle.net_text.specs.Forms.{met}
+use Rattle.reason.specs.Reasons.{Reasons, opening, readWords, inhibitorWords, nonKineticWords, counted, bracketed, timed, sentences, told, reasonText}
 use Rattle.reason.proofs.ReadBack.{Labels, readBack, read-back}
 
 -- "Two gated nets have equal texts exactly when their counts, their bounded labels in the text's order and their delay mark are equal". It holds of all nets:

@@ -13,7 +13,7 @@ use Rattle.text.specs.declared.Written.{Written}
 use Rattle.text.specs.declared.Written.the-variants.{Next}
 use Rattle.text.proofs.Places.{placed-none, fitted, then-joined}
 use Rattle.reason.specs.Reasons.{Reasons, opening, readWords, inhibitorWords, nonKineticWords, capacityWords, boundWords, delayWords, counted, behind, joined, bracketed, timed, sentences, told, reasonText}
-use Rattle.reason.specs.Parts.{lead, thenLead, thenCounted, thenFront, thenBound, thenLabels, thenTimed, thenAll}
+use Rattle.reason.specs.Parts.{lead, thenLead, thenCounted, thenLabels, thenTimed, thenAll}
 use Rattle.reason.proofs.Cases.{lead-later}
 
 -- ---- texts behind texts

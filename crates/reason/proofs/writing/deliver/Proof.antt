@@ -1,9 +1,7 @@
 -- `deliver` meets its contract: what `put_bytes` answers, in the words of `Answer`.
-use mathlib.Core.Path.{_≡_, sym, ap, _∙_}
+use mathlib.Core.Path.{sym, ap, _∙_}
 use lib.ListN.{take}
 use lib.Seq.{length-take-le}
-use Rattle.text.specs.Text.{Bytes}
-use Rattle.text.specs.Buffer.{written}
 use Rattle.text.specs.declared.Written.{Written}
 use Rattle.reason.proofs.Cases.{shown, answered-is}
 use borrow.Author.Needs.{needs}

@@ -1,6 +1,6 @@
 -- `write_reason` meets its contract: the text fits the buffer that it is put together in (Bound), stands there in front (Told, Scratch), and goes from there
 -- to the lent buffer.
-use mathlib.Core.Path.{_≡_, sym, ap, _∙_}
+use mathlib.Core.Path.{_≡_, ap, _∙_}
 use Prim.Native.Nat.{ℕ, _≤_}
 use native.Mathlib.Omega.{arith}
 use lib.ListN.{length, replicate, length-replicate}
@@ -8,7 +8,6 @@ use Rattle.text.specs.Text.{Bytes}
 use Rattle.net.specs.Labels.{labelAt}
 use Rattle.gates.specs.Gated.{gatesOf}
 use Rattle.text.specs.Buffer.{written}
-use Rattle.text.specs.declared.Written.{Written}
 use Rattle.reason.specs.Reasons.{Reasons, reasonText}
 use Rattle.reason.specs.Call.{reasons, answered}
 use Rattle.reason.proofs.Bound.{labels-short, text-bound}
