@@ -9,19 +9,19 @@ use native.Mathlib.Numerals.{add-one}
 use lib.Dec.{eqb, leb, ltb}
 use lib.ListN.{length, getD, drop, drop-of-length-le}
 use lib.Seq.{drop-cons}
-use lib.Ieee.{Float, nan, lt}
+use lib.Ieee.{nan, lt}
 use borrow.Author.Tests.{eq-eqb, ne-eqb, eqb-true, le-leb, lt-leb, leb-true, lt-ltb, le-ltb}
 use Rattle.refusals.specs as Refusal
 use Rattle.net.specs.declared.Net.{Net as NetRecord}
-use Rattle.net.specs.Net.{Place, Transition, Net, Marking, pick, zero64, timed}
+use Rattle.net.specs.Net.{Net, pick, zero64}
 use Rattle.net.specs.Readable.{placesFrom, transitionsFrom, readable, fault as netFault}
 use Rattle.net.specs.Sound.{Sound}
 use Rattle.rules.specs.Moves.{initialCounts}
 use Rattle.engine.specs.Engine.{anyTimed}
 use Rattle.engine.proofs.Lists.{aboveFrom, above-all}
-use Rattle.game.specs.Game.{Side, fault, recovery, Game, Answer, Exactly}
-use Rattle.game.specs.Search.{Counted, counted, faultMove}
-use Rattle.game.specs.Play.{sideOf, sidesOf, owned, same, gameOf, firstOf}
+use Rattle.game.specs.Game.{Side, fault, recovery, Answer, Exactly}
+use Rattle.game.specs.Search.{Counted, faultMove}
+use Rattle.game.specs.Play.{sidesOf, owned, gameOf, Sided}
 use Rattle.game.specs.Call.{delayed, eachSide, sidesFit, turnsFit, Called, refused, found, afterNet, unlessFault, called, Exact}
 use Rattle.game.proofs.Tries.{leftOf, left-step}
 use Rattle.game.proofs.Right.{exactly}
@@ -101,25 +101,20 @@ module _ (n : ℕ) (sides : List ℕ) where
           ap (λ (k : ℕ). leb k 8) (other-side sides f e)
           ∙ sym (sides-all ∙ ap (λ (b : Bool). four true true b recoveries-few) (le-leb (owned fault (sidesOf sides)) 8 (omega arith)))
 
--- what a list that fits gives
-pub record Fitting (n : ℕ) (sides : List ℕ) : Type 0 where
-  pub long : length sides ≡ n
-  pub faults : owned fault (sidesOf sides) ≤ 8
-  pub recoveries : owned recovery (sidesOf sides) ≤ 8
-
+-- what a list that fits gives, and a turn number
 both : (a b : Bool) → (a && b) ≡ true → (a ≡ true) × (b ≡ true)
 both true b e = (refl, e)
 both false b e = (e, absurd (let z : _≡_ {A = ℕ} 0 1 = cc in omega arith))
 
-pub fitting : (n : ℕ) (sides : List ℕ) → sidesFit n sides ≡ true → Fitting n sides
+pub fitting : (n : ℕ) (sides : List ℕ) → sidesFit n sides ≡ true → Sided n sides
 fitting n sides e =
     let x = both _ _ e in
     let y = both _ _ (x .0) in
     let z = both _ _ (y .0) in
     record {
       long = eqb-true (length sides) n (z .0);
-      faults = leb-true (owned fault (sidesOf sides)) 8 (y .1);
-      recoveries = leb-true (owned recovery (sidesOf sides)) 8 (x .1);
+      fault = leb-true (owned fault (sidesOf sides)) 8 (y .1);
+      recovery = leb-true (owned recovery (sidesOf sides)) 8 (x .1);
     }
 
 pub turns-few : (k : ℕ) → turnsFit k ≡ true → (1 ≤ k) × (k ≤ 8)
@@ -232,12 +227,12 @@ not-found e = absurd (let z : _≡_ {A = ℕ} 0 1 = cc in omega arith)
 -- an answer of the search is the game's (Right), within the bound (Bound)
 pub answer-exactly : (n : NetRecord) (sides : List ℕ) (p c turns : ℕ) (x : Counted Answer)
     → x ≡ faultMove turns (gameOf (readable n) sides p c) (initialCounts (readable n)) → 1 ≤ turns → turns ≤ 8
-    → owned fault (sidesOf sides) ≤ 8 → owned recovery (sidesOf sides) ≤ 8 → Exact n sides p c turns (found x)
-answer-exactly n sides p c turns x e low high faults recoveries y f =
+    → Sided (n .transitions) sides → Exact n sides p c turns (found x)
+answer-exactly n sides p c turns x e low high sided y f =
     let g = gameOf (readable n) sides p c in
     let m = initialCounts (readable n) in
     let d : suc (turns - 1) ≡ turns = omega arith in
     let s : faultMove turns g m ≡ y = sym e ∙ same-found f in (
       subst (Exactly g (turns - 1) m) (ap (λ (k : ℕ). faultMove k g m .answer) d ∙ ap (λ (z : Counted Answer). z .answer) s) (exactly g (turns - 1) m),
-      subst (λ (z : Counted Answer). z .examined ≤ 19_173_961) s (few-fault g faults recoveries turns m high),
+      subst (λ (z : Counted Answer). z .examined ≤ 19_173_961) s (few-fault g (sided .fault) (sided .recovery) turns m high),
     )

@@ -1,17 +1,16 @@
 -- One turn of each loop of the search: what was examined, and what is left to try from here, is the whole. Assumes nothing.
-use Prim.Native.Nat.{ℕ, zero, suc, _+_, _-_, _≤_, _<_}
-use mathlib.Core.Path.{_≡_, refl, sym, ap, _∙_, subst}
+use Prim.Native.Nat.{ℕ, suc, _+_, _≤_, _<_}
+use mathlib.Core.Path.{_≡_, refl, sym, ap, _∙_}
 use mathlib.Core.Bool.{Bool, true, false}
 use mathlib.Core.List.{List, [], _∷_}
 use native.Mathlib.Omega.{arith}
 use native.Mathlib.Numerals.{add-one}
-use lib.Dec.{eqb}
 use lib.ListN.{length, getD, drop, drop-of-length-le}
 use lib.Seq.{drop-cons}
 use borrow.Author.Tests.{eq-eqb, ne-eqb}
-use Rattle.net.specs.Net.{Marking, pick, held}
-use Rattle.game.specs.Game.{Side, fault, recovery, Game, firing, mayFire, Answer, already, fireFirst, passFirst, never}
-use Rattle.game.specs.Search.{Counted, counted, plus, asWon, settleFault, settleRecovery, faultTries, recoveryTries}
+use Rattle.net.specs.Net.{Marking, pick}
+use Rattle.game.specs.Game.{Side, fault, recovery, Game, firing, mayFire, Answer, fireFirst, passFirst, never}
+use Rattle.game.specs.Search.{Counted, counted, plus, settleFault, settleRecovery, faultTries, recoveryTries}
 use Rattle.game.specs.Play.{sideOf, sidesOf}
 
 -- ---- the sides that are left, from transition j on

@@ -1,11 +1,10 @@
 -- The loops of the two moves over the program's values: the invariant as a record, with a lemma for its beginning, for each way through a turn and for
 -- each way out. Assumes nothing.
 use Prim.Native.Nat.{ℕ, zero, suc, _+_, _-_, _≤_, _<_}
-use mathlib.Core.Path.{_≡_, refl, sym, ap, _∙_, subst}
+use mathlib.Core.Path.{_≡_, sym, ap, _∙_}
 use mathlib.Core.Bool.{Bool, true, false}
 use mathlib.Core.List.{List}
 use native.Mathlib.Omega.{arith}
-use lib.Dec.{eqb}
 use lib.ListN.{length, getD}
 use borrow.Author.Tests.{eq-eqb, ne-eqb}
 use Rattle.net.specs.declared.Net.{Net as NetRecord}
@@ -13,7 +12,7 @@ use Rattle.net.specs.Net.{Marking, pick, held}
 use Rattle.net.specs.Readable.{readable}
 use Rattle.engine.specs.Engine.{marking}
 use Rattle.engine.proofs.Marks.{held-marking}
-use Rattle.game.specs.Game.{Side, Game, firing, mayFire, Answer, already, fireFirst, passFirst, never}
+use Rattle.game.specs.Game.{Game, firing, Answer, already, fireFirst, passFirst, never}
 use Rattle.game.specs.Search.{Counted, counted, plus, met, won, asWon, faultTries, recoveryTries, faultMove, recoveryMove}
 use Rattle.game.specs.Play.{gameOf, Table, FiredBy}
 use Rattle.game.proofs.Bound.{few-fault, few-recovery}
@@ -72,7 +71,7 @@ pub record FaultTurn (g : Game) (left : ℕ) (m : Marking) (sides : List ℕ) (k
 pub fault-begins : {n : NetRecord} {limit sides : List ℕ} {p : ℕ} → Table n limit sides p → (c left : ℕ) (counts : List ℕ) → (getD counts p 0 ≡ c → ⊥) → (left ≡ 0 → ⊥)
     → FaultTurn (gameOf (readable n) sides p c) left (marking (n .places) counts) sides (n .transitions) 1 false 0
 unfolding faultMove
-fault-begins {n} {limit} {sides} {p} T c left counts f z = record { long = T .long; within = omega arith; whole = go (left - 1) (omega arith) }
+fault-begins {n} {limit} {sides} {p} T c left counts f z = record { long = T .sided .long; within = omega arith; whole = go (left - 1) (omega arith) }
   where
     G : Game
     G = gameOf (readable n) sides p c
@@ -143,7 +142,7 @@ pub record RecoveryTurn (g : Game) (left : ℕ) (m : Marking) (sides : List ℕ)
 pub recovery-begins : {n : NetRecord} {limit sides : List ℕ} {p : ℕ} → Table n limit sides p → (c left : ℕ) (counts : List ℕ) → (getD counts p 0 ≡ c → ⊥) → (left ≡ 0 → ⊥)
     → RecoveryTurn (gameOf (readable n) sides p c) left (marking (n .places) counts) sides (n .transitions) 1 false 0
 unfolding faultMove
-recovery-begins {n} {limit} {sides} {p} T c left counts f z = record { long = T .long; within = omega arith; whole = go (left - 1) (omega arith) }
+recovery-begins {n} {limit} {sides} {p} T c left counts f z = record { long = T .sided .long; within = omega arith; whole = go (left - 1) (omega arith) }
   where
     G : Game
     G = gameOf (readable n) sides p c
@@ -207,8 +206,8 @@ module _ {g : Game} {left : ℕ} {m : Marking} {sides : List ℕ} {k examined : 
 
 pub fault-fits : {n : NetRecord} {limit sides : List ℕ} {p : ℕ} → Table n limit sides p → (c left : ℕ) (m : Marking) → left ≤ 8
     → (x : ℕ) → x ≤ faultMove left (gameOf (readable n) sides p c) m .examined → x ≤ 19_173_961
-fault-fits {n} {limit} {sides} {p} t c left m l x h = omega (arith, few-fault (gameOf (readable n) sides p c) (t .fault) (t .recovery) left m l)
+fault-fits {n} {limit} {sides} {p} t c left m l x h = omega (arith, few-fault (gameOf (readable n) sides p c) (t .sided .fault) (t .sided .recovery) left m l)
 
 pub recovery-fits : {n : NetRecord} {limit sides : List ℕ} {p : ℕ} → Table n limit sides p → (c left : ℕ) (m : Marking) → left ≤ 8
     → (x : ℕ) → x ≤ recoveryMove left (gameOf (readable n) sides p c) m .examined → x ≤ 19_173_961
-recovery-fits {n} {limit} {sides} {p} t c left m l x h = omega (arith, few-recovery (gameOf (readable n) sides p c) (t .fault) (t .recovery) left m l)
+recovery-fits {n} {limit} {sides} {p} t c left m l x h = omega (arith, few-recovery (gameOf (readable n) sides p c) (t .sided .fault) (t .sided .recovery) left m l)

@@ -1,5 +1,5 @@
 -- What the program's tables and answers stand for. Nothing here adds to the game or to the search.
-use Prim.Native.Nat.{ℕ, zero, suc, _+_, _≤_, _<_}
+use Prim.Native.Nat.{ℕ, suc, _≤_, _<_}
 use mathlib.Core.Path.{_≡_}
 use mathlib.Core.Bool.{Bool, true, false}
 use mathlib.Core.List.{List, [], _∷_}
@@ -7,7 +7,6 @@ use lib.Dec.{eqb}
 use lib.ListN.{length}
 use Rattle.net.specs.declared.Net.{Net as NetRecord}
 use Rattle.net.specs.Net.{Net, Marking, pick}
-use Rattle.net.specs.Readable as Record
 use Rattle.engine.specs.Engine as Engine
 use Rattle.engine.specs.Limits as Limits
 use Rattle.game.specs.Game.{Side, fault, recovery, Game, firing, mayFire, Answer, already, fireFirst, passFirst, never}
@@ -41,13 +40,17 @@ abbrev pub owned : Side → List Side → ℕ
 owned s [] = 0
 owned s (x ∷ xs) = pick (same s x) (suc (owned s xs)) (owned s xs)
 
+-- what 24 asks of a list of sides: one for each of n transitions, with at most 8 on each
+pub record Sided (n : ℕ) (sides : List ℕ) : Type 0 where
+  pub long : length sides ≡ n
+  pub fault : owned fault (sidesOf sides) ≤ 8
+  pub recovery : owned recovery (sidesOf sides) ≤ 8
+
 -- what the tables satisfy while a game is searched
 pub record Table (n : NetRecord) (limit sides : List ℕ) (p : ℕ) : Type 0 where
   pub tidy : Engine.Tidy n
   pub limits : Limits.Limits n limit
-  pub long : length sides ≡ n .transitions
-  pub fault : owned fault (sidesOf sides) ≤ 8
-  pub recovery : owned recovery (sidesOf sides) ≤ 8
+  pub sided : Sided (n .transitions) sides
   pub place : p < n .places
 
 -- ---- answers

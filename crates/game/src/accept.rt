@@ -105,8 +105,7 @@ fn lent_game<'a>(
     ghost { NetRecord }
     requires { λ net. ⌜ lent places transitions (now initial) (now capacity) (now rate) (now delay) (now arcs) (now kind) (now place) (now weight) ≡ net ⌝ }
     requires { λ net. ⌜ Engine.Tidy net × ((p : ℕ) → p < places → getD (now initial) p 0 ≤ 2 ^ 53)
-        × (length (now sides) ≡ transitions) × (Play.owned Game.fault (Play.sidesOf (now sides)) ≤ 8) × (Play.owned Game.recovery (Play.sidesOf (now sides)) ≤ 8)
-        × (wanted < places) × (turns ≤ 8) ⌝ }
+        × Play.Sided transitions (now sides) × (wanted < places) × (turns ≤ 8) ⌝ }
     ensures { λ net r. ⌜ Play.faultOf r ≡ Search.faultMove turns (Play.gameOf (Record.readable net) (now (sides .entry)) wanted count)
         (Moves.initialCounts (Record.readable net)) ⌝ }
 {
@@ -147,9 +146,7 @@ fn lent_game<'a>(
 
 // The game of a call that no test turns down.
 pub fn accepted_game(net: Net, sides: &[u64], wanted: usize, count: u64, turns: u64) -> FaultFound
-    requires { ⌜ (Record.fault net ≡ none)
-        × (length (now sides) ≡ net .transitions) × (Play.owned Game.fault (Play.sidesOf (now sides)) ≤ 8) × (Play.owned Game.recovery (Play.sidesOf (now sides)) ≤ 8)
-        × (wanted < net .places) × (turns ≤ 8) ⌝ }
+    requires { ⌜ (Record.fault net ≡ none) × Play.Sided (net .transitions) (now sides) × (wanted < net .places) × (turns ≤ 8) ⌝ }
     ensures { λ r. ⌜ Play.faultOf r ≡ Search.faultMove turns (Play.gameOf (Record.readable net) (now (sides .entry)) wanted count) (Moves.initialCounts (Record.readable net)) ⌝ }
 {
     let n = slots::tidied(net);

@@ -4,12 +4,11 @@ use borrow.Author.Tests.{not-true, not-false}
 use mathlib.Core.Path.{_≡_, sym, ap, _∙_}
 use mathlib.Core.Bool.{true, false}
 use mathlib.Core.Option.{none}
-use Rattle.net.specs.Readable.{readable, fault, meaning}
+use Rattle.net.specs.Readable.{fault, meaning}
 use Rattle.net.proofs.Sound.{sound}
-use Rattle.rules.specs.Moves.{initialCounts}
 use Rattle.engine.specs.Engine.{anyTimed}
 use Rattle.game.specs.Call.{sidesFit, turnsFit}
-use Rattle.game.specs.Play.{gameOf, faultOf}
+use Rattle.game.specs.Play.{faultOf}
 use Rattle.game.proofs.Asked.{fitting, turns-few, by-net, by-delay, by-sides, by-turns, by-place, by-game, not-found, answer-exactly}
 use Rattle.game.proofs.game.Statement.{statement}
 use Rattle.game.proofs.game.Tie as tie
@@ -107,8 +106,7 @@ accepted-game-requires c κs =
     let s = k .before .before in
     let t = s .before .before .before in
     let a = start t .args in
-    let f = fitting (a .t1 .transitions) (a .sides .now) (sided s) in
-    (accepted (told t), f .long, f .faults, f .recoveries, c .if4 .left, turns-few (a .turns) (in-turns k) .1)
+    (accepted (told t), fitting (a .t1 .transitions) (a .sides .now) (sided s), c .if4 .left, turns-few (a .turns) (in-turns k) .1)
 
 returns-6 : tie.Need-returns-6
 returns-6 c =
@@ -118,12 +116,11 @@ returns-6 c =
     let p = s .before .before in
     let t = p .before in
     let a = start t .args in
-    let f = fitting (a .t1 .transitions) (a .sides .now) (sided s) in
     let r = faultOf (c .accepted-game .result) in
     let e = c .accepted-game .ensures in (
       by-game (a .t1) (a .sides .now) (a .place) (a .count) (a .turns) (accepted (told t)) (prompt p) (sided s) (in-turns k) (l .if4 .left) r e,
       answer-exactly (a .t1) (a .sides .now) (a .place) (a .count) (a .turns) r e (turns-few (a .turns) (in-turns k) .0) (turns-few (a .turns) (in-turns k) .1)
-          (f .faults) (f .recoveries),
+          (fitting (a .t1 .transitions) (a .sides .now) (sided s)),
     )
 
 pub game-spec : {M : Type 1} → statement M

@@ -1,9 +1,11 @@
 -- The tidied net reads as the net, and has its places and initial counts. Assumes nothing.
 use borrow.Author.Needs.{needs}
-use mathlib.Core.Path.{sym, _∙_, subst}
+use Prim.Native.Nat.{ℕ}
+use mathlib.Core.Path.{sym, subst}
 use native.Mathlib.Omega.{arith}
 use Rattle.net.proofs.Sound.{sound}
 use Rattle.engine.proofs.Tidying.{tidy-unlabelled}
+use Rattle.game.specs.Play.{Sided}
 use Rattle.game.proofs.Asked.{same-moves, first-small, same-game}
 use Rattle.game.proofs.accept.accepted_game.Statement.{statement}
 use Rattle.game.proofs.accept.accepted_game.Tie as tie
@@ -18,7 +20,7 @@ lent-game-requires c κs =
     let n = s .args .net in
     let r = t .tidied .result in
     let e = t .tidied .ensures in
-    (tidy-unlabelled r (e .1), first-small r n (e .0) (sound n (s .pre .0)) (e .2) (e .3), s .pre .1 ∙ sym (same-moves r n (e .0)), s .pre .2, s .pre .3, omega (arith, s .pre .4, e .2), s .pre .5)
+    (tidy-unlabelled r (e .1), first-small r n (e .0) (sound n (s .pre .0)) (e .2) (e .3), subst (λ (k : ℕ). Sided k (s .args .sides .now)) (sym (same-moves r n (e .0))) (s .pre .1), omega (arith, s .pre .2, e .2), s .pre .3)
 
 returns : tie.Need-returns
 returns c =

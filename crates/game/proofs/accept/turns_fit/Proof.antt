@@ -1,5 +1,4 @@
 -- By the tests.
-use mathlib.Core.Path.{sym}
 use borrow.Author.Tests.{le-leb, lt-leb}
 use Rattle.game.proofs.accept.turns_fit.Statement.{statement}
 use Rattle.game.proofs.accept.turns_fit.Tie as tie

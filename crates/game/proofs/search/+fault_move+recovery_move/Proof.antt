@@ -4,7 +4,7 @@ use borrow.Author.Needs.{needs}
 use borrow.Author.Tests.{not-true, not-false}
 use mathlib.Core.Path.{sym, ap, _∙_}
 use mathlib.Core.Bool.{Bool}
-use Prim.Native.Nat.{ℕ, _+_, _-_, _<_, _≤_}
+use Prim.Native.Nat.{ℕ, _+_, _-_, _<_}
 use native.Mathlib.Omega.{arith}
 use Rattle.net.specs.Readable.{readable}
 use Rattle.net.specs.Record.{lent}
@@ -94,7 +94,7 @@ fault-mul-if3 : (t : ℕ) → fault-lts.Need-mul-if3 (fault-calls t) (fault-move
 fault-mul-if3 t c = omega (arith, c .before .before .before .before .before .pre .1 .1 .tidy .transitions)
 
 fault-shared-slice-read-if3 : (t : ℕ) → fault-lts.Need-shared-slice-read-if3 (fault-calls t) (fault-move-at t) fault-move.Post fault-Inv fault-μ
-fault-shared-slice-read-if3 t c = omega (arith, c .before .loop-test .taken, c .before .before .before .before .before .before .pre .1 .1 .long)
+fault-shared-slice-read-if3 t c = omega (arith, c .before .loop-test .taken, c .before .before .before .before .before .before .pre .1 .1 .sided .long)
 
 fault-fired-requires : (t : ℕ) → fault-lts.Need-fired-requires (fault-calls t) (fault-move-at t) fault-move.Post fault-Inv fault-μ
 fault-fired-requires t c κs =
@@ -244,7 +244,7 @@ recovery-mul-if3 : (t : ℕ) → recovery-lts.Need-mul-if3 (recovery-calls t) (r
 recovery-mul-if3 t c = omega (arith, c .before .before .before .before .before .pre .1 .1 .tidy .transitions)
 
 recovery-shared-slice-read-if3 : (t : ℕ) → recovery-lts.Need-shared-slice-read-if3 (recovery-calls t) (recovery-move-at t) recovery-move.Post recovery-Inv recovery-μ
-recovery-shared-slice-read-if3 t c = omega (arith, c .before .loop-test .taken, c .before .before .before .before .before .before .pre .1 .1 .long)
+recovery-shared-slice-read-if3 t c = omega (arith, c .before .loop-test .taken, c .before .before .before .before .before .before .pre .1 .1 .sided .long)
 
 recovery-fired-requires : (t : ℕ) → recovery-lts.Need-fired-requires (recovery-calls t) (recovery-move-at t) recovery-move.Post recovery-Inv recovery-μ
 recovery-fired-requires t c κs =
