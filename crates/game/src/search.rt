@@ -345,4 +345,3 @@ fn recovery_move<'a>(
         examined: examined + r.examined,
     }
 }
-

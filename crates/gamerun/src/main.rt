@@ -197,7 +197,10 @@ fn read_and_search(n: usize, letters: &[u8; 65], name: &[u8], count: u64, turns:
 }
 
 fn usage() {
-    io::write_all(STDERR_FILENO, b"usage: gamerun SIDES PLACE COUNT TURNS <NET\n");
+    io::write_all(
+        STDERR_FILENO,
+        b"usage: gamerun SIDES PLACE COUNT TURNS <NET\n",
+    );
 }
 
 fn main() {
