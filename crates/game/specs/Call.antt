@@ -29,7 +29,7 @@ abbrev pub eachSide : List ℕ → Bool
 eachSide [] = true
 eachSide (x ∷ xs) = leb x 1 && eachSide xs
 
--- "an ownership list that doesn't give each transition one side with at most 8 on each", for n transitions
+-- the list gives each of n transitions one side, with at most 8 on each
 abbrev pub sidesFit : ℕ → List ℕ → Bool
 sidesFit n sides = eqb (length sides) n && eachSide sides && leb (owned fault (sidesOf sides)) 8 && leb (owned recovery (sidesOf sides)) 8
 
