@@ -1,5 +1,6 @@
--- The call of order 13: its refusals in their order, and else what the search finds from the initial counts. "Answers: 23 a delayed transition, 24 an sideship
--- list that doesn't give each transition one side with at most 8 on each, or a turn number out of range, 25 no such place; in this order."
+-- The call of a game: its refusals in their order, and else what the search finds from the initial counts. Document 02, order 13: "Answers: 23 a delayed
+-- transition, 24 an ownership list that doesn't give each transition one side with at most 8 on each, or a turn number out of range, 25 no such place; in
+-- this order."
 use Prim.Native.Nat.{ℕ, _-_, _≤_}
 use mathlib.Core.Path.{_≡_}
 use mathlib.Core.Bool.{Bool, true, false, _&&_, _||_}
@@ -28,7 +29,7 @@ abbrev pub eachSide : List ℕ → Bool
 eachSide [] = true
 eachSide (x ∷ xs) = leb x 1 && eachSide xs
 
--- "an ownership list that doesn't give each transition one side with at most 8 on each", for n transitions
+-- the list gives each of n transitions one side, with at most 8 on each
 abbrev pub sidesFit : ℕ → List ℕ → Bool
 sidesFit n sides = eqb (length sides) n && eachSide sides && leb (owned fault (sidesOf sides)) 8 && leb (owned recovery (sidesOf sides)) 8
 

@@ -29,13 +29,13 @@ sidesOf (x ∷ xs) = sideOf x ∷ sidesOf xs
 abbrev pub gameOf : Net → List ℕ → ℕ → ℕ → Game
 gameOf n sides p c = record { net = n; sides = sidesOf sides; place = p; count = c }
 
--- how many transitions a side has
 abbrev pub same : Side → Side → Bool
 same fault fault = true
 same fault recovery = false
 same recovery fault = false
 same recovery recovery = true
 
+-- how many transitions a side has
 abbrev pub owned : Side → List Side → ℕ
 owned s [] = 0
 owned s (x ∷ xs) = pick (same s x) (suc (owned s xs)) (owned s xs)
