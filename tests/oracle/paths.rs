@@ -678,7 +678,7 @@ pub fn spoil(draw: &mut Draw, net: &mut Net) {
 }
 
 /// A label that is accepted: one that no place has whose label is numbered.
-fn drawn_label(draw: &mut Draw, p: usize) -> Label {
+pub fn drawn_label(draw: &mut Draw, p: usize) -> Label {
     let mut text = format!("{p}-").into_bytes();
     for _ in 0..draw.below(17 - text.len() as u64) {
         text.push(one_of(draw, b"abcdefghijklmnopqrstuvwxyz0123456789-"));
