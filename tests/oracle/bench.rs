@@ -219,14 +219,14 @@ fn full_text(text: &str) -> String {
     while left(&moves) > 2 * (head.len() + 16 * arc.len() + 2) {
         moves += &format!("{head}{})\n", arc.repeat(16));
     }
-    // what is left, in two lines, is filled by weights of one to seven digits
+    // what is left, in two lines of arcs that are as long as each other or one byte longer, by the digits of their weights
     for share in [2, 1] {
-        let mut body = left(&moves) / share - head.len() - 2;
+        let body = left(&moves) / share - head.len() - 2;
+        let arcs = body.div_ceil(arc.len());
         moves += head;
-        while body > 0 {
-            let digits = if body < 2 * arc.len() { (body / body.div_ceil(arc.len())).min(arc.len()) } else { arc.len() } - (arc.len() - 7);
+        for k in 0..arcs {
+            let digits = body / arcs + usize::from(k < body % arcs) - (arc.len() - 7);
             moves += &format!(" (put 1 {})", &"1000000"[..digits]);
-            body -= arc.len() - 7 + digits;
         }
         moves += ")\n";
     }
