@@ -23,7 +23,7 @@ use Rattle.rules.specs.Moves.{Entry, started, completed, fired, transiti
 use Rattle.rules.specs.Step.{State, state, Answer, refused, given, Starts, starts, waiting, drawnFor, Next, nothingLeft, race, completion, next, Event, countsFit, event, fire, Step, still, sets, setClock, goOn, afterStarts, step}
 use Rattle.rules.specs.Gillespie.{Tested, Accepted, Reached, at-first, after-step}
 use Rattle.rules.proofs.Order.{both}
-use Rattle.rules.proofs.Allowing.{starts-lead}
+use Rattle.rules.proofs.Allowing.{leads-counts, starts-lead}
 
 -- ---- the tests
 
@@ -78,7 +78,7 @@ fit-started n (j ∷ js) m h = fit-started n js _ (fit-taking (transitionOf n j 
 -- ---- a step
 
 pub starts-fit : (n : Net) (s : State) (b : Starts) → starts n s ≡ given b → countsFit (s .counts) ≡ true → countsFit (b .counts) ≡ true
-starts-fit n s b p h = rw (← starts-lead n (s .clock) (s .counts) (s .timers) b p .to) (fit-started n (b .who) (s .counts) h)
+starts-fit n s b p h = rw (← leads-counts (starts-lead n (s .clock) (s .counts) (s .timers) b p)) (fit-started n (b .who) (s .counts) h)
 
 abbrev EventFits : Answer Event → Type 0
 EventFits (refused c) = Unit

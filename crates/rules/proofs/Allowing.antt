@@ -1,5 +1,5 @@
--- Theory for demand 3: in every run each transition that starts or fires is enabled just then, and the counts of each state are those
--- that the entries so far lead to. No hypothesis about the net.
+-- Theory for demand 3 and order 7: in every run each transition that starts or fires is enabled just then, each completion is that of the first
+-- running timer, and the clock, counts and timers of each state are what the entries so far replay. No hypothesis about the net.
 use Prim.Native.Nat.{ℕ, zero, suc, _+_, _≤_, _<_}
 use mathlib.Core.Path.{_≡_, refl, sym, ap, _∙_, subst}
 use mathlib.Core.Bool.{Bool, true, false, _&&_, _||_}
@@ -16,10 +16,11 @@ use Rattle.rules.specs.Propensity.{propensity, propensities, factored, t
 use Rattle.rng.specs.State.{State as Generator}
 use Rattle.rng.specs.Xoshiro.{step as drawn, uniform}
 use Rattle.rules.specs.Jump.{chosenFrom, chosen}
-use Rattle.rules.specs.Timers.{Timer, insert, first, others}
+use Rattle.rules.specs.Timers.{Timer, timerOf, insert, first, others}
 use Rattle.rules.specs.Moves.{Entry, reading, started, completed, fired, withoutArcs, transition, taking, move, after}
 use Rattle.rules.specs.Step.{State, state, Answer, refused, given, Starts, preceded, pass, nobody, unlessNone, passes, starts, waiting, drawnFor, Next, nothingLeft, race, completion, next, Event, countsFit, event, complete, fire, raced, Step, still, sets, setClock, goOn, afterStarts, step}
-use Rattle.rules.specs.Run.{End, quiet, spent, reached, Run, ends, refuses, steps, concluded, stepped, run, entries}
+use Rattle.rules.specs.Moments.{Moment, moment, happen, momentAfter}
+use Rattle.rules.specs.Run.{End, quiet, spent, reached, Run, ends, refuses, steps, concluded, stepped, run, Outcome, outcome, entries}
 use Rattle.rules.proofs.Order.{never, both, either}
 use Rattle.rules.specs.Demand3.{Ready, Allowed, EachAllowed}
 
@@ -31,28 +32,61 @@ given-same p = cc
 pub refused-given : {A B : Type 0} {c : ℕ} {a : A} → _≡_ {A = Answer A} (refused c) (given a) → B
 refused-given p = absurd (let z : _≡_ {A = ℕ} 0 1 = cc in omega arith)
 
--- ---- entries that lead from counts to counts, each start and firing enabled at its turn
+-- ---- entries that lead from moment to moment, each start and firing enabled and each completion due at its turn
 
-pub record Leads (n : Net) (m : Marking) (es : List Entry) (m′ : Marking) : Type 0 where
-  pub allowed : EachAllowed n m es
-  pub to : after n m es ≡ m′
+-- the first of the running timers is one of transition j
+abbrev pub FirstIs : List Timer → ℕ → Type 0
+FirstIs [] j = ⊥
+FirstIs (z ∷ q) j = z .who ≡ j
 
-allowed-append : (n : Net) (m : Marking) (es fs : List Entry) → EachAllowed n m es → EachAllowed n (after n m es) fs → EachAllowed n m (es ++ fs)
-allowed-append n m [] fs a b = b
-allowed-append n m (e ∷ es) fs a b = (a .0, allowed-append n (move n m e) es fs (a .1) b)
+abbrev pub Due : Moment → Entry → Type 0
+Due x (reading t) = Unit
+Due x (started j) = Unit
+Due x (completed j) = FirstIs (x .timers) j
+Due x (fired j) = Unit
+
+abbrev pub EachDue : Net → Moment → List Entry → Type 0
+EachDue n x [] = Unit
+EachDue n x (e ∷ es) = Due x e × EachDue n (happen n x e) es
+
+pub record Leads (n : Net) (x : Moment) (es : List Entry) (y : Moment) : Type 0 where
+  pub allowed : EachAllowed n (x .counts) es
+  pub due : EachDue n x es
+  pub to : momentAfter n x es ≡ y
 
 pub after-append : (n : Net) (m : Marking) (es fs : List Entry) → after n m (es ++ fs) ≡ after n (after n m es) fs
 after-append n m [] fs = refl
 after-append n m (e ∷ es) fs = after-append n (move n m e) es fs
 
-pub leads-on : {n : Net} {m m′ m″ : Marking} {es fs : List Entry} → Leads n m es m′ → Leads n m′ fs m″ → Leads n m (es ++ fs) m″
-leads-on {n} {m} {m′} {m″} {es} {fs} a b = record {
-  allowed = allowed-append n m es fs (a .allowed) (rw (a .to) (b .allowed));
-  to = after-append n m es fs ∙ rw (a .to) (b .to);
+pub moment-append : (n : Net) (x : Moment) (es fs : List Entry) → momentAfter n x (es ++ fs) ≡ momentAfter n (momentAfter n x es) fs
+moment-append n x [] fs = refl
+moment-append n x (e ∷ es) fs = moment-append n (happen n x e) es fs
+
+-- the counts of a moment are those that the entries lead to
+pub moment-counts : (n : Net) (x : Moment) (es : List Entry) → momentAfter n x es .counts ≡ after n (x .counts) es
+moment-counts n x [] = refl
+moment-counts n x (e ∷ es) = moment-counts n (happen n x e) es
+
+pub leads-counts : {n : Net} {x y : Moment} {es : List Entry} → Leads n x es y → after n (x .counts) es ≡ y .counts
+leads-counts {n} {x} {y} {es} h = sym (moment-counts n x es) ∙ ap (λ (z : Moment). z .counts) (h .to)
+
+allowed-append : (n : Net) (m : Marking) (es fs : List Entry) → EachAllowed n m es → EachAllowed n (after n m es) fs → EachAllowed n m (es ++ fs)
+allowed-append n m [] fs a b = b
+allowed-append n m (e ∷ es) fs a b = (a .0, allowed-append n (move n m e) es fs (a .1) b)
+
+due-append : (n : Net) (x : Moment) (es fs : List Entry) → EachDue n x es → EachDue n (momentAfter n x es) fs → EachDue n x (es ++ fs)
+due-append n x [] fs a b = b
+due-append n x (e ∷ es) fs a b = (a .0, due-append n (happen n x e) es fs (a .1) b)
+
+pub leads-on : {n : Net} {x y z : Moment} {es fs : List Entry} → Leads n x es y → Leads n y fs z → Leads n x (es ++ fs) z
+leads-on {n} {x} {y} {z} {es} {fs} a b = record {
+  allowed = allowed-append n (x .counts) es fs (a .allowed) (rw (leads-counts a) (b .allowed));
+  due = due-append n x es fs (a .due) (rw (a .to) (b .due));
+  to = moment-append n x es fs ∙ rw (a .to) (b .to);
 }
 
-leads-none : (n : Net) (m : Marking) → Leads n m [] m
-leads-none n m = record { allowed = tt; to = refl }
+pub leads-none : (n : Net) (x : Moment) → Leads n x [] x
+leads-none n x = record { allowed = tt; due = tt; to = refl }
 
 -- ---- passes
 
@@ -70,59 +104,65 @@ started-append [] js = refl
 started-append (i ∷ is) js = ap (λ (l : List Entry). started i ∷ l) (started-append is js)
 
 module _ (n : Net) (t : Float) where
-  -- what starts lead to, where there is no refusal
-  Led : Marking → Answer Starts → Type 0
-  Led m r = (b : Starts) → r ≡ given b → Leads n m (map started (b .who)) (b .counts)
+  abbrev at-clock : Marking → List Timer → Moment
+  at-clock m q = record { clock = t; counts = m; timers = q }
 
-  led-given : (m : Marking) (s : Starts) → Leads n m (map started (s .who)) (s .counts) → Led m (given s)
+  -- what starts at the clock t lead to, where there is no refusal
+  Led : Marking → List Timer → Answer Starts → Type 0
+  Led m q r = (b : Starts) → r ≡ given b → Leads n (at-clock m q) (map started (b .who)) (at-clock (b .counts) (b .timers))
+
+  led-given : (m : Marking) (q : List Timer) (s : Starts) → Leads n (at-clock m q) (map started (s .who)) (at-clock (s .counts) (s .timers)) → Led m q (given s)
   unfolding Led
-  led-given m s h b e = subst (λ (x : Starts). Leads n m (map started (x .who)) (x .counts)) (given-same e) h
+  led-given m q s h b e =
+      subst (λ (x : Starts). Leads n (at-clock m q) (map started (x .who)) (at-clock (x .counts) (x .timers))) (given-same e) h
 
-  led-refused : (m : Marking) (c : ℕ) → Led m (refused c)
+  led-refused : (m : Marking) (q : List Timer) (c : ℕ) → Led m q (refused c)
   unfolding Led
-  led-refused m c b e = refused-given e
+  led-refused m q c b e = refused-given e
 
-  led-preceded : (m m′ : Marking) (js : List ℕ) (r : Answer Starts) → Leads n m (map started js) m′ → Led m′ r → Led m (preceded js r)
-  led-preceded m m′ js (refused c) h k = led-refused m c
-  led-preceded m m′ js (given s) h k =
-      led-given m _ (rw (started-append js (s .who)) (leads-on h (unfold Led in k s refl)))
+  led-preceded : (m m′ : Marking) (q q′ : List Timer) (js : List ℕ) (r : Answer Starts) → Leads n (at-clock m q) (map started js) (at-clock m′ q′) → Led m′ q′ r
+      → Led m q (preceded js r)
+  led-preceded m m′ q q′ js (refused c) h k = led-refused m q c
+  led-preceded m m′ q q′ js (given s) h k =
+      led-given m q _ (rw (started-append js (s .who)) (leads-on h (unfold Led in k s refl)))
 
-  pass-leads : (rest : List Transition) (j : ℕ) (m : Marking) (q : List Timer) → drop j (n .transitions) ≡ rest → Led m (pass n t j rest m q)
-  pass-leads [] j m q d = led-given m _ (leads-none n m)
+  pass-leads : (rest : List Transition) (j : ℕ) (m : Marking) (q : List Timer) → drop j (n .transitions) ≡ rest → Led m q (pass n t j rest m q)
+  pass-leads [] j m q d = led-given m q _ (leads-none n _)
   pass-leads (this ∷ rest) j m q d =
       go (timed this && enabled n m this) refl (ltb (length q) 256) (pass-leads rest (suc j) m q (w .2))
       (pass-leads rest (suc j) (taking m (this .takes)) (insert timer q) (w .2))
     where
       timer : Timer
-      timer = record { at = add binary64 t (this .delay); who = j }
+      timer = timerOf t j this
 
       w : (j < length (n .transitions)) × (transition n j ≡ this) × (drop (suc j) (n .transitions) ≡ rest)
       w = drop-here (n .transitions) j this rest d
 
-      one : enabled n m this ≡ true → Leads n m (started j ∷ []) (taking m (this .takes))
-      one e = record { allowed = ((w .0, rw (w .1) e), tt); to = rw (w .1) }
+      one : enabled n m this ≡ true → Leads n (at-clock m q) (started j ∷ []) (at-clock (taking m (this .takes)) (insert timer q))
+      one e = record { allowed = ((w .0, rw (w .1) e), tt); due = (tt, tt); to = rw (w .1) }
 
       go : (c : Bool) → timed this && enabled n m this ≡ c → (d : Bool)
-          → Led m (pass n t (suc j) rest m q)
-          → Led (taking m (this .takes)) (pass n t (suc j) rest (taking m (this .takes)) (insert timer q))
-          → Led m (pick c (pick d (preceded (j ∷ []) (pass n t (suc j) rest (taking m (this .takes)) (insert timer q))) (refused 15)) (pass n t (suc j) rest m q))
+          → Led m q (pass n t (suc j) rest m q)
+          → Led (taking m (this .takes)) (insert timer q) (pass n t (suc j) rest (taking m (this .takes)) (insert timer q))
+          → Led m q (pick c (pick d (preceded (j ∷ []) (pass n t (suc j) rest (taking m (this .takes)) (insert timer q))) (refused 15)) (pass n t (suc j) rest m q))
       go false e d a b = a
-      go true e false a b = led-refused m 15
-      go true e true a b = led-preceded m (taking m (this .takes)) (j ∷ []) _ (one (both (timed this) (enabled n m this) e .1)) b
+      go true e false a b = led-refused m q 15
+      go true e true a b = led-preceded m (taking m (this .takes)) q (insert timer q) (j ∷ []) _ (one (both (timed this) (enabled n m this) e .1)) b
 
-  passes-lead : (k : ℕ) (m : Marking) (q : List Timer) → Led m (passes k n t m q)
-  passes-lead zero m q = led-given m _ (leads-none n m)
+  passes-lead : (k : ℕ) (m : Marking) (q : List Timer) → Led m q (passes k n t m q)
+  passes-lead zero m q = led-given m q _ (leads-none n _)
   passes-lead (suc k) m q = go (pass n t 0 (n .transitions) m q) (pass-leads (n .transitions) 0 m q refl) (λ m′ q′. passes-lead k m′ q′)
     where
-      go : (r : Answer Starts) → Led m r → ((m′ : Marking) (q′ : List Timer) → Led m′ (passes k n t m′ q′)) → Led m (unlessNone (passes k n t) r)
-      go (refused c) h ih = led-refused m c
+      go : (r : Answer Starts) → Led m q r → ((m′ : Marking) (q′ : List Timer) → Led m′ q′ (passes k n t m′ q′)) → Led m q (unlessNone (passes k n t) r)
+      go (refused c) h ih = led-refused m q c
       go (given s) h ih = last (nobody (s .who))
         where
-          last : (c : Bool) → Led m (pick c (given s) (preceded (s .who) (passes k n t (s .counts) (s .timers))))
+          last : (c : Bool) → Led m q (pick c (given s) (preceded (s .who) (passes k n t (s .counts) (s .timers))))
           last true = h
-          last false = led-preceded m (s .counts) (s .who) _ (unfold Led in h s refl) (ih (s .counts) (s .timers))
+          last false = led-preceded m (s .counts) q (s .timers) (s .who) _ (unfold Led in h s refl) (ih (s .counts) (s .timers))
 
-  pub starts-lead : (m : Marking) (q : List Timer) (b : Starts) → passes 257 n t m q ≡ given b → Leads n m (map started (b .who)) (b .counts)
+  pub starts-lead : (m : Marking) (q : List Timer) (b : Starts) → passes 257 n t m q ≡ given b
+      → Leads n (record { clock = t; counts = m; timers = q }) (map started (b .who)) (record { clock = t; counts = b .counts; timers = b .timers })
   unfolding Led
   starts-lead m q = passes-lead 257 m q
 
@@ -172,9 +212,16 @@ module _ (n : Net) (m : Marking) where
 
 -- ---- one step
 
+-- what an event is: a completion, a firing, or nothing
+pub data Lone : List Entry → Type 0 where
+  noEntry : Lone []
+  oneCompletion : (j : ℕ) → Lone (completed j ∷ [])
+  oneFiring : (j : ℕ) → Lone (fired j ∷ [])
+
 -- an event that is not refused
 pub record Ends (n : Net) (u : State) (ev : Event) : Type 0 where
-  pub leads : Leads n (u .counts) (ev .what) (ev .leaves .counts)
+  pub lone : Lone (ev .what)
+  pub leads : Leads n (moment u) (ev .what) (moment (ev .leaves))
   pub clock : ev .leaves .clock ≡ u .clock
 
 abbrev pub EventGood : Net → State → Answer Event → Type 0
@@ -182,7 +229,7 @@ EventGood n u (refused c) = Unit
 EventGood n u (given ev) = Ends n u ev
 
 pub record Stepping (n : Net) (s : State) (js : List ℕ) (u : State) (e : Answer Event) : Type 0 where
-  pub starts : Leads n (s .counts) (map started js) (u .counts)
+  pub starts : Leads n (moment s) (map started js) (record { clock = s .clock; counts = u .counts; timers = u .timers })
   pub event : EventGood n u e
 
 abbrev pub StepGood : Net → State → Answer Step → Type 0
@@ -190,21 +237,23 @@ StepGood n s (refused c) = Unit
 StepGood n s (given still) = Unit
 StepGood n s (given (sets js u e)) = Stepping n s js u e
 
-event-good : (n : Net) (u : State) (e : Entry) (q : List Timer) (g : Generator) → Allowed n (u .counts) e → EventGood n u (event n u e q g)
-event-good n u e q g a = go (countsFit (move n (u .counts) e))
+-- an event whose entry is allowed and due, and leaves these timers
+event-good : (n : Net) (u : State) (e : Entry) (q : List Timer) (g : Generator) → Lone (e ∷ []) → Allowed n (u .counts) e → Due (moment u) e
+    → happen n (moment u) e ≡ record { clock = u .clock; counts = move n (u .counts) e; timers = q } → EventGood n u (event n u e q g)
+event-good n u e q g l a d h = go (countsFit (move n (u .counts) e))
   where
     go : (c : Bool) → EventGood n u (pick c (given (record { what = e ∷ []; leaves = state (u .clock) (move n (u .counts) e) q g })) (refused 14))
-    go true = record { leads = record { allowed = (a, tt); to = refl }; clock = refl }
+    go true = record { lone = l; leads = record { allowed = (a, tt); due = (d, tt); to = h }; clock = refl }
     go false = tt
 
 fire-good : (n : Net) (u : State) (o : Option ℕ) → ((i : ℕ) → o ≡ some i → Ready n (u .counts) i) → EventGood n u (fire n u o)
-fire-good n u none h = record { leads = leads-none n (u .counts); clock = refl }
-fire-good n u (some j) h = event-good n u (fired j) (u .timers) (u .generator) (h j refl)
+fire-good n u none h = record { lone = noEntry; leads = leads-none n (moment u); clock = refl }
+fire-good n u (some j) h = event-good n u (fired j) (u .timers) (u .generator) (oneFiring j) (h j refl) tt refl
 
--- the draw of x2 changes neither counts nor clock
+-- the draw of x2 changes neither counts, timers nor clock
 drawing-good : (n : Net) (u : State) (g : Generator) (e : Answer Event) → EventGood n (state (u .clock) (u .counts) (u .timers) g) e → EventGood n u e
 drawing-good n u g (refused c) h = tt
-drawing-good n u g (given ev) h = record { leads = h .leads; clock = h .clock }
+drawing-good n u g (given ev) h = record { lone = h .lone; leads = h .leads; clock = h .clock }
 
 raced-good : (n : Net) (u : State) (a0 : Float) → EventGood n u (raced n u a0 (propensities n (u .counts)))
 raced-good n u a0 =
@@ -212,52 +261,90 @@ raced-good n u a0 =
     let o : Option ℕ = chosen (mul binary64 (uniform (u .generator)) a0) (propensities n (u .counts)) in
     drawing-good n u (drawn (u .generator)) (fire n v o) (fire-good n v o (λ i p. chosen-ready n (u .counts) _ i p))
 
-complete-good : (n : Net) (u : State) → EventGood n u (complete n u)
-complete-good n u = event-good n u (completed (first (u .timers) .who)) (others (u .timers)) (u .generator) tt
+complete-good : (n : Net) (u : State) → FirstIs (u .timers) (first (u .timers) .who) → EventGood n u (complete n u)
+complete-good n u d =
+    event-good n u (completed (first (u .timers) .who)) (others (u .timers)) (u .generator) (oneCompletion (first (u .timers) .who)) tt d refl
 
-module _ (n : Net) (s : State) (js : List ℕ) (v : State) (a0 : Float) (h : Leads n (s .counts) (map started js) (v .counts)) where
-  go-on-good : (x : Next) → StepGood n s (given (goOn n js v a0 (propensities n (v .counts)) x))
-  go-on-good nothingLeft = tt
-  go-on-good (race dt) = record { starts = h; event = raced-good n (setClock (add binary64 (v .clock) dt) v) a0 }
-  go-on-good (completion at) = record { starts = h; event = complete-good n (setClock at v) }
+-- a completion comes next only where a timer runs
+next-first : (a0 t dt : Float) (q : List Timer) (at : Float) → next a0 t dt q ≡ completion at → FirstIs q (first q .who)
+next-first a0 t dt [] at p = go (le a0 zero64) p
+  where
+    go : (c : Bool) → pick c nothingLeft (race dt) ≡ completion at → ⊥
+    go true e = let z : _≡_ {A = ℕ} 0 1 = cc in omega arith
+    go false e = let z : _≡_ {A = ℕ} 0 1 = cc in omega arith
+next-first a0 t dt (z ∷ q) at p = refl
+
+module _ (n : Net) (s : State) (js : List ℕ) (v : State) (a0 : Float)
+    (h : Leads n (moment s) (map started js) (record { clock = s .clock; counts = v .counts; timers = v .timers })) where
+  go-on-good : (x : Next) → ((at : Float) → x ≡ completion at → FirstIs (v .timers) (first (v .timers) .who))
+      → StepGood n s (given (goOn n js v a0 (propensities n (v .counts)) x))
+  go-on-good nothingLeft f = tt
+  go-on-good (race dt) f = record { starts = h; event = raced-good n (setClock (add binary64 (v .clock) dt) v) a0 }
+  go-on-good (completion at) f = record { starts = h; event = complete-good n (setClock at v) (f at refl) }
 
 pub step-good : (n : Net) (s : State) → StepGood n s (step n s)
 step-good n s = go (starts n s) (λ b p. starts-lead n (s .clock) (s .counts) (s .timers) b p)
   where
-    go : (r : Answer Starts) → ((b : Starts) → r ≡ given b → Leads n (s .counts) (map started (b .who)) (b .counts)) → StepGood n s (afterStarts n s r)
+    go : (r : Answer Starts)
+        → ((b : Starts) → r ≡ given b → Leads n (moment s) (map started (b .who)) (record { clock = s .clock; counts = b .counts; timers = b .timers }))
+        → StepGood n s (afterStarts n s r)
     go (refused c) h = tt
     go (given b) h =
         let a0 : Float = total (propensities n (b .counts)) in
         let v : State = state (s .clock) (b .counts) (b .timers) (drawnFor a0 (s .generator)) in
         go-on-good n s (b .who) v a0 (h b refl) (next a0 (s .clock) (waiting a0 (s .generator)) (b .timers))
+        (next-first a0 (s .clock) (waiting a0 (s .generator)) (b .timers))
 
 -- ---- a run
 
-leads-reading : (n : Net) (m : Marking) (t : Float) → Leads n m (reading t ∷ []) m
-leads-reading n m t = record { allowed = (tt, tt); to = refl }
+leads-reading : (n : Net) (x : Moment) (t : Float) → Leads n x (reading t ∷ []) (record { clock = t; counts = x .counts; timers = x .timers })
+leads-reading n x t = record { allowed = (tt, tt); due = (tt, tt); to = refl }
 
--- the run from s: each start and firing is enabled
-pub run-allowed : (n : Net) (last : Float) (k : ℕ) (s : State) → EachAllowed n (s .counts) (entries (run n last k s))
-run-allowed n last zero s = tt
-run-allowed n last (suc k) s = below (lt (s .clock) last) (one (step n s) (step-good n s) (λ u. run-allowed n last k u))
+-- what happens in a step up to its clock reading
+pub up-to-reading : {n : Net} {s : State} {js : List ℕ} {u : State} {e : Answer Event} → Stepping n s js u e
+    → Leads n (moment s) (map started js ++ reading (u .clock) ∷ []) (moment u)
+up-to-reading {n} {s} {js} {u} g = leads-on (g .starts) (leads-reading n _ (u .clock))
+
+-- a run from the moment x: each start and firing is enabled, each completion due, and what is left at the end is what the entries replay
+pub record Goes (n : Net) (x : Moment) (r : Run) : Type 0 where
+  pub allowed : EachAllowed n (x .counts) (entries r)
+  pub due : EachDue n x (entries r)
+  pub left : (o : Outcome) → outcome r ≡ given o → momentAfter n x (entries r) ≡ moment (o .left)
+
+goes-end : (n : Net) (e : End) (s : State) → Goes n (moment s) (ends e s)
+goes-end n e s = record { allowed = tt; due = tt; left = λ o p. ap (λ (o : Outcome). moment (o .left)) (given-same p) }
+
+goes-refused : (n : Net) (x : Moment) (c : ℕ) → Goes n x (refuses c)
+goes-refused n x c = record { allowed = tt; due = tt; left = λ o p. refused-given p }
+
+goes-step : {n : Net} {x y : Moment} {es : List Entry} {r : Run} → Leads n x es y → Goes n y r → Goes n x (steps es r)
+goes-step {n} {x} {y} {es} {r} a b =
+    let w : Leads n x (es ++ entries r) (momentAfter n y (entries r)) = leads-on a (record { allowed = b .allowed; due = b .due; to = refl }) in
+    record { allowed = w .allowed; due = w .due; left = λ o p. w .to ∙ b .left o p }
+
+pub run-goes : (n : Net) (last : Float) (k : ℕ) (s : State) → Goes n (moment s) (run n last k s)
+run-goes n last zero s = goes-end n _ s
+run-goes n last (suc k) s = below (lt (s .clock) last) (one (step n s) (step-good n s) (λ u. run-goes n last k u))
   where
-    one : (r : Answer Step) → StepGood n s r → ((u : State) → EachAllowed n (u .counts) (entries (run n last k u)))
-        → EachAllowed n (s .counts) (entries (stepped last s r (run n last k)))
-    one (refused c) g ih = tt
-    one (given still) g ih = tt
+    one : (r : Answer Step) → StepGood n s r → ((u : State) → Goes n (moment u) (run n last k u))
+        → Goes n (moment s) (stepped last s r (run n last k))
+    one (refused c) g ih = goes-refused n (moment s) c
+    one (given still) g ih = goes-step (leads-none n (moment s)) (goes-end n quiet s)
     one (given (sets js u e)) g ih = past (lt last (u .clock)) e (g .event)
       where
-        up-to : Leads n (s .counts) (map started js ++ reading (u .clock) ∷ []) (u .counts)
-        up-to = leads-on (g .starts) (leads-reading n (u .counts) (u .clock))
+        es : List Entry
+        es = map started js ++ reading (u .clock) ∷ []
 
         past : (c : Bool) (e : Answer Event) → EventGood n u e
-            → EachAllowed n (s .counts) (entries (pick c (steps (map started js ++ reading (u .clock) ∷ []) (ends reached u)) (concluded (map started js ++ reading (u .clock) ∷ []) e (run n last k))))
-        past true e h = leads-on up-to (leads-none n (u .counts)) .allowed
-        past false (refused c) h = leads-on up-to (leads-none n (u .counts)) .allowed
-        past false (given ev) h =
-            leads-on (leads-on up-to (h .leads)) (record { allowed = ih (ev .leaves); to = refl }) .allowed
+            → Goes n (moment s) (pick c (steps es (ends reached u)) (concluded es e (run n last k)))
+        past true e h = goes-step (up-to-reading g) (goes-end n reached u)
+        past false (refused c) h = goes-step (up-to-reading g) (goes-refused n (moment u) c)
+        past false (given ev) h = goes-step (leads-on (up-to-reading g) (h .leads)) (ih (ev .leaves))
 
-    below : (c : Bool) → EachAllowed n (s .counts) (entries (stepped last s (step n s) (run n last k)))
-        → EachAllowed n (s .counts) (entries (pick c (stepped last s (step n s) (run n last k)) (ends reached s)))
+    below : (c : Bool) → Goes n (moment s) (stepped last s (step n s) (run n last k))
+        → Goes n (moment s) (pick c (stepped last s (step n s) (run n last k)) (ends reached s))
     below true h = h
-    below false h = tt
+    below false h = goes-end n reached s
+
+pub run-allowed : (n : Net) (last : Float) (k : ℕ) (s : State) → EachAllowed n (s .counts) (entries (run n last k s))
+run-allowed n last k s = run-goes n last k s .allowed

@@ -1,6 +1,9 @@
 pub mod Order
 pub mod Counts
+pub mod Weighing
 pub mod Allowing
+pub mod Balancing
+pub mod Samples
 pub mod Agree
 pub mod Detours
 pub mod Demand3Held

@@ -20,7 +20,7 @@ use Rattle.rules.specs.Step.{State, state, Answer, refused, given, Start
 use Rattle.rules.specs.Run.{End, quiet, spent, reached, Run, ends, steps, concluded, stepped, run, beginning, Outcome, outcome, stepsOf, entries, trace}
 use Rattle.rules.specs.Shown.{before, reaches, shownAt, reachedFrom, settledOf, peakOf, rising, lastOf, Path, reported, runOf, worked}
 use Rattle.rules.proofs.Order.{never, le-trans}
-use Rattle.rules.proofs.Allowing.{after-append, EventGood, StepGood, step-good}
+use Rattle.rules.proofs.Allowing.{after-append, leads-counts, EventGood, StepGood, step-good}
 use Rattle.rules.proofs.Agree.{before-unreached}
 use Rattle.rules.proofs.Demand3Held.{rising-first}
 
@@ -277,14 +277,14 @@ module _ (n : Net) (last : Float) where
           past true e w q =
               ap (λ (l : List Entry). told n (s .counts) xs l 1 (given (record { end = reached; left = u })))
               (append-assoc (map started js) (reading (u .clock) ∷ []) [])
-              ∙ told-step n js (u .clock) [] [] (λ x. refl) (s .counts) (u .counts) (u .counts) (g .starts .to) refl xs h 0 (given (record { end = reached; left = u }))
+              ∙ told-step n js (u .clock) [] [] (λ x. refl) (s .counts) (u .counts) (u .counts) (leads-counts (g .starts)) refl xs h 0 (given (record { end = reached; left = u }))
               ∙ ap (stepAnd (u .counts) (upTo (u .clock) xs)) (told-end n reached u (beyond (u .clock) xs))
           past false (refused c) w q = unfold told in refl
           past false (given ev) w q =
               let r : Run = run n last k (ev .leaves) in
               ap (λ (l : List Entry). told n (s .counts) xs l (suc (stepsOf r)) (outcome r))
               (append-assoc es (ev .what) (entries r) ∙ append-assoc (map started js) (reading (u .clock) ∷ []) (ev .what ++ entries r))
-              ∙ told-step n js (u .clock) (ev .what) (entries r) q (s .counts) (u .counts) (ev .leaves .counts) (g .starts .to) (w .leads .to) xs h (stepsOf r) (outcome r)
+              ∙ told-step n js (u .clock) (ev .what) (entries r) q (s .counts) (u .counts) (ev .leaves .counts) (leads-counts (g .starts)) (leads-counts (w .leads)) xs h (stepsOf r) (outcome r)
               ∙ ap (stepAnd (u .counts) (upTo (u .clock) xs)) (ih (ev .leaves) (beyond (u .clock) xs) (rises-beyond (u .clock) xs h))
 
       below : (c : Bool) → toldRun n (s .counts) xs (stepped last s (step n s) (run n last k)) ≡ playStep last s xs (step n s) (play n last k)

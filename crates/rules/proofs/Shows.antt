@@ -20,7 +20,7 @@ use Rattle.rules.specs.Step.{State, state, Answer, refused, given, Start
 use Rattle.rules.specs.Run.{ends, steps, reached, concluded, stepped, run, entries, beginning, trace}
 use Rattle.rules.specs.Shown.{before, shownAt, lastOf, Path, runOf, acceptedPath}
 use Rattle.rules.specs.Demand3.{count}
-use Rattle.rules.proofs.Allowing.{starts-lead}
+use Rattle.rules.proofs.Allowing.{leads-counts, starts-lead}
 use Rattle.rules.proofs.Accepted.{accepted, fit-held, starts-fit}
 use Rattle.rules.proofs.Demand3Held.{answered}
 
@@ -102,7 +102,7 @@ module _ (n : Net) (s : State) (js : List ℕ) (v : State) (a0 : Float) (xs : Li
       record { to = to; fit = h; event = completed-reads n u (first (u .timers) .who) (others (u .timers)) (u .generator) }
 
 step-reads : (n : Net) (s : State) → countsFit (s .counts) ≡ true → StepReads n s (step n s)
-step-reads n s h = go (starts n s) (λ b p. starts-fit n s b p h) (λ b p. starts-lead n (s .clock) (s .counts) (s .timers) b p .to)
+step-reads n s h = go (starts n s) (λ b p. starts-fit n s b p h) (λ b p. leads-counts (starts-lead n (s .clock) (s .counts) (s .timers) b p))
   where
     go : (r : Answer Starts) → ((b : Starts) → r ≡ given b → countsFit (b .counts) ≡ true)
         → ((b : Starts) → r ≡ given b → after n (s .counts) (map started (b .who)) ≡ b .counts) → StepReads n s (afterStarts n s r)

@@ -4,8 +4,10 @@ pub mod Jump
 pub mod Timers
 pub mod Moves
 pub mod Step
+pub mod Moments
 pub mod Run
 pub mod Gillespie
 pub mod Values
 pub mod Shown
+pub mod Balance
 pub mod Demand3

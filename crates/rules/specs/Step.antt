@@ -14,7 +14,7 @@ use Rattle.rng.specs.State.{State as Generator}
 use Rattle.rng.specs.Xoshiro.{step as drawn, uniform}
 use Rattle.portable_log.specs.Log.{plog}
 use Rattle.rules.specs.Jump.{chosen}
-use Rattle.rules.specs.Timers.{Timer, insert, first, others}
+use Rattle.rules.specs.Timers.{Timer, timerOf, insert, first, others}
 use Rattle.rules.specs.Moves.{Entry, reading, started, completed, fired, move, taking}
 
 -- what a step begins with, and what it leaves
@@ -46,13 +46,12 @@ preceded js (refused c) = refused c
 preceded js (given s) = given (record { who = js ++ s .who; counts = s .counts; timers = s .timers })
 
 -- "A pass goes through the transitions in order and starts each delayed one that is enabled at its turn": those from number j on.
--- A start sets a timer to t + delay; 15 if 256 run already.
+-- 15 if 256 run already.
 abbrev pub pass : Net → Float → ℕ → List Transition → Marking → List Timer → Answer Starts
 pass n t j [] m q = given (record { who = []; counts = m; timers = q })
 pass n t j (this ∷ rest) m q =
     let skipped = pass n t (suc j) rest m q in
-    let timer : Timer = record { at = add binary64 t (this .delay); who = j } in
-    let starts = preceded (j ∷ []) (pass n t (suc j) rest (taking m (this .takes)) (insert timer q)) in
+    let starts = preceded (j ∷ []) (pass n t (suc j) rest (taking m (this .takes)) (insert (timerOf t j this) q)) in
     let tried = pick (ltb (length q) 256) starts (refused Refusal.tooManyTimers) in
     pick (timed this && enabled n m this) tried skipped
 

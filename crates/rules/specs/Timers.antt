@@ -3,12 +3,16 @@
 use Prim.Native.Nat.{ℕ, zero, suc}
 use mathlib.Core.Bool.{Bool, true, false}
 use mathlib.Core.List.{List, [], _∷_}
-use lib.Ieee.{Float, inf, lt}
-use Rattle.net.specs.Net.{pick}
+use lib.Ieee.{Float, inf, binary64, add, lt}
+use Rattle.net.specs.Net.{Transition, pick}
 
 pub record Timer : Type 0 where
   pub at : Float
   pub who : ℕ
+
+-- a start "sets a timer to t + delay": transition j at the clock t
+abbrev pub timerOf : Float → ℕ → Transition → Timer
+timerOf t j this = record { at = add binary64 t (this .delay); who = j }
 
 -- a new timer goes in front of the first one that completes later, so behind its equals
 abbrev pub insert : Timer → List Timer → List Timer
