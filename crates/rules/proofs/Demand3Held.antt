@@ -78,7 +78,7 @@ answered n g xs k a p = listed (instantsFit xs) refl p
     listed true f q = limited (limitFits k) f q
     listed false f q = refused-given q
 
-at-instant : (f : Float → Marking) (xs : List Float) (i : ℕ) → i < length xs → getD (map f xs) i [] ≡ f (instant xs i)
+pub at-instant : (f : Float → Marking) (xs : List Float) (i : ℕ) → i < length xs → getD (map f xs) i [] ≡ f (instant xs i)
 at-instant f [] i h = absurd (omega arith)
 at-instant f (x ∷ xs) zero h = refl
 at-instant f (x ∷ xs) (suc i) h = at-instant f xs i (le-of-suc-le-suc h)

@@ -29,12 +29,12 @@ use Rattle.ssa.specs.Demand3.{Answered, cell, Balanced, Demand3}
 use Rattle.ssa.proofs.Cells.{cell-in, rows-at, rows-long}
 
 -- what a call that is not refused is
-record Whole (n : NetRecord) (g : Generator) (xs : List Float) (k : ℕ) (t : List Float) : Type 0 where
-  sound : fault n ≡ none
-  answer : Path
-  works : acceptedPath (readable n) g xs k ≡ given answer
-  settles : called n g xs k t .settled ≡ answer .settled
-  table : called n g xs k t .table ≡ tableOf (length (readable n .places)) (answer .shown) t
+pub record Whole (n : NetRecord) (g : Generator) (xs : List Float) (k : ℕ) (t : List Float) : Type 0 where
+  pub sound : fault n ≡ none
+  pub answer : Path
+  pub works : acceptedPath (readable n) g xs k ≡ given answer
+  pub settles : called n g xs k t .settled ≡ answer .settled
+  pub table : called n g xs k t .table ≡ tableOf (length (readable n .places)) (answer .shown) t
 
 clash : {P : Type 0} {c : ℕ} {e : End} → _≡_ {A = Answer End} (refused c) (given e) → P
 clash h = let z : _≡_ {A = ℕ} 0 1 = cc in absurd (omega arith)
@@ -63,7 +63,7 @@ module _ (n : NetRecord) (g : Generator) (xs : List Float) (k : ℕ) (t : List F
   decided none false c d w how e₁ e₂ e₃ e₄ e₅ h = clash h
   decided (some c) b₁ c₁ d₁ w how e₁ e₂ e₃ e₄ e₅ h = clash h
 
-  whole : Answered (called n g xs k t) → Whole n g xs k t
+  pub whole : Answered (called n g xs k t) → Whole n g xs k t
   unfolding called
   whole a =
       decided (fault n) (instantsFit xs) (limitFits k) (tableFits (length (readable n .places)) (length xs) t) (worked (readable n) g xs k) (a .how)
@@ -95,7 +95,7 @@ module _ (n : NetRecord) (g : Generator) (xs : List Float) (k : ℕ) (t : List F
       ap length (a .shows) ∙ length-map xs _
 
   -- a cell of the table is the count that the rules show there
-  cell-is : (p i : ℕ) → p < n .places → i < length xs → cell (length xs) (called n g xs k t) p i ≡ float (Rule.count (w .answer) i p)
+  pub cell-is : (p i : ℕ) → p < n .places → i < length xs → cell (length xs) (called n g xs k t) p i ≡ float (Rule.count (w .answer) i p)
   cell-is p i h l =
       let shown = w .answer .shown in
       let places = length (readable n .places) in

@@ -4,6 +4,7 @@ pub mod Cells
 pub mod Playing
 pub mod Accepted
 pub mod Demand3
+pub mod Subscribers
 pub mod Steps
 pub mod Summing
 pub mod Requested

@@ -5,6 +5,7 @@ pub mod Stepping
 pub mod Path
 pub mod Playing
 pub mod Demand3
+pub mod Subscribers
 pub mod Ensemble
 pub mod Summing
 pub mod Labels
