@@ -1,0 +1,5 @@
+pub mod Weights
+pub mod Asked
+pub mod Kept
+pub mod Labels
+pub mod Cases

@@ -1,0 +1,4 @@
+pub mod Slots
+pub mod Call
+pub mod Kept
+pub mod Labels
