@@ -1,4 +1,4 @@
-# Shared by play, soak and game, which source it and set `me`: the proved programs behind them.
+# Shared by play, soak, game and balance, which source it and set `me`: the proved programs behind them.
 top=$(cd "$(dirname "${BASH_SOURCE[0]}")" && pwd -P)
 say() { echo "$me: $*" >&2; }
 
@@ -18,8 +18,12 @@ built() {
     say "built in $(cat "$spent") s"
 }
 
-# What a refusal's number says of a net, its text, its run or its game.
+# meaning NUMBER LINE: what a refusal's number says of a net, its text, its run, its game or, at line 0, its weights.
 meaning() {
+    case $1,$2 in
+    3,0) echo "a list has as many weights as the net has places" && return ;;
+    4,0) echo "a weight is 0 to 1,000" && return ;;
+    esac
     case $1 in
     1) echo "a line of the wrong form, a line that is missing, or text after the last" ;;
     2) echo "too many places, moves, arcs or bytes, or no place before the first move or run line" ;;
@@ -43,13 +47,18 @@ meaning() {
     esac
 }
 
-# explained LINE: where the line is (refused NUMBER LINE), what the number says; the status is 3.
+# explained LINE [WHAT]: where the line is (refused NUMBER LINE), what the number says; the status is 3. At line 0 it is said of WHAT, but for 2, which is
+# said of a text of too many bytes.
 explained() {
-    local where
+    local number line where
     if [[ $1 =~ ^\(refused\ ([0-9]+)\ ([0-9]+)\)$ ]]; then
-        where="line ${BASH_REMATCH[2]}"
-        if [ "${BASH_REMATCH[2]}" = 0 ]; then where=${2:-the text as a whole}; fi
-        say "refused by ${BASH_REMATCH[1]}, $where: $(meaning "${BASH_REMATCH[1]}")"
+        number=${BASH_REMATCH[1]} line=${BASH_REMATCH[2]}
+        case $number,$line in
+        2,0) where="the text as a whole" ;;
+        *,0) where=${2:-the text as a whole} ;;
+        *) where="line $line" ;;
+        esac
+        say "refused by $number, $where: $(meaning "$number" "$line")"
         exit 3
     fi
 }

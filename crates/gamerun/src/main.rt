@@ -6,23 +6,15 @@ ghost use Prim.Native.Nat.{_+_, _<_, _≤_};
 ghost use lib.ListN.{length};
 use game::First;
 use game::GameAnswer;
-use libc::STDERR_FILENO;
 use libc::STDIN_FILENO;
-use libc::STDOUT_FILENO;
 use net::Net;
+use net_io::arguments::Number;
+use net_io::arguments::number_of;
+use net_io::say;
+use net_io::write;
+use net_io::write_number;
+use net_io::write_refused;
 use net_text::Judged;
-
-fn write(words: &[u8]) {
-    io::write_all(STDOUT_FILENO, words);
-}
-
-fn write_refused(number: u64, line: u64) {
-    write(b"(refused ");
-    io::print_decimal(STDOUT_FILENO, number);
-    write(b" ");
-    io::print_decimal(STDOUT_FILENO, line);
-    write(b")\n");
-}
 
 fn write_first(first: First) {
     match first {
@@ -31,7 +23,7 @@ fn write_first(first: First) {
         First::Passes => write(b"(game pass "),
         First::Fires(j) => {
             write(b"(game fires ");
-            io::print_decimal(STDOUT_FILENO, j as u64);
+            write_number(j as u64);
             write(b" ");
         }
     }
@@ -42,53 +34,9 @@ fn write_answer(answer: GameAnswer) {
         GameAnswer::Refused(c) => write_refused(c, 0),
         GameAnswer::Answered(first, examined) => {
             write_first(first);
-            io::print_decimal(STDOUT_FILENO, examined);
+            write_number(examined);
             write(b")\n");
         }
-    }
-}
-
-// A number that an argument may be.
-struct Number {
-    fits: bool,
-    value: u64,
-}
-
-fn is_digit(b: u8) -> bool {
-    if b < b'0' {
-        return false;
-    }
-    b <= b'9'
-}
-
-// n with a digit behind it. A number past 10^18 is past every place, count and number of turns: it becomes the largest.
-fn with_digit(n: u64, b: u8) -> u64 {
-    if 1_000_000_000_000_000_000 <= n {
-        return u64::MAX;
-    }
-    if b < b'0' {
-        return n;
-    }
-    10 * n + (b - b'0') as u64
-}
-
-fn number_of(digits: &[u8]) -> Number {
-    let mut value = 0u64;
-    let mut i = 0usize;
-    while i < digits.len() {
-        let b = digits[i];
-        if !is_digit(b) {
-            return Number {
-                fits: false,
-                value: 0,
-            };
-        }
-        value = with_digit(value, b);
-        i += 1;
-    }
-    Number {
-        fits: 0 < i,
-        value: value,
     }
 }
 
@@ -197,10 +145,7 @@ fn read_and_search(n: usize, letters: &[u8; 65], name: &[u8], count: u64, turns:
 }
 
 fn usage() {
-    io::write_all(
-        STDERR_FILENO,
-        b"usage: gamerun SIDES PLACE COUNT TURNS <NET\n",
-    );
+    say(b"usage: gamerun SIDES PLACE COUNT TURNS <NET\n");
 }
 
 fn main() {

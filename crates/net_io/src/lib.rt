@@ -1,4 +1,6 @@
-// Standard input and output of a program that reads a net text.
+// Standard input and output of a program that reads a net text, and numbers in its arguments.
+pub mod arguments;
+
 ghost use mathlib.Core.Path.{_≡_};
 ghost use lib.ListN.{length};
 use libc::STDERR_FILENO;
@@ -15,6 +17,25 @@ pub fn text_room() -> [u8; 8193]
 // Words on standard error.
 pub fn say(words: &[u8]) {
     io::write_all(STDERR_FILENO, words);
+}
+
+// Words on standard output.
+pub fn write(words: &[u8]) {
+    io::write_all(STDOUT_FILENO, words);
+}
+
+// A number on standard output, in decimal.
+pub fn write_number(n: u64) {
+    io::print_decimal(STDOUT_FILENO, n);
+}
+
+// The line of a text or a call that is turned down.
+pub fn write_refused(number: u64, line: u64) {
+    write(b"(refused ");
+    write_number(number);
+    write(b" ");
+    write_number(line);
+    write(b")\n");
 }
 
 // How many bytes were read, or that a read failed.

@@ -2,8 +2,8 @@
 use borrow.Author.Needs.{needs}
 use Prim.Native.Nat.{_-_, _≤_}
 use lib.ListN.{length}
-use Rattle.gamerun.proofs.number_of.Statement.{statement}
-use Rattle.gamerun.proofs.number_of.Tie as tie
+use Rattle.net_io.proofs.arguments.number_of.Statement.{statement}
+use Rattle.net_io.proofs.arguments.number_of.Tie as tie
 
 abbrev Inv-loop : tie.InvT-loop
 Inv-loop digits value₀ i₀ value i = i ≤ length digits
