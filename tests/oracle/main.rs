@@ -1,5 +1,6 @@
 //! Compares the proved functions with the supplied Rust. The source's module stands beside this
 //! file as `ssa` only in the temporary folder in which this is built (tests/oracle/build).
+mod balances;
 mod bench;
 mod diffusions;
 mod draw;
@@ -30,6 +31,7 @@ fn main() {
             reasons::compare(&mut report, number(seed), number(inputs) / 100);
             soaks::compare(&mut report, number(seed), number(inputs) / 1000);
             games::compare(&mut report, number(seed), number(inputs) / 200);
+            balances::compare(&mut report, number(seed), number(inputs) / 100);
             println!("{} passed, {} failed", report.passed, report.failed);
             std::process::exit((report.failed > 0) as i32);
         }

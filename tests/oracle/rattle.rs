@@ -129,6 +129,23 @@ mod c {
             turns: u64,
             told: *mut [u64; 3],
         );
+        pub fn cild_balance(
+            places: usize,
+            transitions: usize,
+            initial: *const [u64; 32],
+            capacity: *const [u64; 32],
+            label: *const [u8; 512],
+            lengths: *const [usize; 32],
+            rate: *const [f64; 64],
+            delay: *const [f64; 64],
+            arcs: *const [usize; 64],
+            kind: *const [u64; 1024],
+            place: *const [usize; 1024],
+            weight: *const [u64; 1024],
+            weights: *const u64,
+            n: usize,
+            told: *mut [u64; 2],
+        );
         pub fn cild_normals(state: *mut [u64; 4], spare: *mut f64, waiting: *mut bool, out: *mut f64, len: usize) -> usize;
         pub fn cild_soak(seed: u64, places: u64, transitions: u64, out: *mut u8, len: usize, told: *mut [u64; 2]);
     }
@@ -309,6 +326,13 @@ pub fn reason(f: &Fields, out: &mut [u8]) -> [u64; 2] {
 pub fn game(f: &Fields, sides: &[u64], place: u64, count: u64, turns: u64) -> [u64; 3] {
     let mut told = [7; 3];
     lend!(cild_game, f, sides.as_ptr(), sides.len(), place, count, turns, &mut told);
+    told
+}
+
+/// A refusal's number, or 100 balanced, 101 unbalanced; the lowest unbalanced transition's number.
+pub fn balance(f: &Fields, weights: &[u64]) -> [u64; 2] {
+    let mut told = [7; 2];
+    lend!(cild_balance, f, weights.as_ptr(), weights.len(), &mut told);
     told
 }
 

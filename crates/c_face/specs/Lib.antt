@@ -8,3 +8,4 @@ pub mod Normals
 pub mod Read
 pub mod Soaked
 pub mod Searched
+pub mod Weighed
