@@ -1,6 +1,5 @@
 pub mod Turns
 pub mod Squares
-pub mod Products
 pub mod Units
 pub mod Patterns
 pub mod Scaled

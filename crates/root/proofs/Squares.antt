@@ -86,6 +86,13 @@ near n q p g l =
     let u : 2 * q * (2 * q) ≡ (2 * q - 1) * (2 * q - 1) + 2 * (2 * q - 1) + 1 = subst (λ (x : ℕ). x * x ≡ (2 * q - 1) * (2 * q - 1) + 2 * (2 * q - 1) + 1) t (next-square (2 * q - 1)) in
     record { above = omega (arith, u, twice-square q); under = omega (arith, next-square (2 * q), twice-square q) }
 
+-- by its product with its successor: where the upper words of g * (g + 1) and n * 2 ^ 52 agree, the lower ones differ by as much as the numbers do
+pub reached : (n g : ℕ) {low : ℕ} → low ≡ g * (g + 1) % 2 ^ 64 → g * (g + 1) / 2 ^ 64 ≡ n / 2 ^ 12
+    → n * 2 ^ 52 % 2 ^ 64 ≤ low → low - n * 2 ^ 52 % 2 ^ 64 < 2 * g → NearestWhole (n * 2 ^ 52) g
+reached n g e upper lower close =
+    let s : g * (g + 1) ≡ g * g + g = mul-add g g 1 ∙ omega arith in
+    near (n * 2 ^ 52) g (omega arith) (omega arith) (omega arith)
+
 pub root-pos : {n r : ℕ} → CutRoot n r → 0 < n → 0 < r
 root-pos {n} {r} g p = go r g
   where

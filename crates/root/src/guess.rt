@@ -1,8 +1,8 @@
 // A guess at a root, in whole numbers. Nothing here is promised beyond a bound: what is made of a guess is judged (`judged`), and a wrong one costs time.
 ghost use Prim.Native.Nat.{_<_, _^_};
-use crate::high;
 use crate::inverse;
 use std::num::wrapping_add_u64;
+use words::high;
 use words::wrapping_mul;
 
 // A guess at 2^52 times the root of x, a number from 1 to 4 in units of 2^-62 that lies in interval i. With y the inverse root to some 8 binary digits

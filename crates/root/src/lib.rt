@@ -68,20 +68,6 @@ fn slow_in(m: u64, v: u64) -> f64
     placed(m, v, slow_root(m << (v % 2)))
 }
 
-// The upper 64 bits of the product, from halves of 32 bits.
-fn high(u: u64, v: u64) -> u64
-    ensures { λ r. ⌜ r ≡ u * v / 2 ^ 64 ⌝ }
-{
-    let u0 = u % 0x1_0000_0000;
-    let u1 = u >> 32;
-    let v0 = v % 0x1_0000_0000;
-    let v1 = v >> 32;
-    let low = u0 * v0;
-    let cross = u1 * v0 + (low >> 32);
-    let middle = cross % 0x1_0000_0000 + u0 * v1;
-    u1 * v1 + (cross >> 32) + (middle >> 32)
-}
-
 // Is g surely the whole number nearest to the root of n * 2^52? It is where g * (g + 1) reaches n * 2^52 and exceeds it by less than 2 * g.
 // Answering false is always allowed: where the lower halves of both would borrow, it does.
 fn judged(n: u64, g: u64) -> bool
@@ -90,7 +76,7 @@ fn judged(n: u64, g: u64) -> bool
 {
     let low = words::wrapping_mul(g, g + 1);
     let part = n << 52;
-    if high(g, g + 1) == n >> 12 {
+    if words::high(g, g + 1) == n >> 12 {
         if part <= low {
             return low - part < 2 * g;
         }

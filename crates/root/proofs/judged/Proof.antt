@@ -4,7 +4,7 @@ use borrow.Author.Tests.{ltb-true, leb-true}
 use native.Mathlib.Omega.{arith}
 use mathlib.Core.Path.{sym, _∙_}
 use mathlib.Core.Bool.{false≢true}
-use Rattle.root.proofs.Products.{reached}
+use Rattle.root.proofs.Squares.{reached}
 use Rattle.root.proofs.judged.Statement.{statement}
 use Rattle.root.proofs.judged.Tie as tie
 
