@@ -83,14 +83,7 @@ pub fn bench() {
     measure("sqrt (hardware)", &positive, |xs| xs.iter_mut().for_each(|x| *x = rattle::sqrt(*x)), |xs| xs.iter_mut().for_each(|x| *x = theirs(*x)));
     for w in [1, 2, 16] {
         let w = black_box(w);
-        let theirs = black_box(theirs::combinations as extern "C" fn(i64, i64, &mut f64) -> bool);
-        measure(&format!("combinations, weight {w}"), &counts, |xs| xs.iter_mut().for_each(|x| x.1 = rattle::combinations(x.0, w).unwrap()), |xs| {
-            xs.iter_mut().for_each(|x| {
-                let mut v = 0.0;
-                assert!(theirs(x.0, w, &mut v));
-                x.1 = v;
-            })
-        });
+        measure_ways(&format!("combinations, weight {w}"), &counts, w);
         let theirs = black_box(theirs::combinations_real as extern "C" fn(f64, i64, &mut f64) -> bool);
         measure(&format!("combinations_real, weight {w}"), &counts, |xs| xs.iter_mut().for_each(|x| x.1 = rattle::combinations_real(x.1, w).unwrap()), |xs| {
             xs.iter_mut().for_each(|x| {
@@ -103,6 +96,35 @@ pub fn bench() {
     measure_paths();
     measure_ensembles();
     measure_diffusions();
+}
+
+/// The Rust works the float alone; ours says too whether it is exact.
+fn measure_ways(name: &str, counts: &[(i64, f64)], w: i64) {
+    let theirs = black_box(theirs::combinations as extern "C" fn(i64, i64, &mut f64) -> bool);
+    measure(name, counts, |xs| xs.iter_mut().for_each(|x| x.1 = rattle::combinations(x.0, w).unwrap().0), |xs| {
+        xs.iter_mut().for_each(|x| {
+            let mut v = 0.0;
+            assert!(theirs(x.0, w, &mut v));
+            x.1 = v;
+        })
+    });
+}
+
+/// Nanoseconds a call of `combinations`: at counts where no step can round, and at those where whole numbers decide.
+pub fn bench_combinations() {
+    let mut draw = Draw::new(7);
+    println!("{:34} {:>8} {:>8} {:>7}", "nanoseconds for each", "ours", "Rust", "ratio");
+    for (name, w, from) in [
+        ("weight 1, m from 17 to 64", 1, 17),
+        ("weight 2, m from 17 to 64", 2, 17),
+        ("weight 8, m from 17 to 64", 8, 17),
+        ("weight 16, m from 17 to 64", 16, 17),
+        ("weight 2, m below 2^40", 2, (1 << 40) - 48),
+        ("weight 16, m below 2^53", 16, (1 << 53) - 48),
+    ] {
+        let counts: Vec<(i64, f64)> = (0..N).map(|_| (from + draw.below(48) as i64, 0.0)).collect();
+        measure_ways(name, &counts, black_box(w));
+    }
 }
 
 /// The least time of some rounds on each side, and their ratio.

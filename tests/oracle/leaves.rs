@@ -1,4 +1,5 @@
 //! Every leaf function against the source's, or against Rust's own where the source uses that.
+use crate::binomials::exact;
 use crate::draw::{floats, words, Draw};
 use crate::rattle;
 use crate::report::{same, Report};
@@ -236,21 +237,59 @@ fn the_floats(report: &mut Report, draw: &mut Draw, n: u64) {
     });
 }
 
+const ENDS: [i64; 9] = [i64::MIN, i64::MIN + 1, -(1 << 53), -1, (1 << 53) - 1, 1 << 53, (1 << 53) + 1, i64::MAX - 1, i64::MAX];
+
+/// For each w, where a product of a step first can pass 2^53.
+const BOUNDS: [u64; 17] = [1 << 53, 1 << 53, 94906266, 262145, 15248, 2932, 1015, 489, 290, 196, 146, 116, 97, 84, 75, 69, 64];
+
+/// Counts at which the product of w factors may be exact or not: below 2^53, beside 2^40, other powers of two and the bounds, of few bits, and any.
+fn large(draw: &mut Draw, w: usize) -> i64 {
+    let one = |draw: &mut Draw| 1 << draw.below(53);
+    let m = match draw.below(6) {
+        0 => (1 << 53) - draw.below(1024),
+        1 => (1 << 40) + draw.below(1024) - 512,
+        2 => (1 << (4 + draw.below(49))) + draw.below(5) - 2,
+        3 => BOUNDS[w] + draw.below(3) - 1,
+        4 => one(draw) | one(draw) | one(draw),
+        _ => draw.any_length() >> 11,
+    };
+    m as i64
+}
+
 fn the_combinations(report: &mut Report, draw: &mut Draw, n: u64) {
     report.compare("combinations", |case| {
         let mut one = |m: i64, w: i64| {
-            let (ours, theirs) = (rattle::combinations(m, w), ways(m, w));
+            let (ours, theirs) = (rattle::combinations(m, w).map(|v| v.0), ways(m, w));
             case(same_option(ours, theirs), &|| format!("({m}, {w}): {ours:?}, Rust and the limits {theirs:?}"));
         };
-        let ends = [i64::MIN, i64::MIN + 1, -(1 << 53), -1, (1 << 53) - 1, 1 << 53, (1 << 53) + 1, i64::MAX - 1, i64::MAX];
-        for m in (-20..300).chain(ends) {
-            for w in (-20..40).chain(ends) {
+        for m in (-20..300).chain(ENDS) {
+            for w in (-20..40).chain(ENDS) {
                 one(m, w);
             }
         }
         for _ in 0..n {
             let m = draw.any_length() as i64 >> draw.below(12);
             one(m, draw.below(20) as i64 - 2);
+        }
+    });
+    report.compare("combinations, exact or not", |case| {
+        let mut one = |m: i64, w: i64| {
+            let (ours, theirs) = (rattle::combinations(m, w).map(|v| v.1), ways(m, w).map(|x| exact(x, m, w)));
+            case(ours == theirs, &|| format!("({m}, {w}): {ours:?}, by whole numbers {theirs:?}"));
+        };
+        for m in (-20..=300).chain(ENDS) {
+            for w in (-2..=18).chain(ENDS) {
+                one(m, w);
+            }
+        }
+        for _ in 0..n / 2 {
+            let w = 1 + draw.below(16);
+            one(large(draw, w as usize), w as i64);
+        }
+        // a product on the way rounded, one more, and a float whose whole part is the binomial
+        for (m, w, wanted) in [(79, 16, true), (80, 16, false), (125, 11, false)] {
+            let ours = rattle::combinations(m, w);
+            case(ours.is_some_and(|v| v.1 == wanted), &|| format!("({m}, {w}): {ours:?}, known {wanted}"));
         }
     });
     report.compare("combinations_real", |case| {

@@ -2,6 +2,7 @@
 //! file as `ssa` only in the temporary folder in which this is built (tests/oracle/build).
 mod balances;
 mod bench;
+mod binomials;
 mod diffusions;
 mod draw;
 mod ensembles;
@@ -46,8 +47,9 @@ fn main() {
         ["bench"] => bench::bench(),
         ["bench-reader", folder] => bench::bench_reader(folder),
         ["bench-game"] => bench::bench_game(),
+        ["bench-combinations"] => bench::bench_combinations(),
         _ => {
-            eprintln!("compare SEED INPUTS | paths SEED COUNT FILE | ensembles SEED COUNT FOLDER | record FOLDER FOLDER FOLDER FILE | bench | bench-reader FOLDER | bench-game");
+            eprintln!("compare SEED INPUTS | paths SEED COUNT FILE | ensembles SEED COUNT FOLDER | record FOLDER FOLDER FOLDER FILE | bench | bench-reader FOLDER | bench-game | bench-combinations");
             std::process::exit(2);
         }
     }

@@ -1,6 +1,7 @@
 //! Whole paths: cases for the program crates/path_replay, and their answers. An answer is worked by a
 //! second player, written from document 01 and apart from both sides; where the source's `realization`
 //! has an answer, which is the counts and the generator after it, the two are held to be equal first.
+use crate::binomials::exact;
 use crate::draw::Draw;
 use crate::nets::{example, Arc, Label, Move, Net, Place};
 use crate::rattle;
@@ -36,6 +37,8 @@ pub struct Answer {
     pub steps: u64,
     pub settled: usize,
     pub peak: i64,
+    /// The steps whose a0 adds a propensity above 0 with some binomial inexact.
+    pub rounded: u64,
     pub state: [u64; 4],
     /// The counts shown, place by place; none where nothing is touched.
     pub cells: Option<Vec<f64>>,
@@ -144,6 +147,11 @@ fn propensity(net: &Net, counts: &[i64], m: &Move) -> f64 {
     takes(m).filter(|&(_, _, kinetic)| kinetic).fold(rate, |x, (p, w, _)| x * ways(counts[p], w))
 }
 
+/// Is some binomial among the factors of its propensity inexact?
+fn inexact(counts: &[i64], m: &Move) -> bool {
+    takes(m).any(|(p, w, kinetic)| kinetic && !exact(ways(counts[p], w), counts[p], w))
+}
+
 /// A running timer: when it completes, how many were started before it, and whose it is.
 struct Timer {
     at: f64,
@@ -157,7 +165,7 @@ fn fits(xs: &[f64]) -> bool {
 }
 
 fn turned_down(case: &Case, number: u64, cells: Option<Vec<f64>>) -> Answer {
-    Answer { end: End::Refused(number), steps: 0, settled: 0, peak: 0, state: case.state, cells, zero: false, clock: 0.0 }
+    Answer { end: End::Refused(number), steps: 0, settled: 0, peak: 0, rounded: 0, state: case.state, cells, zero: false, clock: 0.0 }
 }
 
 /// What document 01 says of the case.
@@ -187,7 +195,7 @@ fn run(case: &Case) -> Result<Answer, u64> {
     let mut timers: Vec<Timer> = vec![];
     let mut rng = Xoshiro256::from_state(case.state);
     let mut shown: Vec<Vec<i64>> = vec![];
-    let (mut clock, mut steps, mut started, mut zero) = (0.0, 0, 0, false);
+    let (mut clock, mut steps, mut rounded, mut started, mut zero) = (0.0, 0, 0, 0, false);
     let read = |clock: f64, counts: &[i64], shown: &mut Vec<Vec<i64>>| {
         while shown.len() < xs.len() && xs[shown.len()] <= clock {
             shown.push(counts.to_vec());
@@ -220,6 +228,7 @@ fn run(case: &Case) -> Result<Answer, u64> {
         }
         let a: Vec<f64> = net.moves.iter().map(|m| propensity(net, &counts, m)).collect();
         let a0 = a.iter().fold(0.0, |sum, x| sum + x);
+        rounded += a.iter().zip(&net.moves).any(|(&a, m)| a > 0.0 && inexact(&counts, m)) as u64;
         let race = if a0 > 0.0 { clock + -plog(1.0 - rng.uniform()) / a0 } else { f64::INFINITY };
         let first = (0..timers.len()).min_by(|&i, &k| {
             let (x, y) = (&timers[i], &timers[k]);
@@ -259,6 +268,7 @@ fn run(case: &Case) -> Result<Answer, u64> {
         steps,
         settled,
         peak: shown.iter().map(|c| c.iter().sum()).max().unwrap(),
+        rounded,
         state: rng.state(),
         cells: Some((0..net.places.len()).flat_map(|p| shown.iter().map(move |c| c[p] as f64)).collect()),
         zero,
@@ -326,15 +336,16 @@ impl End {
     }
 }
 
-/// The line that the program writes for a case.
-fn line(case: &Case, end: u64, steps: u64, settled: u64, peak: u64, state: [u64; 4], table: &[f64]) -> String {
-    let mut out = match end {
+/// The line that the program writes for a case, by the numbers that the library tells: the end, the steps, the settled instants, the peak and the rounded
+/// steps.
+fn line(case: &Case, told: [u64; 5], state: [u64; 4], table: &[f64]) -> String {
+    let mut out = match told[0] {
         100 => "quiet".into(),
         101 => "spent".into(),
         102 => "reached".into(),
         number => format!("refused {number}"),
     };
-    write!(out, " {steps} {settled} {peak}").unwrap();
+    told[1..].iter().for_each(|n| write!(out, " {n}").unwrap());
     state.iter().for_each(|w| write!(out, " {w:016x}").unwrap());
     let places = case.net.places.len();
     let shown = if places > 32 { 0 } else { CELLS.min(places * case.instants.len() + 1) };
@@ -349,7 +360,7 @@ impl Answer {
         if let Some(cells) = &self.cells {
             table[..cells.len()].copy_from_slice(cells);
         }
-        line(case, self.end.number(), self.steps, self.settled as u64, self.peak as u64, self.state, &table)
+        line(case, [self.end.number(), self.steps, self.settled as u64, self.peak as u64, self.rounded], self.state, &table)
     }
 }
 
@@ -357,8 +368,8 @@ impl Answer {
 pub fn by_library(case: &Case) -> String {
     let mut table = vec![BEFORE; CELLS];
     let mut state = case.state;
-    let [end, steps, settled, peak] = rattle::path(&rattle::Fields::of(&case.net), &mut state, &case.instants, case.limit, &mut table);
-    line(case, end, steps, settled, peak, state, &table)
+    let told = rattle::path(&rattle::Fields::of(&case.net), &mut state, &case.instants, case.limit, &mut table);
+    line(case, told, state, &table)
 }
 
 // ---- the cases at edges
@@ -540,6 +551,31 @@ pub fn edges() -> Vec<Case> {
     v.push(case(net(&[1], vec![(1.0, 1.0, vec![put(0, 1)])]), most, &sample));
     v.push(case(net(&[1], vec![(1.0, 0.0, vec![take(0, 1), plain(0, 1)])]), most, &sample));
     v.push(case(net(&[1], vec![(1.0, 0.0, vec![take(1, 1)])]), most, &sample));
+    // rounded binomials: the last exact count and the first that is not; 79 over 16 is exact though a product on the way is rounded
+    for (m, w) in [(79, 16), (80, 16), (124, 11), (125, 11), (1141, 6), (1142, 6), (134217729, 2), (134217730, 2), (full, 1), (full, 2), (full, 16)] {
+        v.push(case(net(&[m, 0], vec![(2f64.powi(-100), 0.0, vec![take(0, w), put(1, 1)])]), 3, &[0.0, 1.0]));
+    }
+    // none of these is rounded: not kinetic, delayed, shut by a read, without room; then one beside them that is
+    let shut = |more: bool| {
+        let mut moves = vec![
+            (1.0, 0.0, vec![plain(0, 16), put(1, 1)]),
+            (1.0, 1.0, vec![take(0, 16), put(1, 1)]),
+            (1.0, 0.0, vec![take(0, 16), read(2, 1)]),
+            (1.0, 0.0, vec![take(0, 16), put(3, 1)]),
+        ];
+        if more {
+            moves.push((2f64.powi(-100), 0.0, vec![take(0, 16)]));
+        }
+        bounded(net(&[1000, 0, 0, 1], moves), &[0, 60, 0, 1])
+    };
+    for more in [false, true] {
+        v.push(case(shut(more), 70, &[0.0, 0.5, 4.0]));
+    }
+    // a rounded step that a completion beats, and one that stops past the last instant
+    let beaten = net(&[500, 1, 0], vec![(2f64.powi(-100), 0.0, vec![take(0, 9)]), (0.0, 1.0, vec![take(1, 1), put(2, 1)])]);
+    for end in [0.5, 1.0, 1.5] {
+        v.push(case(beaten.clone(), most, &[0.0, end]));
+    }
     // labels: 17 and 18 behind 4, place by place and before the transitions; bytes behind a length do not matter
     let labelled = |labels: &[&[u8]]| {
         let mut net = net(&vec![1; labels.len()], vec![(1.0, 0.0, vec![put(0, 1)])]);
@@ -780,6 +816,40 @@ pub fn drawn(draw: &mut Draw) -> (Case, Answer) {
     (case, answer)
 }
 
+/// Where a product of the first w factors can first be rounded, and the largest count.
+const EDGES: [u64; 9] = [94906266, 262145, 15248, 2932, 1015, 290, 146, 75, 64];
+
+/// A case with kinetic weights from 2 to 16 at large counts, and its answer.
+pub fn heavy(draw: &mut Draw) -> (Case, Answer) {
+    let places = 1 + draw.below(4) as usize;
+    let counts: Vec<i64> = (0..places)
+        .map(|_| match draw.below(6) {
+            0 => MOST_TOKENS - draw.below(64) as i64,
+            1 => (1 << 40) + draw.below(64) as i64 - 32,
+            2 => (1 << (5 + draw.below(48))) + draw.below(9) as i64 - 4,
+            3 => draw.below(300) as i64,
+            _ => (one_of(draw, &EDGES) + draw.below(80)) as i64,
+        })
+        .collect();
+    let moves = (0..1 + draw.below(4))
+        .map(|_| {
+            let p = draw.below(places as u64) as usize;
+            let w = 2 + draw.below(15) as i64;
+            let mut arcs = vec![Arc::Take { place: p, weight: w, kinetic: draw.below(8) > 0 }, put(draw.below(places as u64) as usize, w - draw.below(2) as i64)];
+            if draw.below(4) == 0 && places > 1 {
+                arcs.push(take((p + 1) % places, (16 - w).clamp(0, 3)));
+            }
+            // kinetic weights of more than 16 together are refused, and so is 17 in one
+            let delay = if draw.below(6) == 0 { one_of(draw, &[2f64.powi(-60), 0.5, 1.0]) } else { 0.0 };
+            (2f64.powi(draw.below(101) as i32 - 100), delay, arcs)
+        })
+        .collect();
+    let end = 2f64.powi(draw.below(91) as i32 - 60);
+    let case = Case { net: net(&counts, moves), state: drawn_state(draw), limit: 1 + draw.below(60), instants: vec![0.0, end / 2.0, end] };
+    let answer = play(&case);
+    (case, answer)
+}
+
 // ---- batches
 
 #[derive(Default)]
@@ -803,6 +873,9 @@ impl Batch {
             }
         }
         *self.kinds.entry(format!("{:?}", answer.end)).or_default() += 1;
+        if answer.rounded > 0 {
+            *self.kinds.entry("with rounded steps".into()).or_default() += 1;
+        }
         put_case(&mut self.input, case);
         self.answers.push_str(&answer.line(case));
     }
@@ -828,7 +901,7 @@ pub fn batch(seed: u64, count: u64, file: &str) {
     batch.write(&format!("{file}.in"), &format!("{file}.out"));
 }
 
-/// Writes the recorded sample: the cases at edges, and some drawn ones of few cells.
+/// Writes the recorded sample: the cases at edges, and some drawn ones of few cells and of heavy weights.
 pub fn record(folder: &str) {
     let mut draw = Draw::new(crate::sample::SEED);
     let mut batch = Batch::default();
@@ -843,12 +916,16 @@ pub fn record(folder: &str) {
             left -= 1;
         }
     }
+    for _ in 0..20 {
+        let (case, answer) = heavy(&mut draw);
+        batch.add(&case, &answer);
+    }
     batch.write(&format!("{folder}/stdin"), &format!("{folder}/stdout"));
 }
 
 // ---- for the benchmark
 
-/// Three nets, small to large, each with a run of some thousand steps.
+/// Three nets, small to large, and one that takes two tokens at a time, each with a run of some thousand steps.
 pub fn measured() -> Vec<(&'static str, Case)> {
     let grid: Vec<f64> = (0..64).map(|i| i as f64 / 63.0).collect();
     let scaled = |end: f64| grid.iter().map(|x| x * end).collect::<Vec<f64>>();
@@ -864,9 +941,11 @@ pub fn measured() -> Vec<(&'static str, Case)> {
         (2f64.powi(-20), 0.0, arcs)
     };
     let large = net(&[50; 32], (0..64).map(wide).collect());
+    let pairs = net(&[200; 8], (0..16).map(|j| (2f64.powi(-7), 0.0, vec![take(j % 8, 2), put((j + 1) % 8, 2)])).collect());
     vec![
         ("2 places, 1 transition", case(small, MOST_STEPS, &scaled(0.01))),
         ("8 places, 16 transitions, timers", case(middle, MOST_STEPS, &scaled(40.0))),
         ("32 places, 64 transitions, 16 arcs", case(large, MOST_STEPS, &scaled(20.0))),
+        ("8 places, 16 transitions, weight 2", case(pairs, MOST_STEPS, &scaled(2.0))),
     ]
 }

@@ -11,7 +11,7 @@ mod c {
         pub fn cild_step_back(state: *mut [u64; 4]);
         pub fn cild_frexp(x: f64, exp: *mut i32) -> f64;
         pub fn cild_plog(x: f64) -> f64;
-        pub fn cild_combinations(m: i64, w: i64, value: *mut f64) -> bool;
+        pub fn cild_combinations(m: i64, w: i64, value: *mut f64, exact: *mut u64) -> bool;
         pub fn cild_combinations_real(x: f64, w: i64, value: *mut f64) -> bool;
         pub fn cild_sqrt(x: f64) -> f64;
         pub fn cild_products(xs: *mut u64, len: usize, by: u64);
@@ -40,7 +40,7 @@ mod c {
             limit: u64,
             table: *mut f64,
             cells: usize,
-            told: *mut [u64; 4],
+            told: *mut [u64; 5],
         );
         pub fn cild_ensemble(
             places: usize,
@@ -189,10 +189,10 @@ pub fn plog(x: f64) -> f64 {
     unsafe { c::cild_plog(x) }
 }
 
-/// None where it is refused.
-pub fn combinations(m: i64, w: i64) -> Option<f64> {
-    let mut value = 0.0;
-    unsafe { c::cild_combinations(m, w, &mut value) }.then_some(value)
+/// The float, and whether it is exact; none where it is refused.
+pub fn combinations(m: i64, w: i64) -> Option<(f64, bool)> {
+    let (mut value, mut exact) = (0.0, 0);
+    unsafe { c::cild_combinations(m, w, &mut value, &mut exact) }.then_some((value, exact == 1))
 }
 
 /// None where it is refused.
@@ -293,9 +293,9 @@ pub fn read(text: &[u8]) -> [u64; 2] {
     told
 }
 
-/// The end's number (a refusal's own; 100 quiet, 101 spent, 102 reached), the steps, the settled instants, the peak.
-pub fn path(f: &Fields, state: &mut [u64; 4], instants: &[f64], limit: u64, table: &mut [f64]) -> [u64; 4] {
-    let mut told = [0; 4];
+/// The end's number (a refusal's own; 100 quiet, 101 spent, 102 reached), the steps, the settled instants, the peak, the rounded steps.
+pub fn path(f: &Fields, state: &mut [u64; 4], instants: &[f64], limit: u64, table: &mut [f64]) -> [u64; 5] {
+    let mut told = [0; 5];
     lend!(cild_path, f, state, instants.as_ptr(), instants.len(), limit, table.as_mut_ptr(), table.len(), &mut told);
     told
 }

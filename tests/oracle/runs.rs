@@ -26,6 +26,21 @@ pub fn compare(report: &mut Report, seed: u64, count: u64) {
             case(ours == answer.line(&c), &|| format!("{ours}harness {}", answer.line(&c)));
         }
     });
+    report.compare("paths of heavy weights by the library", |case| {
+        let mut draw = Draw::new(seed);
+        let mut rounded = 0;
+        for _ in 0..5 * count {
+            let (c, answer) = paths::heavy(&mut draw);
+            if let Some(agrees) = paths::source_agrees(&c, &answer) {
+                case(agrees, &|| format!("{}the source differs from the rules as worked here", answer.line(&c)));
+            }
+            let ours = paths::by_library(&c);
+            case(ours == answer.line(&c), &|| format!("{ours}harness {}", answer.line(&c)));
+            rounded += (answer.rounded > 0 && answer.rounded < answer.steps) as u64;
+        }
+        // among them are enough of which some steps are rounded and some are not
+        case(rounded * 50 > 5 * count, &|| format!("{rounded} of {} cases tell rounded steps from others", 5 * count));
+    });
     report.compare("labels by the library", |case| {
         let mut draw = Draw::new(seed);
         for _ in 0..count {

@@ -15,10 +15,10 @@ endNumber (given quiet) = 100
 endNumber (given spent) = 101
 endNumber (given reached) = 102
 
--- the end, the steps, the settled instants and the peak
+-- the end, the steps, the settled instants, the peak and the rounded steps
 abbrev pub toldOf : Call → List ℕ
-toldOf c = endNumber (c .end) ∷ c .steps ∷ c .settled ∷ c .peak ∷ []
+toldOf c = endNumber (c .end) ∷ c .steps ∷ c .settled ∷ c .peak ∷ c .rounded ∷ []
 
--- the four numbers, the generator and the table are those of the call
+-- the five numbers, the generator and the table are those of the call
 abbrev pub Left : Call → List ℕ → Generator → List Float → Type 0
 Left c told g table = (told ≡ toldOf c) × (g ≡ c .generator) × (table ≡ c .table)

@@ -4,8 +4,10 @@ ghost use Rattle.words.specs.Product.{product};
 ghost use Rattle.words.specs.Rotation.{rotl};
 ghost use Rattle.portable_log.specs.Log as Log;
 ghost use Rattle.combinations.specs.Combinations as Combinations;
+ghost use Rattle.combinations.specs.Real as Real;
 ghost use Rattle.root.specs.Root.{rootOf};
-ghost use Rattle.c_face.specs.Told.{isValue, orZero};
+ghost use Rattle.c_face.specs.Told.{isValue, orZero, oneIfExact, isReal, realOrZero};
+use combinations::RealWays;
 use combinations::Ways;
 
 #[no_mangle]
@@ -47,31 +49,50 @@ pub extern "C" fn cild_sqrt(x: f64) -> f64
     root::sqrt(x)
 }
 
-// Whether it is answered; the answer, or +0 for a refusal, goes to value.
+// Whether it is answered; the float, or +0 for a refusal, goes to value. To exact goes 1 where the float is exact, and else 0, for a refusal too.
 #[no_mangle]
-pub extern "C" fn cild_combinations(m: i64, w: i64, value: &mut f64) -> bool
-    ensures { λ r. ⌜ (r ≡ isValue (Combinations.combinations m w)) × (now (value .exit) ≡ orZero (Combinations.combinations m w)) ⌝ }
+pub extern "C" fn cild_combinations(m: i64, w: i64, value: &mut f64, exact: &mut u64) -> bool
+    ensures { λ r. ⌜ (r ≡ isValue (Combinations.combinations m w)) × (now (value .exit) ≡ orZero (Combinations.combinations m w))
+        × (now (exact .exit) ≡ oneIfExact (Combinations.combinations m w)) ⌝ }
 {
-    told(combinations::combinations(m, w), value)
+    told(combinations::combinations(m, w), value, exact)
+}
+
+fn told(ways: Ways, value: &mut f64, exact: &mut u64) -> bool
+    ensures { λ r. ⌜ (r ≡ isValue (Combinations.meaning ways)) × (now (value .exit) ≡ orZero (Combinations.meaning ways))
+        × (now (exact .exit) ≡ oneIfExact (Combinations.meaning ways)) ⌝ }
+{
+    match ways {
+        Ways::Value(x, e) => {
+            *value = x;
+            *exact = crate::one_if(e);
+            true
+        }
+        Ways::Refused => {
+            *value = 0.0;
+            *exact = 0;
+            false
+        }
+    }
 }
 
 // Whether it is answered; the answer, or +0 for a refusal, goes to value.
 #[no_mangle]
 pub extern "C" fn cild_combinations_real(x: f64, w: i64, value: &mut f64) -> bool
-    ensures { λ r. ⌜ (r ≡ isValue (Combinations.combinationsReal x w)) × (now (value .exit) ≡ orZero (Combinations.combinationsReal x w)) ⌝ }
+    ensures { λ r. ⌜ (r ≡ isReal (Real.combinationsReal x w)) × (now (value .exit) ≡ realOrZero (Real.combinationsReal x w)) ⌝ }
 {
-    told(combinations::combinations_real(x, w), value)
+    told_real(combinations::combinations_real(x, w), value)
 }
 
-fn told(ways: Ways, value: &mut f64) -> bool
-    ensures { λ r. ⌜ (r ≡ isValue (Combinations.meaning ways)) × (now (value .exit) ≡ orZero (Combinations.meaning ways)) ⌝ }
+fn told_real(ways: RealWays, value: &mut f64) -> bool
+    ensures { λ r. ⌜ (r ≡ isReal (Real.meaning ways)) × (now (value .exit) ≡ realOrZero (Real.meaning ways)) ⌝ }
 {
     match ways {
-        Ways::Value(x) => {
+        RealWays::Value(x) => {
             *value = x;
             true
         }
-        Ways::Refused => {
+        RealWays::Refused => {
             *value = 0.0;
             false
         }

@@ -21,7 +21,7 @@ fn end_number(end: PathEnd) -> u64
 }
 
 // A path of the net whose fields are lent, from the state, which is left as the path leaves it. The number of the end goes to told, with the
-// steps, the settled instants and the peak.
+// steps, the settled instants, the peak and the steps whose a0 adds a rounded propensity.
 #[no_mangle]
 pub extern "C" fn cild_path(
     places: usize,
@@ -40,7 +40,7 @@ pub extern "C" fn cild_path(
     instants: &[f64],
     limit: u64,
     table: &mut [f64],
-    told: &mut [u64; 4],
+    told: &mut [u64; 5],
 )
     ensures { λ _. ⌜ Played.Left (Path.called (labelled places transitions (now (initial .entry)) (now (capacity .entry)) (now (label .entry)) (now (lengths .entry))
         (now (rate .entry)) (now (delay .entry)) (now (arcs .entry)) (now (kind .entry)) (now (place .entry)) (now (weight .entry))) (words (now (state .entry))) (now (instants .entry)) limit (now (table .entry)))
@@ -62,7 +62,7 @@ pub extern "C" fn cild_path(
     };
     let r = ssa::path(net, Xoshiro256::from_state(*state), instants, limit, table);
     let end = r.end;
-    *told = [end_number(end), r.steps, r.settled, r.peak];
+    *told = [end_number(end), r.steps, r.settled, r.peak, r.rounded];
     let generator = r.generator;
     *state = generator.state();
 }

@@ -1,6 +1,6 @@
 -- The cases of document 01, "Checks at the edges", that are marked P: one table and one theorem, on the definitions alone.
 -- Each line has what the definitions give and what document 01 says, as numbers: a float by its bits, a whole number by sign and size, an
--- answer behind 0 if it is a value and behind 1 if it is a refusal's number.
+-- answer behind 0 if it is a value and behind 1 if it is a refusal's number. Document 01 knows no flag of `combinations`, and it is left out.
 use Prim.Native.Nat.{ℕ, suc}
 use mathlib.Core.Path.{_≡_, refl}
 use mathlib.Core.Bool.{Bool, true, false, _&&_}
@@ -12,7 +12,8 @@ use Rattle.rng.specs.State.{State}
 use Rattle.rng.specs.Xoshiro.{output, step}
 use Rattle.portable_log.specs.declared.Parts.{Parts}
 use Rattle.portable_log.specs.Log.{frexp, plog, combine}
-use Rattle.combinations.specs.Combinations.{Answer, value, refused, combinations, combinationsReal}
+use Rattle.combinations.specs.Combinations.{Answer, value, refused, combinations}
+use Rattle.combinations.specs.Real as Real
 use Rattle.root.specs.Root.{rootOf}
 
 -- ---- numbers for values
@@ -28,8 +29,12 @@ abbrev parts : Parts → List ℕ
 parts p = bits (p .frac) ++ whole (p .exp)
 
 abbrev answer : Answer → List ℕ
-answer (value x) = 0 ∷ bits x
+answer (value x e) = 0 ∷ bits x
 answer (refused c) = 1 ∷ c ∷ []
+
+abbrev realAnswer : Real.Answer → List ℕ
+realAnswer (Real.value x) = 0 ∷ bits x
+realAnswer (Real.refused c) = 1 ∷ c ∷ []
 
 -- ---- floats and a state for short
 
@@ -65,7 +70,7 @@ cases =
     ∷ case (answer (combinations (pos 1) (pos 2))) (0 ∷ 0 ∷ [])
     ∷ case (answer (combinations (pos 1) (negsuc 2))) (0 ∷ 0x3FF0_0000_0000_0000 ∷ [])
     -- combinations_real(0.5, 2) = −0.125
-    ∷ case (answer (combinationsReal (f64 0x3FE0_0000_0000_0000) (pos 2))) (0 ∷ 0xBFC0_0000_0000_0000 ∷ [])
+    ∷ case (realAnswer (Real.combinationsReal (f64 0x3FE0_0000_0000_0000) (pos 2))) (0 ∷ 0xBFC0_0000_0000_0000 ∷ [])
     -- the root of 4 is 2, of −0 is −0
     ∷ case (bits (rootOf (f64 0x4010_0000_0000_0000))) (0x4000_0000_0000_0000 ∷ [])
     ∷ case (bits (rootOf (f64 0x8000_0000_0000_0000))) (0x8000_0000_0000_0000 ∷ [])

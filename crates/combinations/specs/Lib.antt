@@ -1,1 +1,5 @@
+pub mod Binomial
 pub mod Combinations
+pub mod Real
+pub mod Parts
+pub mod Theorems

@@ -1,17 +1,34 @@
-// How many ways there are to choose w of m tokens, as a float worked factor by factor, and the same for a real m.
+// How many ways there are to choose w of m tokens, as a float worked factor by factor, and whether that float is the whole number itself; and the product
+// alone for a real m.
 ghost use mathlib.Core.Path.{_≡_};
 ghost use Prim.Native.Nat.{_≤_, _<_, _^_};
 ghost use lib.IntN.{pos};
+ghost use lib.ListN.{getD};
+ghost use Rattle.combinations.specs.Binomial.{exact};
 ghost use Rattle.combinations.specs.Combinations as Spec;
+ghost use Rattle.combinations.specs.Real as Real;
+ghost use Rattle.combinations.specs.Theorems as Theorems;
+
+mod whole;
 
 // The most factors that are worked, and the largest m: whole numbers up to 2^53 are floats.
 const MOST_FACTORS: i64 = 16;
 
 const LARGEST: i64 = 1 << 53;
 
+// The largest m at which no product of two steps passes 2^53.
+const UNROUNDED_2: u64 = 94906266;
+
 pub enum Ways {
-    Value(f64),
+    // The float, and whether it equals the binomial coefficient exactly.
+    Value(f64, bool),
     // More factors, or a larger m, than are worked.
+    Refused,
+}
+
+pub enum RealWays {
+    Value(f64),
+    // More factors, or a larger whole m, than are worked.
     Refused,
 }
 
@@ -39,7 +56,7 @@ fn whole_product(m: u64, w: u64) -> f64
 // x over 1, times x - 1 over 2, and so on: w factors.
 fn real_product(x: f64, w: u64) -> f64
     requires { ⌜ w ≤ 16 ⌝ }
-    ensures { λ r. ⌜ r ≡ Spec.product (Spec.realFactor x) w ⌝ }
+    ensures { λ r. ⌜ r ≡ Spec.product (Real.realFactor x) w ⌝ }
 {
     let mut result = 1.0;
     for i in 0..w {
@@ -48,16 +65,87 @@ fn real_product(x: f64, w: u64) -> f64
     result
 }
 
-// The ways to choose w of m tokens: 1 where w is 0 or below, 0 where m is below w. Refused are then a w above 16 and an m
+// The largest m, up to 2^53, at which no product of w steps passes 2^53. A `match`: an array would be written to the stack at each call.
+fn unrounded(w: u64) -> u64
+    requires { ⌜ w ≤ 16 ⌝ }
+    ensures { λ r. ⌜ r ≡ getD Theorems.unrounded w 0 ⌝ }
+{
+    match w {
+        0 => 9007199254740992,
+        1 => 9007199254740992,
+        2 => UNROUNDED_2,
+        3 => 262145,
+        4 => 15248,
+        5 => 2932,
+        6 => 1015,
+        7 => 489,
+        8 => 290,
+        9 => 196,
+        10 => 146,
+        11 => 116,
+        12 => 97,
+        13 => 84,
+        14 => 75,
+        15 => 69,
+        16 => 64,
+        _ => 0,
+    }
+}
+
+// Does x, the product of w factors, equal the binomial coefficient? It does where no step can have rounded; elsewhere whole numbers decide.
+fn is_exact(x: f64, m: u64, w: u64) -> bool
+    requires { ⌜ (w ≤ 16) × (w ≤ m) × (x ≡ Spec.product (Spec.wholeFactor (pos m)) w) ⌝ }
+    ensures { λ r. ⌜ r ≡ exact x m w ⌝ }
+{
+    if m <= unrounded(w) {
+        return true;
+    }
+    whole::equals_binomial(x, m, w)
+}
+
+// The product of w factors, with its flag.
+fn judged(m: u64, w: u64) -> Ways
+    requires { ⌜ (w ≤ 16) × (w ≤ m) × (m ≤ 2 ^ 53) ⌝ }
+    ensures { λ r. ⌜ Spec.meaning r ≡ Spec.counted m w ⌝ }
+{
+    let x = whole_product(m, w);
+    let exact = is_exact(x, m, w);
+    Ways::Value(x, exact)
+}
+
+// The same for one or two factors, as most takes have: up to the bound of two nothing is looked up and, once compiled, nothing divided.
+fn judged_few(m: u64, w: u64) -> Ways
+    requires { ⌜ (w ≤ 2) × (w ≤ m) × (m ≤ 2 ^ 53) ⌝ }
+    ensures { λ r. ⌜ Spec.meaning r ≡ Spec.counted m w ⌝ }
+{
+    if m <= UNROUNDED_2 {
+        let x = whole_product(m, w);
+        return Ways::Value(x, true);
+    }
+    judged(m, w)
+}
+
+// The same, by the shorter way where there is one.
+fn counted(m: u64, w: u64) -> Ways
+    requires { ⌜ (w ≤ 16) × (w ≤ m) × (m ≤ 2 ^ 53) ⌝ }
+    ensures { λ r. ⌜ Spec.meaning r ≡ Spec.counted m w ⌝ }
+{
+    if w <= 2 {
+        return judged_few(m, w);
+    }
+    judged(m, w)
+}
+
+// The ways to choose w of m tokens: 1 where w is 0 or below, 0 where m is below w, both exact. Refused are then a w above 16 and an m
 // above 2^53.
 pub fn combinations(m: i64, w: i64) -> Ways
     ensures { λ r. ⌜ Spec.meaning r ≡ Spec.combinations m w ⌝ }
 {
     if w <= 0 {
-        return Ways::Value(1.0);
+        return Ways::Value(1.0, true);
     }
     if m < w {
-        return Ways::Value(0.0);
+        return Ways::Value(0.0, true);
     }
     if w > MOST_FACTORS {
         return Ways::Refused;
@@ -65,18 +153,37 @@ pub fn combinations(m: i64, w: i64) -> Ways
     if m > LARGEST {
         return Ways::Refused;
     }
-    Ways::Value(whole_product(m as u64, w as u64))
+    counted(m as u64, w as u64)
 }
 
-// The same for a real x, where no rule asks whether x is below w: 1 where w is 0 or below, refused where w is above 16.
-pub fn combinations_real(x: f64, w: i64) -> Ways
-    ensures { λ r. ⌜ Spec.meaning r ≡ Spec.combinationsReal x w ⌝ }
+// The float of that answer without its flag, for a caller that asks for the flag apart.
+pub fn combinations_unflagged(m: i64, w: i64) -> RealWays
+    ensures { λ r. ⌜ Real.meaning r ≡ Real.unflagged (Spec.combinations m w) ⌝ }
 {
     if w <= 0 {
-        return Ways::Value(1.0);
+        return RealWays::Value(1.0);
+    }
+    if m < w {
+        return RealWays::Value(0.0);
     }
     if w > MOST_FACTORS {
-        return Ways::Refused;
+        return RealWays::Refused;
     }
-    Ways::Value(real_product(x, w as u64))
+    if m > LARGEST {
+        return RealWays::Refused;
+    }
+    RealWays::Value(whole_product(m as u64, w as u64))
+}
+
+// The same product for a real x, where no rule asks whether x is below w: 1 where w is 0 or below, refused where w is above 16.
+pub fn combinations_real(x: f64, w: i64) -> RealWays
+    ensures { λ r. ⌜ Real.meaning r ≡ Real.combinationsReal x w ⌝ }
+{
+    if w <= 0 {
+        return RealWays::Value(1.0);
+    }
+    if w > MOST_FACTORS {
+        return RealWays::Refused;
+    }
+    RealWays::Value(real_product(x, w as u64))
 }

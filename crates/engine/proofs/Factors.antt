@@ -17,26 +17,47 @@ use Rattle.net.specs.Net.{Marking, pick, zero64, amount, held, rateOf}
 use Rattle.net.specs.Readable.{Slot, slotAt, slots, slotsOf, takesOf, readable, transition}
 use Rattle.rules.specs.Enabled.{enabled}
 use Rattle.combinations.specs.declared.Ways.{Ways}
-use Rattle.combinations.specs.Combinations.{meaning, combinations}
+use Rattle.combinations.specs.declared.RealWays.{RealWays}
+use Rattle.combinations.specs.Combinations.{Answer, value, refused, meaning, combinations}
+use Rattle.combinations.specs.Real as Real
+use Rattle.combinations.specs.Real.{unflagged}
 use Rattle.rules.specs.Propensity.{asFloat, ways, factored, propensity}
+use Rattle.rules.specs.Exact.{asFlag, exactWays}
 use Rattle.engine.specs.Engine.{Below, marking}
 use Rattle.engine.proofs.Arcs.{ap-pick, on-bool, slots-step, span, slots-of}
 use Rattle.engine.proofs.Marks.{held-marking}
 
-pick-true : {A : Type 0} (b : Bool) (x y : A) → b ≡ true → pick b x y ≡ x
+pub pick-true : {A : Type 0} (b : Bool) (x y : A) → b ≡ true → pick b x y ≡ x
 pick-true b x y e = ap (λ (t : Bool). pick t x y) e
 
-pick-false : {A : Type 0} (b : Bool) (x y : A) → b ≡ false → pick b x y ≡ y
+pub pick-false : {A : Type 0} (b : Bool) (x y : A) → b ≡ false → pick b x y ≡ y
 pick-false b x y e = ap (λ (t : Bool). pick t x y) e
 
 -- ---- the ways of one slot
 
--- what the answer of `combinations` says of two numbers that are the same signed
-pub ways-answer : (m w : ℕ) → m ≤ 2 ^ 53 → w ≤ 1_000_000 → (r : Ways) → meaning r ≡ combinations (toZ w64 m) (toZ w64 w) → asFloat (meaning r) ≡ ways m w
+-- the float of an answer without its flag
+abbrev pub alone : Real.Answer → Float
+alone (Real.value x) = x
+alone (Real.refused c) = nan
+
+alone-is : (a : Answer) → alone (unflagged a) ≡ asFloat a
+alone-is (value x e) = refl
+alone-is (refused c) = refl
+
+-- what the answers of `combinations` say of two numbers that are the same signed
+pub ways-answer : (m w : ℕ) → m ≤ 2 ^ 53 → w ≤ 1_000_000 → (r : RealWays) → Real.meaning r ≡ unflagged (combinations (toZ w64 m) (toZ w64 w))
+    → alone (Real.meaning r) ≡ ways m w
 ways-answer m w h k r e =
     let a : toZ w64 m ≡ pos m = toZ-pos w64 (omega arith) in
     let b : toZ w64 w ≡ pos w = toZ-pos w64 (omega arith) in
-    ap asFloat (e ∙ (λ i. combinations (a i) (b i)))
+    ap alone (e ∙ (λ i. unflagged (combinations (a i) (b i)))) ∙ alone-is (combinations (pos m) (pos w))
+
+pub exact-answer : (m w : ℕ) → m ≤ 2 ^ 53 → w ≤ 1_000_000 → (r : Ways) → meaning r ≡ combinations (toZ w64 m) (toZ w64 w) → asFlag (meaning r) ≡ exactWays m w
+unfolding exactWays
+exact-answer m w h k r e =
+    let a : toZ w64 m ≡ pos m = toZ-pos w64 (omega arith) in
+    let b : toZ w64 w ≡ pos w = toZ-pos w64 (omega arith) in
+    ap asFlag (e ∙ (λ i. combinations (a i) (b i)))
 
 -- 0 over 0
 pub no-number : div binary64 zero64 zero64 ≡ nan

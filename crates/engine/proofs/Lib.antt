@@ -9,3 +9,4 @@ pub mod Marks
 pub mod OneWay
 pub mod Factors
 pub mod Totals
+pub mod Inexact

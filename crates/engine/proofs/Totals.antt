@@ -14,12 +14,12 @@ use Rattle.rules.specs.Propensity.{propensity, propensities, summed, total}
 use Rattle.engine.specs.Engine.{marking, Totalled}
 
 module _ (n : NetRecord) (j t : ℕ) where
-  transitions-step : j < t → transitionsFrom n j (t - j) ≡ transition n j ∷ transitionsFrom n (j + 1) (t - (j + 1))
+  pub transitions-step : j < t → transitionsFrom n j (t - j) ≡ transition n j ∷ transitionsFrom n (j + 1) (t - (j + 1))
   transitions-step h =
       let d : t - j ≡ suc (t - (j + 1)) = omega arith in
       ap (transitionsFrom n j) d ∙ ap (λ (i : ℕ). transition n j ∷ transitionsFrom n i (t - (j + 1))) (sym (add-one j))
 
-  transitions-end : t ≤ j → transitionsFrom n j (t - j) ≡ []
+  pub transitions-end : t ≤ j → transitionsFrom n j (t - j) ≡ []
   transitions-end h =
       let d : t - j ≡ 0 = omega arith in
       ap (transitionsFrom n j) d

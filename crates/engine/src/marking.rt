@@ -14,7 +14,7 @@ ghost use Rattle.rules.specs.Moves as Moves;
 ghost use Rattle.engine.specs.Engine as Engine;
 ghost use Rattle.engine.specs.Limits as Limits;
 use crate::slots;
-use combinations::Ways;
+use combinations::RealWays;
 
 // Does a slot of this limit let its transition run, at the count of its place? Below 2^63 it is an upper limit, else 2^64 less a lower one (specs/Limits);
 // compiled, the two are one comparison.
@@ -67,10 +67,10 @@ fn ways(m: u64, w: u64) -> f64
     requires { ⌜ (m ≤ 2 ^ 53) × (w ≤ 1_000_000) ⌝ }
     ensures { λ r. ⌜ r ≡ Propensity.ways m w ⌝ }
 {
-    let answer = combinations::combinations(m as i64, w as i64);
+    let answer = combinations::combinations_unflagged(m as i64, w as i64);
     match answer {
-        Ways::Value(x) => x,
-        Ways::Refused => 0.0 / 0.0,
+        RealWays::Value(x) => x,
+        RealWays::Refused => 0.0 / 0.0,
     }
 }
 

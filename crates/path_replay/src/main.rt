@@ -1,6 +1,7 @@
 // Plays a batch of paths. Standard input has a case after the other: the net (see replay_io), the four words of the generator, the step limit, the
-// number of instants, and each by its bits. One line is written for each case: the end, the steps, the settled instants, the peak, the generator's
-// words, and the answer's cells by their bits, with the one behind them. The table has 2,048 cells of 7. No more is read than 2,048 instants.
+// number of instants, and each by its bits. One line is written for each case: the end, the steps, the settled instants, the peak, the rounded
+// steps, the generator's words, and the answer's cells by their bits, with the one behind them. The table has 2,048 cells of 7. No more is read than 2,048
+// instants.
 use net::Net;
 use replay_io::float;
 use replay_io::next_number;
@@ -57,6 +58,7 @@ fn write_answer(r: PathAnswer) {
     write_number(r.steps);
     write_number(r.settled);
     write_number(r.peak);
+    write_number(r.rounded);
     let generator = r.generator;
     write_state(generator.state());
 }

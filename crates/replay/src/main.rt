@@ -1,6 +1,7 @@
 // Answers a recorded sample. A line of standard input is a letter and two words, 16 hexadecimal digits each; one line is written for each.
 // Floats go by their bits, any NaN as `nan`; a whole number with a sign is given with 2^62 added. Lines s and t set the generator, and
 // n and u draw from it.
+use combinations::RealWays;
 use combinations::Ways;
 use libc::STDIN_FILENO;
 use libc::STDOUT_FILENO;
@@ -47,12 +48,21 @@ fn state_line(s: [u64; 4]) {
     word_line(s[3]);
 }
 
+fn refused_line() {
+    io::write_all(STDOUT_FILENO, b"refused\n");
+}
+
 fn ways_line(w: Ways) {
     match w {
-        Ways::Value(x) => float_line(x),
-        Ways::Refused => {
-            io::write_all(STDOUT_FILENO, b"refused\n");
-        }
+        Ways::Value(x, _) => float_line(x),
+        Ways::Refused => refused_line(),
+    }
+}
+
+fn real_ways_line(w: RealWays) {
+    match w {
+        RealWays::Value(x) => float_line(x),
+        RealWays::Refused => refused_line(),
     }
 }
 
@@ -135,7 +145,7 @@ fn answer(letter: u8, a: u64, b: u64, state: &mut [u64; 4]) {
         b'l' => float_line(portable_log::plog(float(a))),
         b'q' => float_line(root::sqrt(float(a))),
         b'c' => ways_line(combinations::combinations(signed(a), signed(b))),
-        b'd' => ways_line(combinations::combinations_real(float(a), signed(b))),
+        b'd' => real_ways_line(combinations::combinations_real(float(a), signed(b))),
         _ => end(),
     }
 }

@@ -17,6 +17,7 @@ use Rattle.net.proofs.Sound.{sound}
 use Rattle.rng.specs.State.{State as Generator}
 use Rattle.rng.specs.Xoshiro.{step as drawn, uniform}
 use Rattle.rules.specs.Propensity.{propensities, total}
+use Rattle.rules.specs.Exact.{addsRounded}
 use Rattle.rules.specs.Jump.{chosen}
 use Rattle.rules.specs.Timers.{Timer, first, others}
 use Rattle.rules.specs.Moves.{Entry, started, completed, fired, transition as transitionOf, taking, move, after}
@@ -86,8 +87,8 @@ EventFits (given e) = countsFit (e .leaves .counts) ≡ true
 
 abbrev StepFits : Answer Step → Type 0
 StepFits (refused c) = Unit
-StepFits (given still) = Unit
-StepFits (given (sets js u e)) = EventFits e
+StepFits (given (still b)) = Unit
+StepFits (given (sets b js u e)) = EventFits e
 
 event-fits : (n : Net) (u : State) (e : Entry) (q : List Timer) (g : Generator) → EventFits (event n u e q g)
 event-fits n u e q g = go (countsFit (move n (u .counts) e)) refl
@@ -100,12 +101,12 @@ fire-fits : (n : Net) (u : State) (o : Option ℕ) → countsFit (u .counts) ≡
 fire-fits n u none h = h
 fire-fits n u (some j) h = event-fits n u (fired j) (u .timers) (u .generator)
 
-go-on-fits : (n : Net) (js : List ℕ) (v : State) (a0 : Float) (xs : List Float) (x : Next) → countsFit (v .counts) ≡ true → StepFits (given (goOn n js v a0 xs x))
-go-on-fits n js v a0 xs nothingLeft h = tt
-go-on-fits n js v a0 xs (race dt) h =
+go-on-fits : (n : Net) (b : Bool) (js : List ℕ) (v : State) (a0 : Float) (xs : List Float) (x : Next) → countsFit (v .counts) ≡ true → StepFits (given (goOn n b js v a0 xs x))
+go-on-fits n b js v a0 xs nothingLeft h = tt
+go-on-fits n b js v a0 xs (race dt) h =
     let u : State = setClock (add binary64 (v .clock) dt) v in
     fire-fits n (state (u .clock) (u .counts) (u .timers) (drawn (u .generator))) (chosen (mul binary64 (uniform (u .generator)) a0) xs) h
-go-on-fits n js v a0 xs (completion at) h =
+go-on-fits n b js v a0 xs (completion at) h =
     let u : State = setClock at v in
     event-fits n u (completed (first (u .timers) .who)) (others (u .timers)) (u .generator)
 
@@ -117,7 +118,7 @@ step-fits n s h = go (starts n s) (λ b p. starts-fit n s b p h)
     go (given b) k =
         let a0 : Float = total (propensities n (b .counts)) in
         let v : State = state (s .clock) (b .counts) (b .timers) (drawnFor a0 (s .generator)) in
-        go-on-fits n (b .who) v a0 (propensities n (b .counts)) (next a0 (s .clock) (waiting a0 (s .generator)) (b .timers)) (k b refl)
+        go-on-fits n (addsRounded n (b .counts)) (b .who) v a0 (propensities n (b .counts)) (next a0 (s .clock) (waiting a0 (s .generator)) (b .timers)) (k b refl)
 
 -- ---- a run
 

@@ -70,37 +70,37 @@ Same x r r′ = before x (entries r) ≡ before x (entries r′)
 
 module _ (n : Net) (x a b : Float) (z : isNan x ≡ false) (ha : le x a ≡ true) (hb : le x b ≡ true) where
   -- a step that sets the clock to x or later: the rest does not matter
-  reached-same : (js : List ℕ) (t : Float) (e : Answer Event) (u : State) (f h : State → Run) → le x t ≡ true → (c d : Bool)
-      → Same x (pick c (steps (map started js ++ reading t ∷ []) (ends reached u)) (concluded (map started js ++ reading t ∷ []) e f))
-      (pick d (steps (map started js ++ reading t ∷ []) (ends reached u)) (concluded (map started js ++ reading t ∷ []) e h))
-  reached-same js t e u f h q c d = all c e f ∙ sym (all d e h)
+  reached-same : (w : Bool) (js : List ℕ) (t : Float) (e : Answer Event) (u : State) (f h : State → Run) → le x t ≡ true → (c d : Bool)
+      → Same x (pick c (steps w (map started js ++ reading t ∷ []) (ends reached u)) (concluded w (map started js ++ reading t ∷ []) e f))
+      (pick d (steps w (map started js ++ reading t ∷ []) (ends reached u)) (concluded w (map started js ++ reading t ∷ []) e h))
+  reached-same w js t e u f h q c d = all c e f ∙ sym (all d e h)
     where
       es : List Entry
       es = map started js ++ reading t ∷ []
 
-      all : (c : Bool) (e : Answer Event) (f : State → Run) → before x (entries (pick c (steps es (ends reached u)) (concluded es e f))) ≡ before x es
+      all : (c : Bool) (e : Answer Event) (f : State → Run) → before x (entries (pick c (steps w es (ends reached u)) (concluded w es e f))) ≡ before x es
       all true e f = before-reached x es [] (reaches-clock x js t q)
       all false (refused c) f = before-reached x es [] (reaches-clock x js t q)
       all false (given ev) f = rw (append-assoc es (ev .what)) (before-reached x es _ (reaches-clock x js t q))
 
   -- a step that sets the clock below x
-  unreached-same : (js : List ℕ) (t : Float) (u : State) (f h : State → Run) → u .clock ≡ t → le x t ≡ false
+  unreached-same : (w : Bool) (js : List ℕ) (t : Float) (u : State) (f h : State → Run) → u .clock ≡ t → le x t ≡ false
       → ((v : State) → le x (v .clock) ≡ false → Same x (f v) (h v))
       → (e : Answer Event) → EventGood n u e
-      → Same x (concluded (map started js ++ reading t ∷ []) e f) (concluded (map started js ++ reading t ∷ []) e h)
-  unreached-same js t u f h p q ih (refused c) g = refl
-  unreached-same js t u f h p q ih (given ev) g =
+      → Same x (concluded w (map started js ++ reading t ∷ []) e f) (concluded w (map started js ++ reading t ∷ []) e h)
+  unreached-same w js t u f h p q ih (refused c) g = refl
+  unreached-same w js t u f h p q ih (given ev) g =
       before-cong x ((map started js ++ reading t ∷ []) ++ ev .what) _ _ (ih (ev .leaves) (ap (le x) (g .clock ∙ p) ∙ q))
 
   one-step-same : (s : State) (f h : State → Run) → ((v : State) → le x (v .clock) ≡ false → Same x (f v) (h v))
       → (r : Answer Step) → StepGood n s r → Same x (stepped a s r f) (stepped b s r h)
   one-step-same s f h ih (refused c) g = refl
-  one-step-same s f h ih (given still) g = refl
-  one-step-same s f h ih (given (sets js u e)) g = go (le x (u .clock)) refl
+  one-step-same s f h ih (given (still w)) g = refl
+  one-step-same s f h ih (given (sets w js u e)) g = go (le x (u .clock)) refl
     where
-      go : (c : Bool) → le x (u .clock) ≡ c → Same x (stepped a s (given (sets js u e)) f) (stepped b s (given (sets js u e)) h)
-      go true q = reached-same js (u .clock) e u f h q (lt a (u .clock)) (lt b (u .clock))
-      go false q = rw (not-after x a (u .clock) z ha q, not-after x b (u .clock) z hb q) (unreached-same js (u .clock) u f h refl q ih e (g .event))
+      go : (c : Bool) → le x (u .clock) ≡ c → Same x (stepped a s (given (sets w js u e)) f) (stepped b s (given (sets w js u e)) h)
+      go true q = reached-same w js (u .clock) e u f h q (lt a (u .clock)) (lt b (u .clock))
+      go false q = rw (not-after x a (u .clock) z ha q, not-after x b (u .clock) z hb q) (unreached-same w js (u .clock) u f h refl q ih e (g .event))
 
   -- until x is reached the runs with the last instants a and b are the same
   pub same : (k : ℕ) (s : State) → le x (s .clock) ≡ false → before x (entries (run n a k s)) ≡ before x (entries (run n b k s))
@@ -123,9 +123,9 @@ pub record Longer (r r′ : Run) : Type 0 where
   pub joined : entries r′ ≡ entries r ++ more
   pub left-spent : (o : Outcome) → outcome r ≡ given o → o .end ≡ spent
 
-longer-step : {r r′ : Run} (es : List Entry) → (r′ ≡ r) ⊎ Longer r r′ → (steps es r′ ≡ steps es r) ⊎ Longer (steps es r) (steps es r′)
-longer-step es (inl p) = inl (ap (steps es) p)
-longer-step {r} es (inr h) = inr (record {
+longer-step : {r r′ : Run} (w : Bool) (es : List Entry) → (r′ ≡ r) ⊎ Longer r r′ → (steps w es r′ ≡ steps w es r) ⊎ Longer (steps w es r) (steps w es r′)
+longer-step w es (inl p) = inl (ap (steps w es) p)
+longer-step {r} w es (inr h) = inr (record {
   more = h .more;
   joined = ap (λ (l : List Entry). es ++ l) (h .joined) ∙ sym (append-assoc es (entries r) (h .more));
   left-spent = h .left-spent;
@@ -146,18 +146,18 @@ module _ (n : Net) (last : Float) where
       one : (r : Answer Step) → ((v : State) → (run n last l v ≡ run n last k v) ⊎ Longer (run n last k v) (run n last l v))
           → (stepped last s r (run n last l) ≡ stepped last s r (run n last k)) ⊎ Longer (stepped last s r (run n last k)) (stepped last s r (run n last l))
       one (refused c) ih = inl refl
-      one (given still) ih = inl refl
-      one (given (sets js u e)) ih = past (lt last (u .clock)) e
+      one (given (still w)) ih = inl refl
+      one (given (sets w js u e)) ih = past (lt last (u .clock)) e
         where
           es : List Entry
           es = map started js ++ reading (u .clock) ∷ []
 
           past : (c : Bool) (e : Answer Event)
-              → (pick c (steps es (ends reached u)) (concluded es e (run n last l)) ≡ pick c (steps es (ends reached u)) (concluded es e (run n last k)))
-              ⊎ Longer (pick c (steps es (ends reached u)) (concluded es e (run n last k))) (pick c (steps es (ends reached u)) (concluded es e (run n last l)))
+              → (pick c (steps w es (ends reached u)) (concluded w es e (run n last l)) ≡ pick c (steps w es (ends reached u)) (concluded w es e (run n last k)))
+              ⊎ Longer (pick c (steps w es (ends reached u)) (concluded w es e (run n last k))) (pick c (steps w es (ends reached u)) (concluded w es e (run n last l)))
           past true e = inl refl
           past false (refused c) = inl refl
-          past false (given ev) = longer-step (es ++ ev .what) (ih (ev .leaves))
+          past false (given ev) = longer-step w (es ++ ev .what) (ih (ev .leaves))
 
       go : (c : Bool)
           → (stepped last s (step n s) (run n last l) ≡ stepped last s (step n s) (run n last k))

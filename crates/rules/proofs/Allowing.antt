@@ -13,6 +13,7 @@ use lib.Ieee.{Float, binary64, add, mul, ofBits, lt, le}
 use Rattle.net.specs.Net.{Transition, Net, Marking, pick, zero64, timed, rateOf}
 use Rattle.rules.specs.Enabled.{enabled}
 use Rattle.rules.specs.Propensity.{propensity, propensities, factored, total}
+use Rattle.rules.specs.Exact.{addsRounded}
 use Rattle.rng.specs.State.{State as Generator}
 use Rattle.rng.specs.Xoshiro.{step as drawn, uniform}
 use Rattle.rules.specs.Jump.{chosenFrom, chosen}
@@ -234,8 +235,8 @@ pub record Stepping (n : Net) (s : State) (js : List ℕ) (u : State) (e : Answe
 
 abbrev pub StepGood : Net → State → Answer Step → Type 0
 StepGood n s (refused c) = Unit
-StepGood n s (given still) = Unit
-StepGood n s (given (sets js u e)) = Stepping n s js u e
+StepGood n s (given (still b)) = Unit
+StepGood n s (given (sets b js u e)) = Stepping n s js u e
 
 -- an event whose entry is allowed and due, and leaves these timers
 event-good : (n : Net) (u : State) (e : Entry) (q : List Timer) (g : Generator) → Lone (e ∷ []) → Allowed n (u .counts) e → Due (moment u) e
@@ -274,10 +275,10 @@ next-first a0 t dt [] at p = go (le a0 zero64) p
     go false e = let z : _≡_ {A = ℕ} 0 1 = cc in omega arith
 next-first a0 t dt (z ∷ q) at p = refl
 
-module _ (n : Net) (s : State) (js : List ℕ) (v : State) (a0 : Float)
+module _ (n : Net) (s : State) (b : Bool) (js : List ℕ) (v : State) (a0 : Float)
     (h : Leads n (moment s) (map started js) (record { clock = s .clock; counts = v .counts; timers = v .timers })) where
   go-on-good : (x : Next) → ((at : Float) → x ≡ completion at → FirstIs (v .timers) (first (v .timers) .who))
-      → StepGood n s (given (goOn n js v a0 (propensities n (v .counts)) x))
+      → StepGood n s (given (goOn n b js v a0 (propensities n (v .counts)) x))
   go-on-good nothingLeft f = tt
   go-on-good (race dt) f = record { starts = h; event = raced-good n (setClock (add binary64 (v .clock) dt) v) a0 }
   go-on-good (completion at) f = record { starts = h; event = complete-good n (setClock at v) (f at refl) }
@@ -292,7 +293,7 @@ step-good n s = go (starts n s) (λ b p. starts-lead n (s .clock) (s .counts) (s
     go (given b) h =
         let a0 : Float = total (propensities n (b .counts)) in
         let v : State = state (s .clock) (b .counts) (b .timers) (drawnFor a0 (s .generator)) in
-        go-on-good n s (b .who) v a0 (h b refl) (next a0 (s .clock) (waiting a0 (s .generator)) (b .timers))
+        go-on-good n s (addsRounded n (b .counts)) (b .who) v a0 (h b refl) (next a0 (s .clock) (waiting a0 (s .generator)) (b .timers))
         (next-first a0 (s .clock) (waiting a0 (s .generator)) (b .timers))
 
 -- ---- a run
@@ -317,10 +318,10 @@ goes-end n e s = record { allowed = tt; due = tt; left = λ o p. ap (λ (o : Out
 goes-refused : (n : Net) (x : Moment) (c : ℕ) → Goes n x (refuses c)
 goes-refused n x c = record { allowed = tt; due = tt; left = λ o p. refused-given p }
 
-goes-step : {n : Net} {x y : Moment} {es : List Entry} {r : Run} → Leads n x es y → Goes n y r → Goes n x (steps es r)
-goes-step {n} {x} {y} {es} {r} a b =
-    let w : Leads n x (es ++ entries r) (momentAfter n y (entries r)) = leads-on a (record { allowed = b .allowed; due = b .due; to = refl }) in
-    record { allowed = w .allowed; due = w .due; left = λ o p. w .to ∙ b .left o p }
+goes-step : {n : Net} {x y : Moment} {w : Bool} {es : List Entry} {r : Run} → Leads n x es y → Goes n y r → Goes n x (steps w es r)
+goes-step {n} {x} {y} {w} {es} {r} a b =
+    let c : Leads n x (es ++ entries r) (momentAfter n y (entries r)) = leads-on a (record { allowed = b .allowed; due = b .due; to = refl }) in
+    record { allowed = c .allowed; due = c .due; left = λ o p. c .to ∙ b .left o p }
 
 pub run-goes : (n : Net) (last : Float) (k : ℕ) (s : State) → Goes n (moment s) (run n last k s)
 run-goes n last zero s = goes-end n _ s
@@ -329,14 +330,14 @@ run-goes n last (suc k) s = below (lt (s .clock) last) (one (step n s) (step-goo
     one : (r : Answer Step) → StepGood n s r → ((u : State) → Goes n (moment u) (run n last k u))
         → Goes n (moment s) (stepped last s r (run n last k))
     one (refused c) g ih = goes-refused n (moment s) c
-    one (given still) g ih = goes-step (leads-none n (moment s)) (goes-end n quiet s)
-    one (given (sets js u e)) g ih = past (lt last (u .clock)) e (g .event)
+    one (given (still b)) g ih = goes-step (leads-none n (moment s)) (goes-end n quiet s)
+    one (given (sets b js u e)) g ih = past (lt last (u .clock)) e (g .event)
       where
         es : List Entry
         es = map started js ++ reading (u .clock) ∷ []
 
         past : (c : Bool) (e : Answer Event) → EventGood n u e
-            → Goes n (moment s) (pick c (steps es (ends reached u)) (concluded es e (run n last k)))
+            → Goes n (moment s) (pick c (steps b es (ends reached u)) (concluded b es e (run n last k)))
         past true e h = goes-step (up-to-reading g) (goes-end n reached u)
         past false (refused c) h = goes-step (up-to-reading g) (goes-refused n (moment u) c)
         past false (given ev) h = goes-step (leads-on (up-to-reading g) (h .leads)) (ih (ev .leaves))

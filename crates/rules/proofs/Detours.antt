@@ -19,13 +19,14 @@ use lib.Ieee.Scale.{round-same}
 use Rattle.net.specs.Net.{Transition, Net, Marking, pick, zero64, timed}
 use Rattle.rules.specs.Enabled.{enabled}
 use Rattle.rules.specs.Propensity.{propensities, summed, total}
+use Rattle.rules.specs.Exact.{addsRounded}
 use Rattle.rng.specs.State.{State as Generator}
 use Rattle.rng.specs.Xoshiro.{step as drawn, uniform}
 use Rattle.rules.specs.Jump.{chosenFrom, chosen}
 use Rattle.rules.specs.Timers.{Timer, insert, first, others}
 use Rattle.rules.specs.Moves.{Entry, reading, started, completed, fired, taking, move}
 use Rattle.rules.specs.Step.{State, state, Answer, refused, given, Starts, preceded, pass, nobody, unlessNone, passes, starts, waiting, drawnFor, Next, nothingLeft, race, completion, next, Event, countsFit, event, complete, fire, raced, Step, still, sets, setClock, goOn, afterStarts, step}
-use Rattle.rules.specs.Run.{End, quiet, spent, reached, Run, ends, refuses, steps, concluded, stepped, run, Outcome, outcome, stepsOf}
+use Rattle.rules.specs.Run.{End, quiet, spent, reached, Run, ends, refuses, steps, concluded, stepped, run, Outcome, outcome, stepsOf, roundedOf}
 use Rattle.rules.proofs.Order.{never, lt-le}
 use Rattle.rules.proofs.Allowing.{given-same, refused-given}
 
@@ -283,8 +284,8 @@ EventRoom (given ev) = length (ev .leaves .timers) ≤ 256
 
 abbrev pub StepRoom : Answer Step → Type 0
 StepRoom (refused c) = Unit
-StepRoom (given still) = Unit
-StepRoom (given (sets js u e)) = (length (u .timers) ≤ 256) × EventRoom e
+StepRoom (given (still b)) = Unit
+StepRoom (given (sets b js u e)) = (length (u .timers) ≤ 256) × EventRoom e
 
 event-room : (n : Net) (u : State) (e : Entry) (q : List Timer) (g : Generator) → length q ≤ 256 → EventRoom (event n u e q g)
 event-room n u e q g h = go (countsFit (move n (u .counts) e))
@@ -301,12 +302,12 @@ fire-room : (n : Net) (u : State) (o : Option ℕ) → length (u .timers) ≤ 25
 fire-room n u none h = h
 fire-room n u (some j) h = event-room n u (fired j) (u .timers) (u .generator) h
 
-go-on-room : (n : Net) (js : List ℕ) (v : State) (a0 : Float) (xs : List Float) (x : Next) → length (v .timers) ≤ 256 → StepRoom (given (goOn n js v a0 xs x))
-go-on-room n js v a0 xs nothingLeft h = tt
-go-on-room n js v a0 xs (race dt) h =
+go-on-room : (n : Net) (b : Bool) (js : List ℕ) (v : State) (a0 : Float) (xs : List Float) (x : Next) → length (v .timers) ≤ 256 → StepRoom (given (goOn n b js v a0 xs x))
+go-on-room n b js v a0 xs nothingLeft h = tt
+go-on-room n b js v a0 xs (race dt) h =
     let u : State = setClock (add binary64 (v .clock) dt) v in
     (h, fire-room n (state (u .clock) (u .counts) (u .timers) (drawn (u .generator))) (chosen (mul binary64 (uniform (u .generator)) a0) xs) h)
-go-on-room n js v a0 xs (completion at) h =
+go-on-room n b js v a0 xs (completion at) h =
     let u : State = setClock at v in
     (h, event-room n u (completed (first (u .timers) .who)) (others (u .timers)) (u .generator) (others-room (v .timers) h))
 
@@ -318,7 +319,7 @@ step-room n s h = go (starts n s) (passes-timed n (s .clock) 257 (s .counts) (s 
     go (given b) w =
         let a0 : Float = total (propensities n (b .counts)) in
         let v : State = state (s .clock) (b .counts) (b .timers) (drawnFor a0 (s .generator)) in
-        go-on-room n (b .who) v a0 (propensities n (b .counts)) (next a0 (s .clock) (waiting a0 (s .generator)) (b .timers)) (w .room)
+        go-on-room n (addsRounded n (b .counts)) (b .who) v a0 (propensities n (b .counts)) (next a0 (s .clock) (waiting a0 (s .generator)) (b .timers)) (w .room)
 
 -- where no timer runs after the starts, none started and the counts are as they were
 pub still-same : (n : Net) (s : State) → length (s .timers) ≤ 256 → (b : Starts) → starts n s ≡ given b → b .timers ≡ []
@@ -343,6 +344,16 @@ not-drawn a0 g h = go (lt zero64 a0) refl
 
 -- ---- steps and the limit
 
+-- no more steps are rounded than are taken
+pub rounded-most : (r : Run) → roundedOf r ≤ stepsOf r
+rounded-most (ends e s) = omega arith
+rounded-most (refuses c) = omega arith
+rounded-most (steps b es r) = go b (rounded-most r)
+  where
+    go : (b : Bool) → roundedOf r ≤ stepsOf r → pick b 1 0 + roundedOf r ≤ suc (stepsOf r)
+    go true h = omega arith
+    go false h = omega arith
+
 module _ (n : Net) (last : Float) where
   pub steps-most : (k : ℕ) (s : State) → stepsOf (run n last k s) ≤ k
   steps-most zero s = omega arith
@@ -350,13 +361,13 @@ module _ (n : Net) (last : Float) where
     where
       one : (r : Answer Step) → ((v : State) → stepsOf (run n last k v) ≤ k) → stepsOf (stepped last s r (run n last k)) ≤ suc k
       one (refused c) ih = omega arith
-      one (given still) ih = omega arith
-      one (given (sets js u e)) ih = past (lt last (u .clock)) e
+      one (given (still b)) ih = omega arith
+      one (given (sets b js u e)) ih = past (lt last (u .clock)) e
         where
           es : List Entry
           es = map started js ++ reading (u .clock) ∷ []
 
-          past : (c : Bool) (e : Answer Event) → stepsOf (pick c (steps es (ends reached u)) (concluded es e (run n last k))) ≤ suc k
+          past : (c : Bool) (e : Answer Event) → stepsOf (pick c (steps b es (ends reached u)) (concluded b es e (run n last k))) ≤ suc k
           past true e = omega arith
           past false (refused c) = omega arith
           past false (given ev) = omega (arith, ih (ev .leaves))
@@ -374,9 +385,9 @@ module _ (n : Net) (last : Float) where
   unfolding Full
   other-end e s k h r p o q z = absurd (h (ap (λ (o : Outcome). o .end) (given-same (sym p ∙ q)) ∙ z))
 
-  full-step : (k : ℕ) (es : List Entry) (r : Run) → Full k r → Full (suc k) (steps es r)
+  full-step : (k : ℕ) (b : Bool) (es : List Entry) (r : Run) → Full k r → Full (suc k) (steps b es r)
   unfolding Full
-  full-step k es r h o q z = ap suc (h o q z)
+  full-step k b es r h o q z = ap suc (h o q z)
 
   quiet-spent : quiet ≡ spent → ⊥
   quiet-spent p = let z : _≡_ {A = ℕ} 0 1 = cc in omega arith
@@ -397,16 +408,16 @@ module _ (n : Net) (last : Float) where
     where
       one : (r : Answer Step) → ((v : State) → Full k (run n last k v)) → Full (suc k) (stepped last s r (run n last k))
       one (refused c) ih = full-refused (suc k) c _ refl
-      one (given still) ih = other-end quiet s (suc k) quiet-spent _ refl
-      one (given (sets js u e)) ih = past (lt last (u .clock)) e
+      one (given (still b)) ih = other-end quiet s (suc k) quiet-spent _ refl
+      one (given (sets b js u e)) ih = past (lt last (u .clock)) e
         where
           es : List Entry
           es = map started js ++ reading (u .clock) ∷ []
 
-          past : (c : Bool) (e : Answer Event) → Full (suc k) (pick c (steps es (ends reached u)) (concluded es e (run n last k)))
+          past : (c : Bool) (e : Answer Event) → Full (suc k) (pick c (steps b es (ends reached u)) (concluded b es e (run n last k)))
           past true e = other-end reached u (suc k) reached-spent _ refl
           past false (refused c) = full-refused (suc k) c _ refl
-          past false (given ev) = full-step k (es ++ ev .what) _ (ih (ev .leaves))
+          past false (given ev) = full-step k b (es ++ ev .what) _ (ih (ev .leaves))
 
       below : (c : Bool) → Full (suc k) (stepped last s (step n s) (run n last k))
           → Full (suc k) (pick c (stepped last s (step n s) (run n last k)) (ends reached s))

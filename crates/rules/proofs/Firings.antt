@@ -11,6 +11,7 @@ use Rattle.net.specs.Net.{Net, pick, zero64}
 use Rattle.rng.specs.State.{State as Generator}
 use Rattle.rng.specs.Xoshiro.{step as drawn, uniform}
 use Rattle.rules.specs.Propensity.{propensities, total}
+use Rattle.rules.specs.Exact.{addsRounded}
 use Rattle.rules.specs.Jump.{chosen}
 use Rattle.rules.specs.Timers.{Timer, first, others}
 use Rattle.rules.specs.Moves.{Entry, reading, started, completed, fired, move}
@@ -36,8 +37,8 @@ EventSingle (given e) = Single (e .what)
 
 abbrev StepSingle : Answer Step → Type 0
 StepSingle (refused c) = Unit
-StepSingle (given still) = Unit
-StepSingle (given (sets js u e)) = EventSingle e
+StepSingle (given (still b)) = Unit
+StepSingle (given (sets b js u e)) = EventSingle e
 
 event-single : (n : Net) (u : State) (e : Entry) (q : List Timer) (g : Generator) → EventSingle (event n u e q g)
 event-single n u e q g = go (countsFit (move n (u .counts) e))
@@ -50,12 +51,12 @@ fire-single : (n : Net) (u : State) (o : Option ℕ) → EventSingle (fire n u o
 fire-single n u none = tt
 fire-single n u (some j) = event-single n u (fired j) (u .timers) (u .generator)
 
-go-on-single : (n : Net) (js : List ℕ) (v : State) (a0 : Float) (xs : List Float) (x : Next) → StepSingle (given (goOn n js v a0 xs x))
-go-on-single n js v a0 xs nothingLeft = tt
-go-on-single n js v a0 xs (race dt) =
+go-on-single : (n : Net) (b : Bool) (js : List ℕ) (v : State) (a0 : Float) (xs : List Float) (x : Next) → StepSingle (given (goOn n b js v a0 xs x))
+go-on-single n b js v a0 xs nothingLeft = tt
+go-on-single n b js v a0 xs (race dt) =
     let u : State = setClock (add binary64 (v .clock) dt) v in
     fire-single n (state (u .clock) (u .counts) (u .timers) (drawn (u .generator))) (chosen (mul binary64 (uniform (u .generator)) a0) xs)
-go-on-single n js v a0 xs (completion at) =
+go-on-single n b js v a0 xs (completion at) =
     let u : State = setClock at v in
     event-single n u (completed (first (u .timers) .who)) (others (u .timers)) (u .generator)
 
@@ -66,7 +67,7 @@ step-single n s = go (starts n s)
     go (refused c) = tt
     go (given b) =
         let a0 : Float = total (propensities n (b .counts)) in
-        go-on-single n (b .who) (state (s .clock) (b .counts) (b .timers) (drawnFor a0 (s .generator))) a0 (propensities n (b .counts))
+        go-on-single n (addsRounded n (b .counts)) (b .who) (state (s .clock) (b .counts) (b .timers) (drawnFor a0 (s .generator))) a0 (propensities n (b .counts))
         (next a0 (s .clock) (waiting a0 (s .generator)) (b .timers))
 
 -- ---- starts and readings are no firings
@@ -95,8 +96,8 @@ module _ (n : Net) (g : Generator) (last : Float) (j : ℕ) where
       one : (a : Answer Step) → step n s ≡ a → StepSingle a → ((u : State) → Reached n g u → List·Memᴰ (fired j) (entries (run n last k u)) → FiredIn n g j)
           → List·Memᴰ (fired j) (entries (stepped last s a (run n last k))) → FiredIn n g j
       one (refused c) p w ih m = absurd (List·Memᴰ·not-nil m)
-      one (given still) p w ih m = absurd (List·Memᴰ·not-nil m)
-      one (given (sets js u e)) p w ih m = past (lt last (u .clock)) e p w m
+      one (given (still b)) p w ih m = absurd (List·Memᴰ·not-nil m)
+      one (given (sets b js u e)) p w ih m = past (lt last (u .clock)) e p w m
         where
           es : List Entry
           es = map started js ++ reading (u .clock) ∷ []
@@ -108,8 +109,8 @@ module _ (n : Net) (g : Generator) (last : Float) (j : ℕ) where
               go (inl h) = no-fired js (u .clock) j h
               go (inr h) = List·Memᴰ·not-nil h
 
-          past : (c : Bool) (e : Answer Event) → step n s ≡ given (sets js u e) → EventSingle e
-              → List·Memᴰ (fired j) (entries (pick c (steps es (ends reached u)) (concluded es e (run n last k)))) → FiredIn n g j
+          past : (c : Bool) (e : Answer Event) → step n s ≡ given (sets b js u e) → EventSingle e
+              → List·Memᴰ (fired j) (entries (pick c (steps b es (ends reached u)) (concluded b es e (run n last k)))) → FiredIn n g j
           past true e p w m = ended m
           past false (refused c) p w m = ended m
           past false (given ev) p w m = where-in (List·Memᴰ·append-cases (es ++ ev .what) m)
@@ -117,7 +118,7 @@ module _ (n : Net) (g : Generator) (last : Float) (j : ℕ) where
               here : List·Memᴰ (fired j) es ⊎ List·Memᴰ (fired j) (ev .what) → FiredIn n g j
               here (inl h) = absurd (no-fired js (u .clock) j h)
               here (inr h) =
-                  record { begins = s; reached = r; starters = js; now = u; event = ev; steps = p; fires = only-entry (fired j) (ev .what) w h }
+                  record { begins = s; reached = r; rounds = b; starters = js; now = u; event = ev; steps = p; fires = only-entry (fired j) (ev .what) w h }
 
               where-in : List·Memᴰ (fired j) (es ++ ev .what) ⊎ List·Memᴰ (fired j) (entries (run n last k (ev .leaves))) → FiredIn n g j
               where-in (inl h) = here (List·Memᴰ·append-cases es h)

@@ -14,20 +14,23 @@ use Rattle.rng.specs.State.{State as Generator}
 use Rattle.rng.specs.Xoshiro.{step as drawn, uniform}
 use Rattle.rules.specs.Jump.{chosen}
 use Rattle.rules.specs.Propensity.{propensities, total}
+use Rattle.rules.specs.Exact.{addsRounded}
 use Rattle.rules.specs.Timers.{Timer, first, others}
 use Rattle.rules.specs.Moves.{Entry, reading, started, completed, fired, move, after, initialCounts}
 use Rattle.rules.specs.Step.{State, state, Answer, refused, given, Starts, starts, waiting, drawnFor, Next, nothingLeft, race, completion, next, Event, countsFit, event, fire, Step, still, sets, setClock, goOn, afterStarts, step}
-use Rattle.rules.specs.Run.{End, quiet, spent, reached, Run, ends, steps, concluded, stepped, run, beginning, Outcome, outcome, stepsOf, entries, trace}
+use Rattle.rules.specs.Run.{End, quiet, spent, reached, Run, ends, steps, concluded, stepped, run, beginning, Outcome, outcome, stepsOf, roundedOf, entries, trace}
 use Rattle.rules.specs.Shown.{before, reaches, shownAt, reachedFrom, settledOf, peakOf, rising, lastOf, Path, reported, runOf, worked}
 use Rattle.rules.proofs.Order.{never, le-trans}
 use Rattle.rules.proofs.Allowing.{after-append, leads-counts, EventGood, StepGood, step-good}
 use Rattle.rules.proofs.Agree.{before-unreached}
 use Rattle.rules.proofs.Demand3Held.{rising-first}
 
--- what is still to come of a run: the counts at the instants that are left, how many of these a clock reading reaches, the end, the steps
+-- what is still to come of a run: the counts at the instants that are left, how many of these a clock reading reaches, the steps whose a0 adds a rounded
+-- propensity, the end, the steps
 pub record Played : Type 0 where
   pub shown : List Marking
   pub settled : ℕ
+  pub rounded : ℕ
   pub end : End
   pub steps : ℕ
   pub left : State
@@ -47,16 +50,23 @@ alike m xs = map (λ (x : Float). m) xs
 
 -- the run ends in the state s, with these instants left
 abbrev pub over : End → State → List Float → Played
-over e s xs = record { shown = alike (s .counts) xs; settled = 0; end = e; steps = 0; left = s }
+over e s xs = record { shown = alike (s .counts) xs; settled = 0; rounded = 0; end = e; steps = 0; left = s }
 
--- one step more, in which the clock reading shows the counts m at these instants
-abbrev pub oneStep : Marking → List Float → Played → Played
-oneStep m xs r =
-    record { shown = alike m xs ++ r .shown; settled = length xs + r .settled; end = r .end; steps = suc (r .steps); left = r .left }
+-- one step more, in which the clock reading shows the counts m at these instants; b says whether its a0 adds a rounded propensity
+abbrev pub oneStep : Bool → Marking → List Float → Played → Played
+oneStep b m xs r =
+    record {
+      shown = alike m xs ++ r .shown;
+      settled = length xs + r .settled;
+      rounded = pick b 1 0 + r .rounded;
+      end = r .end;
+      steps = suc (r .steps);
+      left = r .left;
+    }
 
-abbrev pub stepAnd : Marking → List Float → Answer Played → Answer Played
-stepAnd m xs (refused c) = refused c
-stepAnd m xs (given r) = given (oneStep m xs r)
+abbrev pub stepAnd : Bool → Marking → List Float → Answer Played → Answer Played
+stepAnd b m xs (refused c) = refused c
+stepAnd b m xs (given r) = given (oneStep b m xs r)
 
 abbrev pub onEvent : Answer Event → (State → Answer Played) → Answer Played
 onEvent (refused c) onward = refused c
@@ -64,11 +74,11 @@ onEvent (given e) onward = onward (e .leaves)
 
 abbrev pub playStep : Float → State → List Float → Answer Step → (List Float → State → Answer Played) → Answer Played
 playStep last s xs (refused c) onward = refused c
-playStep last s xs (given still) onward = given (oneStep (s .counts) [] (over quiet s xs))
-playStep last s xs (given (sets js u e)) onward =
+playStep last s xs (given (still b)) onward = given (oneStep b (s .counts) [] (over quiet s xs))
+playStep last s xs (given (sets b js u e)) onward =
     let later = beyond (u .clock) xs in
     let further = onEvent e (onward later) in
-    stepAnd (u .counts) (upTo (u .clock) xs) (pick (lt last (u .clock)) (given (over reached u later)) further)
+    stepAnd b (u .counts) (upTo (u .clock) xs) (pick (lt last (u .clock)) (given (over reached u later)) further)
 
 abbrev pub play : Net → Float → ℕ → List Float → State → Answer Played
 play n last zero xs s = given (over (pick (lt (s .clock) last) spent reached) s xs)
@@ -92,6 +102,7 @@ asPath n xs (given r) =
       steps = r .steps;
       settled = settledBy (r .end) (length xs) (length (upTo zero64 xs) + r .settled);
       peak = peakOf shown;
+      rounded = r .rounded;
       generator = r .left .generator;
     })
 
@@ -188,24 +199,31 @@ module _ (t : Float) (what rest : List Entry) (quietly : (x : Float) → reaches
       go false = rw (before-unreached x what rest (quietly x), after-append n m what, a, b)
   step-shows n (j ∷ js) m m′ m″ a b x = step-shows n js (move n m (started j)) m′ m″ a b x
 
--- a run of i steps with these entries and this outcome
-told : Net → Marking → List Float → List Entry → ℕ → Answer Outcome → Answer Played
-told n m xs es i (refused c) = refused c
-told n m xs es i (given o) =
-    given (record { shown = map (λ (x : Float). after n m (before x es)) xs; settled = reachedFrom es xs; end = o .end; steps = i; left = o .left })
+-- a run of i steps, of which c are rounded, with these entries and this outcome
+told : Net → Marking → List Float → List Entry → ℕ → ℕ → Answer Outcome → Answer Played
+told n m xs es i c (refused d) = refused d
+told n m xs es i c (given o) =
+    given (record {
+      shown = map (λ (x : Float). after n m (before x es)) xs;
+      settled = reachedFrom es xs;
+      rounded = c;
+      end = o .end;
+      steps = i;
+      left = o .left;
+    })
 
-told-end : (n : Net) (e : End) (s : State) (xs : List Float) → told n (s .counts) xs [] 0 (given (record { end = e; left = s })) ≡ given (over e s xs)
+told-end : (n : Net) (e : End) (s : State) (xs : List Float) → told n (s .counts) xs [] 0 0 (given (record { end = e; left = s })) ≡ given (over e s xs)
 unfolding told
 told-end n e s xs = rw (reached-none xs)
 
-told-step : (n : Net) (js : List ℕ) (t : Float) (what rest : List Entry) → ((x : Float) → reaches x what ≡ false)
+told-step : (n : Net) (w : Bool) (js : List ℕ) (t : Float) (what rest : List Entry) → ((x : Float) → reaches x what ≡ false)
     → (m m′ m″ : Marking) → after n m (map started js) ≡ m′ → after n m′ what ≡ m″
-    → (xs : List Float) → Rises xs → (i : ℕ) (o : Answer Outcome)
-    → told n m xs (map started js ++ reading t ∷ (what ++ rest)) (suc i) o ≡ stepAnd m′ (upTo t xs) (told n m″ (beyond t xs) rest i o)
+    → (xs : List Float) → Rises xs → (i c : ℕ) (o : Answer Outcome)
+    → told n m xs (map started js ++ reading t ∷ (what ++ rest)) (suc i) (pick w 1 0 + c) o ≡ stepAnd w m′ (upTo t xs) (told n m″ (beyond t xs) rest i c o)
 unfolding told
-told-step n js t what rest q m m′ m″ a b xs h i (refused c) = refl
-told-step n js t what rest q m m′ m″ a b xs h i (given o) =
-    ap₂ (λ (ms : List Marking) (r : ℕ). given (record { shown = ms; settled = r; end = o .end; steps = suc i; left = o .left }))
+told-step n w js t what rest q m m′ m″ a b xs h i c (refused d) = refl
+told-step n w js t what rest q m m′ m″ a b xs h i c (given o) =
+    ap₂ (λ (ms : List Marking) (r : ℕ). given (record { shown = ms; settled = r; rounded = pick w 1 0 + c; end = o .end; steps = suc i; left = o .left }))
     (parted t m′ _ (λ (x : Float). after n m″ (before x rest)) (step-shows t what rest q n js m m′ m″ a b) xs h)
     (parted-reached t _ rest (step-reaches t what rest q js) xs h)
 
@@ -217,8 +235,8 @@ Silent (given ev) = (x : Float) → reaches x (ev .what) ≡ false
 
 abbrev StepSilent : Answer Step → Type 0
 StepSilent (refused c) = Unit
-StepSilent (given still) = Unit
-StepSilent (given (sets js u e)) = Silent e
+StepSilent (given (still b)) = Unit
+StepSilent (given (sets b js u e)) = Silent e
 
 event-silent : (n : Net) (u : State) (e : Entry) (q : List Timer) (g : Generator) → ((x : Float) → reaches x (e ∷ []) ≡ false) → Silent (event n u e q g)
 event-silent n u e q g h = go (countsFit (move n (u .counts) e))
@@ -231,12 +249,12 @@ fire-silent : (n : Net) (u : State) (o : Option ℕ) → Silent (fire n u o)
 fire-silent n u none = λ x. refl
 fire-silent n u (some j) = event-silent n u (fired j) (u .timers) (u .generator) (λ x. refl)
 
-go-on-silent : (n : Net) (js : List ℕ) (v : State) (a0 : Float) (xs : List Float) (x : Next) → StepSilent (given (goOn n js v a0 xs x))
-go-on-silent n js v a0 xs nothingLeft = tt
-go-on-silent n js v a0 xs (race dt) =
+go-on-silent : (n : Net) (b : Bool) (js : List ℕ) (v : State) (a0 : Float) (xs : List Float) (x : Next) → StepSilent (given (goOn n b js v a0 xs x))
+go-on-silent n b js v a0 xs nothingLeft = tt
+go-on-silent n b js v a0 xs (race dt) =
     let u : State = setClock (add binary64 (v .clock) dt) v in
     fire-silent n (state (u .clock) (u .counts) (u .timers) (drawn (u .generator))) (chosen (mul binary64 (uniform (u .generator)) a0) xs)
-go-on-silent n js v a0 xs (completion at) =
+go-on-silent n b js v a0 xs (completion at) =
     let u : State = setClock at v in
     event-silent n u (completed (first (u .timers) .who)) (others (u .timers)) (u .generator) (λ x. refl)
 
@@ -248,12 +266,12 @@ step-silent n s = go (starts n s)
     go (given b) =
         let a0 : Float = total (propensities n (b .counts)) in
         let v : State = state (s .clock) (b .counts) (b .timers) (drawnFor a0 (s .generator)) in
-        go-on-silent n (b .who) v a0 (propensities n (b .counts)) (next a0 (s .clock) (waiting a0 (s .generator)) (b .timers))
+        go-on-silent n (addsRounded n (b .counts)) (b .who) v a0 (propensities n (b .counts)) (next a0 (s .clock) (waiting a0 (s .generator)) (b .timers))
 
 -- ---- the run
 
 abbrev toldRun : Net → Marking → List Float → Run → Answer Played
-toldRun n m xs r = told n m xs (entries r) (stepsOf r) (outcome r)
+toldRun n m xs r = told n m xs (entries r) (stepsOf r) (roundedOf r) (outcome r)
 
 module _ (n : Net) (last : Float) where
   as-played : (k : ℕ) (s : State) (xs : List Float) → Rises xs → toldRun n (s .counts) xs (run n last k s) ≡ play n last k xs s
@@ -264,28 +282,28 @@ module _ (n : Net) (last : Float) where
           → ((v : State) (ys : List Float) → Rises ys → toldRun n (v .counts) ys (run n last k v) ≡ play n last k ys v)
           → toldRun n (s .counts) xs (stepped last s r (run n last k)) ≡ playStep last s xs r (play n last k)
       one (refused c) g q ih = unfold told in refl
-      one (given still) g q ih = unfold told in rw (reached-none xs)
-      one (given (sets js u e)) g q ih = past (lt last (u .clock)) e (g .event) q
+      one (given (still b)) g q ih = unfold told in rw (reached-none xs)
+      one (given (sets b js u e)) g q ih = past (lt last (u .clock)) e (g .event) q
         where
           es : List Entry
           es = map started js ++ reading (u .clock) ∷ []
 
           past : (c : Bool) (e : Answer Event) → EventGood n u e → Silent e
-              → toldRun n (s .counts) xs (pick c (steps es (ends reached u)) (concluded es e (run n last k)))
-              ≡ stepAnd (u .counts) (upTo (u .clock) xs)
+              → toldRun n (s .counts) xs (pick c (steps b es (ends reached u)) (concluded b es e (run n last k)))
+              ≡ stepAnd b (u .counts) (upTo (u .clock) xs)
               (pick c (given (over reached u (beyond (u .clock) xs))) (onEvent e (play n last k (beyond (u .clock) xs))))
           past true e w q =
-              ap (λ (l : List Entry). told n (s .counts) xs l 1 (given (record { end = reached; left = u })))
+              ap (λ (l : List Entry). told n (s .counts) xs l 1 (pick b 1 0 + 0) (given (record { end = reached; left = u })))
               (append-assoc (map started js) (reading (u .clock) ∷ []) [])
-              ∙ told-step n js (u .clock) [] [] (λ x. refl) (s .counts) (u .counts) (u .counts) (leads-counts (g .starts)) refl xs h 0 (given (record { end = reached; left = u }))
-              ∙ ap (stepAnd (u .counts) (upTo (u .clock) xs)) (told-end n reached u (beyond (u .clock) xs))
+              ∙ told-step n b js (u .clock) [] [] (λ x. refl) (s .counts) (u .counts) (u .counts) (leads-counts (g .starts)) refl xs h 0 0 (given (record { end = reached; left = u }))
+              ∙ ap (stepAnd b (u .counts) (upTo (u .clock) xs)) (told-end n reached u (beyond (u .clock) xs))
           past false (refused c) w q = unfold told in refl
           past false (given ev) w q =
               let r : Run = run n last k (ev .leaves) in
-              ap (λ (l : List Entry). told n (s .counts) xs l (suc (stepsOf r)) (outcome r))
+              ap (λ (l : List Entry). told n (s .counts) xs l (suc (stepsOf r)) (pick b 1 0 + roundedOf r) (outcome r))
               (append-assoc es (ev .what) (entries r) ∙ append-assoc (map started js) (reading (u .clock) ∷ []) (ev .what ++ entries r))
-              ∙ told-step n js (u .clock) (ev .what) (entries r) q (s .counts) (u .counts) (ev .leaves .counts) (leads-counts (g .starts)) (leads-counts (w .leads)) xs h (stepsOf r) (outcome r)
-              ∙ ap (stepAnd (u .counts) (upTo (u .clock) xs)) (ih (ev .leaves) (beyond (u .clock) xs) (rises-beyond (u .clock) xs h))
+              ∙ told-step n b js (u .clock) (ev .what) (entries r) q (s .counts) (u .counts) (ev .leaves .counts) (leads-counts (g .starts)) (leads-counts (w .leads)) xs h (stepsOf r) (roundedOf r) (outcome r)
+              ∙ ap (stepAnd b (u .counts) (upTo (u .clock) xs)) (ih (ev .leaves) (beyond (u .clock) xs) (rises-beyond (u .clock) xs h))
 
       below : (c : Bool) → toldRun n (s .counts) xs (stepped last s (step n s) (run n last k)) ≡ playStep last s xs (step n s) (play n last k)
           → toldRun n (s .counts) xs (pick c (stepped last s (step n s) (run n last k)) (ends reached s))
@@ -295,7 +313,7 @@ module _ (n : Net) (last : Float) where
 
 -- the reading 0 at the beginning, in front of a run
 from-beginning : (n : Net) (xs : List Float) → Rises xs → (r : Run) (o : Answer Outcome)
-    → reported n xs r o ≡ asPath n xs (told n (initialCounts n) (beyond zero64 xs) (entries r) (stepsOf r) o)
+    → reported n xs r o ≡ asPath n xs (told n (initialCounts n) (beyond zero64 xs) (entries r) (stepsOf r) (roundedOf r) o)
 unfolding told
 from-beginning n xs h r (refused c) = refl
 from-beginning n xs h r (given o) =
@@ -305,6 +323,7 @@ from-beginning n xs h r (given o) =
       steps = stepsOf r;
       settled = i;
       peak = peakOf ms;
+      rounded = roundedOf r;
       generator = o .left .generator;
     }))
     (parted zero64 (initialCounts n) (shownAt n (trace r)) (λ (x : Float). after n (initialCounts n) (before x (entries r)))

@@ -111,27 +111,29 @@ alike-append m (x ∷ xs) ys = ap (λ (l : List Marking). m ∷ l) (alike-append
 
 -- ---- what is done so far, in front of what is still to come
 
--- the counts shown so far, how many of them by a reading, and the steps so far
-abbrev pub addDone : List Marking → ℕ → ℕ → Answer Played → Answer Played
-addDone sh se st (refused c) = refused c
-addDone sh se st (given r) =
-    given (record { shown = sh ++ r .shown; settled = se + r .settled; end = r .end; steps = st + r .steps; left = r .left })
+-- the counts shown so far, how many of them by a reading, the rounded steps so far, and the steps so far
+abbrev pub addDone : List Marking → ℕ → ℕ → ℕ → Answer Played → Answer Played
+addDone sh se ro st (refused c) = refused c
+addDone sh se ro st (given r) =
+    given (record { shown = sh ++ r .shown; settled = se + r .settled; rounded = ro + r .rounded; end = r .end; steps = st + r .steps; left = r .left })
 
-pub addDone-none : (r : Answer Played) → addDone [] 0 0 r ≡ r
+pub addDone-none : (r : Answer Played) → addDone [] 0 0 0 r ≡ r
 addDone-none (refused c) = refl
 addDone-none (given r) =
     let a : 0 + r .settled ≡ r .settled = omega arith in
     let b : 0 + r .steps ≡ r .steps = omega arith in
-    rw (a, b)
+    let c : 0 + r .rounded ≡ r .rounded = omega arith in
+    rw (a, b, c)
 
-pub addDone-step : (sh : List Marking) (se st : ℕ) (m : Marking) (ys : List Float) (r : Answer Played)
-    → addDone sh se st (stepAnd m ys r) ≡ addDone (sh ++ alike m ys) (se + length ys) (st + 1) r
-addDone-step sh se st m ys (refused c) = refl
-addDone-step sh se st m ys (given r) =
+pub addDone-step : (sh : List Marking) (se ro st : ℕ) (b : Bool) (m : Marking) (ys : List Float) (r : Answer Played)
+    → addDone sh se ro st (stepAnd b m ys r) ≡ addDone (sh ++ alike m ys) (se + length ys) (ro + pick b 1 0) (st + 1) r
+addDone-step sh se ro st b m ys (refused c) = refl
+addDone-step sh se ro st b m ys (given r) =
+    let d : ro + (pick b 1 0 + r .rounded) ≡ ro + pick b 1 0 + r .rounded = omega arith in
     let a : se + (length ys + r .settled) ≡ se + length ys + r .settled = omega arith in
-    let b : st + suc (r .steps) ≡ st + 1 + r .steps = omega arith in
+    let e : st + suc (r .steps) ≡ st + 1 + r .steps = omega arith in
     let c : sh ++ (alike m ys ++ r .shown) ≡ (sh ++ alike m ys) ++ r .shown = sym (append-assoc sh (alike m ys) (r .shown)) in
-    λ i. given (record { shown = c i; settled = a i; end = r .end; steps = b i; left = r .left })
+    λ i. given (record { shown = c i; settled = a i; rounded = d i; end = r .end; steps = e i; left = r .left })
 
 -- the path call's answer from the whole, over so many instants
 abbrev pub answerOf : ℕ → Answer Played → Answer Path
@@ -143,14 +145,18 @@ answerOf all (given r) =
       steps = r .steps;
       settled = settledBy (r .end) all (r .settled);
       peak = peakOf (r .shown);
+      rounded = r .rounded;
       generator = r .left .generator;
     })
 
 -- it begins with the instants at most 0
 pub asPath-done : (n : Net) (xs : List Float) (r : Answer Played)
-    → asPath n xs r ≡ answerOf (length xs) (addDone (alike (initialCounts n) (upTo zero64 xs)) (length (upTo zero64 xs)) 0 r)
+    → asPath n xs r ≡ answerOf (length xs) (addDone (alike (initialCounts n) (upTo zero64 xs)) (length (upTo zero64 xs)) 0 0 r)
 asPath-done n xs (refused c) = refl
-asPath-done n xs (given r) = let b : 0 + r .steps ≡ r .steps = omega arith in rw b
+asPath-done n xs (given r) =
+    let b : 0 + r .steps ≡ r .steps = omega arith in
+    let c : 0 + r .rounded ≡ r .rounded = omega arith in
+    rw (b, c)
 
 -- ---- `play` by its tests
 
@@ -169,19 +175,19 @@ module _ (n : Net) (last : Float) (xs : List Float) (s : State) where
     pub play-refused : (c : ℕ) → step n s ≡ refused c → play n last (suc k) xs s ≡ refused c
     play-refused c e = play-on k h ∙ ap (λ (r : Answer Step). playStep last s xs r (play n last k)) e
 
-    pub play-still : step n s ≡ given still → play n last (suc k) xs s ≡ stepAnd (s .counts) [] (given (over quiet s xs))
-    play-still e = play-on k h ∙ ap (λ (r : Answer Step). playStep last s xs r (play n last k)) e
+    pub play-still : (b : Bool) → step n s ≡ given (still b) → play n last (suc k) xs s ≡ stepAnd b (s .counts) [] (given (over quiet s xs))
+    play-still b e = play-on k h ∙ ap (λ (r : Answer Step). playStep last s xs r (play n last k)) e
 
-    module _ (js : List ℕ) (u : State) (e : Answer Event) (p : step n s ≡ given (sets js u e)) where
+    module _ (b : Bool) (js : List ℕ) (u : State) (e : Answer Event) (p : step n s ≡ given (sets b js u e)) where
       pub play-sets : play n last (suc k) xs s
-          ≡ stepAnd (u .counts) (upTo (u .clock) xs)
+          ≡ stepAnd b (u .counts) (upTo (u .clock) xs)
           (pick (lt last (u .clock)) (given (over reached u (beyond (u .clock) xs))) (onEvent e (play n last k (beyond (u .clock) xs))))
       play-sets = play-on k h ∙ ap (λ (r : Answer Step). playStep last s xs r (play n last k)) p
 
       pub play-past : lt last (u .clock) ≡ true
-          → play n last (suc k) xs s ≡ stepAnd (u .counts) (upTo (u .clock) xs) (given (over reached u (beyond (u .clock) xs)))
+          → play n last (suc k) xs s ≡ stepAnd b (u .counts) (upTo (u .clock) xs) (given (over reached u (beyond (u .clock) xs)))
       play-past q = rw q at play-sets
 
       pub play-event : lt last (u .clock) ≡ false
-          → play n last (suc k) xs s ≡ stepAnd (u .counts) (upTo (u .clock) xs) (onEvent e (play n last k (beyond (u .clock) xs)))
+          → play n last (suc k) xs s ≡ stepAnd b (u .counts) (upTo (u .clock) xs) (onEvent e (play n last k (beyond (u .clock) xs)))
       play-event q = rw q at play-sets

@@ -15,6 +15,7 @@ use Rattle.net.specs.Readable.{readable}
 use Rattle.rng.specs.State.{State as Generator}
 use Rattle.rng.specs.Xoshiro.{step as drawn}
 use Rattle.rules.specs.Propensity.{propensities, summed, total}
+use Rattle.rules.specs.Exact.{addsRounded}
 use Rattle.rules.specs.Jump.{chosen}
 use Rattle.rules.specs.Timers.{Timer, first, others}
 use Rattle.rules.specs.Moves.{Entry, completed, fired, move}
@@ -111,8 +112,8 @@ EventFires n u (given e) = (j : ℕ) → e .what ≡ fired j ∷ [] → Fires (u
 
 abbrev StepFires : Net → Answer Step → Type 0
 StepFires n (refused c) = Unit
-StepFires n (given still) = Unit
-StepFires n (given (sets js u e)) = EventFires n u e
+StepFires n (given (still b)) = Unit
+StepFires n (given (sets b js u e)) = EventFires n u e
 
 fired-same : (i j : ℕ) → _≡_ {A = List Entry} (fired i ∷ []) (fired j ∷ []) → i ≡ j
 fired-same i j p = cc
@@ -146,14 +147,14 @@ module _ (n : Net) (u : State) where
       go false = tt
 
 module _ (n : Net) (a : Accepted n) where
-  go-on-fires : (js : List ℕ) (v : State) (x : Next) → countsFit (v .counts) ≡ true
-      → StepFires n (given (goOn n js v (total (propensities n (v .counts))) (propensities n (v .counts)) x))
-  go-on-fires js v nothingLeft h = tt
-  go-on-fires js v (race dt) h =
+  go-on-fires : (b : Bool) (js : List ℕ) (v : State) (x : Next) → countsFit (v .counts) ≡ true
+      → StepFires n (given (goOn n b js v (total (propensities n (v .counts))) (propensities n (v .counts)) x))
+  go-on-fires b js v nothingLeft h = tt
+  go-on-fires b js v (race dt) h =
       let u : State = setClock (add binary64 (v .clock) dt) v in
       fire-fires n u (state (u .clock) (u .counts) (u .timers) (drawn (u .generator))) (chosen (reach (u .generator) (total (propensities n (u .counts)))) (propensities n (u .counts)))
       (chosen-fires n a (u .counts) h (u .generator))
-  go-on-fires js v (completion at) h = complete-fires n (setClock at v)
+  go-on-fires b js v (completion at) h = complete-fires n (setClock at v)
 
   step-fires : (s : State) → countsFit (s .counts) ≡ true → StepFires n (step n s)
   step-fires s h = go (starts n s) (λ b p. starts-fit n s b p h)
@@ -162,7 +163,7 @@ module _ (n : Net) (a : Accepted n) where
       go (refused c) k = tt
       go (given b) k =
           let a0 : Float = total (propensities n (b .counts)) in
-          go-on-fires (b .who) (state (s .clock) (b .counts) (b .timers) (drawnFor a0 (s .generator))) (next a0 (s .clock) (waiting a0 (s .generator)) (b .timers)) (k b refl)
+          go-on-fires (addsRounded n (b .counts)) (b .who) (state (s .clock) (b .counts) (b .timers) (drawnFor a0 (s .generator))) (next a0 (s .clock) (waiting a0 (s .generator)) (b .timers)) (k b refl)
 
 -- ---- a run
 

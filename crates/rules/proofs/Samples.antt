@@ -1,11 +1,13 @@
 -- Small nets worked by the definitions.
 use Prim.Native.Nat.{ℕ}
 use mathlib.Core.Path.{_≡_, refl}
-use mathlib.Core.Bool.{true}
+use mathlib.Core.Bool.{true, false}
 use mathlib.Core.List.{[], _∷_}
 use mathlib.Core.Option.{none, some}
-use Rattle.net.specs.Net.{Transition, Net, one64}
+use lib.Ieee.{Float, ofBits, ofInt, mul, div, lt, eq}
+use Rattle.net.specs.Net.{Transition, Net, zero64, one64}
 use Rattle.rules.specs.Step.{refused, given}
+use Rattle.rules.specs.Exact.{exactWays, addsRounded}
 use Rattle.rules.specs.Balance.{balance}
 
 -- a transition of delay 1 that takes from place p and puts into place q
@@ -38,3 +40,32 @@ too-few = refl
 
 too-heavy : balance brief (5 ∷ 1001 ∷ 5 ∷ []) ≡ refused 4
 too-heavy = refl
+
+-- ---- order 6: three of 2^53 can be chosen in more ways than a float says exactly, two of five in just 10
+
+-- one transition of that delay that takes w from the only place
+abbrev choosing : Float → ℕ → Net
+choosing delay w = record {
+  places = record { initial = 5; capacity = 0 } ∷ [];
+  transitions = record {
+    rate = one64;
+    delay = delay;
+    takes = record { place = 0; weight = w; kinetic = true } ∷ [];
+    puts = [];
+    reads = [];
+    blocks = [];
+  } ∷ [];
+}
+
+rounds : addsRounded (choosing zero64 3) (9007199254740992 ∷ []) ≡ true
+unfolding exactWays ofBits ofInt mul div lt eq
+rounds = refl
+
+does-not : addsRounded (choosing zero64 2) (5 ∷ []) ≡ false
+unfolding exactWays ofBits ofInt mul div lt eq
+does-not = refl
+
+-- a propensity of 0 is exact, whatever its binomial: a delayed transition has no other
+zero-is-exact : addsRounded (choosing one64 3) (9007199254740992 ∷ []) ≡ false
+unfolding exactWays ofBits ofInt mul div lt eq
+zero-is-exact = refl

@@ -13,6 +13,7 @@ use Rattle.net.specs.Readable.{readable, fault}
 use Rattle.rng.specs.State.{State as Generator}
 use Rattle.rng.specs.Xoshiro.{step as drawn, uniform}
 use Rattle.rules.specs.Propensity.{propensities, total}
+use Rattle.rules.specs.Exact.{addsRounded}
 use Rattle.rules.specs.Jump.{chosen}
 use Rattle.rules.specs.Timers.{Timer, first, others}
 use Rattle.rules.specs.Moves.{Entry, reading, started, completed, fired, move, after, initialCounts}
@@ -67,8 +68,8 @@ record StepOn (n : Net) (s : State) (js : List ℕ) (u : State) (e : Answer Even
 
 abbrev StepReads : Net → State → Answer Step → Type 0
 StepReads n s (refused c) = Unit
-StepReads n s (given still) = Unit
-StepReads n s (given (sets js u e)) = StepOn n s js u e
+StepReads n s (given (still b)) = Unit
+StepReads n s (given (sets b js u e)) = StepOn n s js u e
 
 completed-reads : (n : Net) (u : State) (j : ℕ) (q : List Timer) (g : Generator) → EventReads n u (event n u (completed j) q g)
 completed-reads n u j q g = go (countsFit (move n (u .counts) (completed j))) refl
@@ -90,8 +91,8 @@ fire-reads : (n : Net) (u v : State) (o : Option ℕ) → v .counts ≡ u .count
 fire-reads n u v none same h = record { fit = h; on = λ es k. subst (λ (m : Marking). ReadFit n m es) same k }
 fire-reads n u v (some j) same h = fired-reads n u v j (v .timers) (v .generator) same
 
-module _ (n : Net) (s : State) (js : List ℕ) (v : State) (a0 : Float) (xs : List Float) (to : after n (s .counts) (map started js) ≡ v .counts) (h : countsFit (v .counts) ≡ true) where
-  go-on-reads : (x : Next) → StepReads n s (given (goOn n js v a0 xs x))
+module _ (n : Net) (s : State) (b : Bool) (js : List ℕ) (v : State) (a0 : Float) (xs : List Float) (to : after n (s .counts) (map started js) ≡ v .counts) (h : countsFit (v .counts) ≡ true) where
+  go-on-reads : (x : Next) → StepReads n s (given (goOn n b js v a0 xs x))
   go-on-reads nothingLeft = tt
   go-on-reads (race dt) =
       let u : State = setClock (add binary64 (v .clock) dt) v in
@@ -110,7 +111,7 @@ step-reads n s h = go (starts n s) (λ b p. starts-fit n s b p h) (λ b p. leads
     go (given b) k l =
         let a0 : Float = total (propensities n (b .counts)) in
         let v : State = state (s .clock) (b .counts) (b .timers) (drawnFor a0 (s .generator)) in
-        go-on-reads n s (b .who) v a0 (propensities n (b .counts)) (l b refl) (k b refl) (next a0 (s .clock) (waiting a0 (s .generator)) (b .timers))
+        go-on-reads n s (addsRounded n (b .counts)) (b .who) v a0 (propensities n (b .counts)) (l b refl) (k b refl) (next a0 (s .clock) (waiting a0 (s .generator)) (b .timers))
 
 -- ---- a run
 
@@ -121,8 +122,8 @@ run-reads n last (suc k) s h = below (lt (s .clock) last) (one (step n s) (step-
     one : (r : Answer Step) → StepReads n s r → ((u : State) → countsFit (u .counts) ≡ true → ReadFit n (u .counts) (entries (run n last k u)))
         → ReadFit n (s .counts) (entries (stepped last s r (run n last k)))
     one (refused c) w ih = h
-    one (given still) w ih = h
-    one (given (sets js u e)) w ih = past (lt last (u .clock)) e (w .event)
+    one (given (still b)) w ih = h
+    one (given (sets b js u e)) w ih = past (lt last (u .clock)) e (w .event)
       where
         es : List Entry
         es = map started js ++ reading (u .clock) ∷ []
@@ -134,7 +135,7 @@ run-reads n last (suc k) s h = below (lt (s .clock) last) (one (step n s) (step-
             (started-on n js (reading (u .clock) ∷ fs) (s .counts) (subst (λ (m : Marking). ReadFit n m (reading (u .clock) ∷ fs)) (sym (w .to)) (w .fit, k)))
 
         past : (c : Bool) (e : Answer Event) → EventReads n u e
-            → ReadFit n (s .counts) (entries (pick c (steps es (ends reached u)) (concluded es e (run n last k))))
+            → ReadFit n (s .counts) (entries (pick c (steps b es (ends reached u)) (concluded b es e (run n last k))))
         past true e v = up-to [] (w .fit)
         past false (refused c) v = up-to [] (w .fit)
         past false (given ev) v =

@@ -5,25 +5,22 @@ use mathlib.Core.Bool.{Bool, true, false, cond}
 use mathlib.Core.List.{List, [], _∷_}
 use native.Mathlib.Omega.{arith}
 use lib.Dec.{leb, ltb}
-use lib.IntN.{pos}
-use lib.Ieee.{Float}
 use borrow.Author.Tests.{le-ltb}
 use Rattle.net.specs.Net.{Take, Transition, Marking, pick, zero64, one64, amount, held}
 use Rattle.net.specs.Tests.{kineticTotal}
 use Rattle.net.specs.Readable.{readable}
-use Rattle.combinations.specs.Combinations.{value, combinations, product, wholeFactor}
-use Rattle.rules.specs.Propensity.{asFloat, ways}
+use Rattle.combinations.specs.Combinations.{Answer, value, counted}
+use Rattle.rules.specs.Propensity.{asFloat}
+use Rattle.rules.specs.Exact.{asFlag, exactWays}
 use Rattle.rules.specs.Gillespie.{Tested}
-use Rattle.rules.specs.Values.{Valued, AllValued, NothingRefused, NothingRefusedInRuns}
+use Rattle.rules.specs.Values.{Read, Valued, AllValued, NothingRefused, NothingRefusedInRuns}
 use Rattle.rules.proofs.Accepted.{accepted, fit-held, starts-fit, reached-fit}
 
-valued : (c w : ℕ) → c ≤ 2 ^ 53 → w ≤ 16 → combinations (pos c) (pos w) ≡ value (ways c w)
+valued : (c w : ℕ) → c ≤ 2 ^ 53 → w ≤ 16 → Read c w
+unfolding exactWays
 valued c w h l = rw (le-ltb 16 w l, le-ltb (2 ^ 53) c h) (go (leb w 0) (ltb c w))
   where
-    it : Float
-    it = product (wholeFactor (pos c)) w
-
-    go : (a b : Bool) → cond a (value one64) (cond b (value zero64) (value it)) ≡ value (asFloat (cond a (value one64) (cond b (value zero64) (value it))))
+    go : (a b : Bool) → (let all : Answer = cond a (value one64 true) (cond b (value zero64 true) (counted c w)) in all ≡ value (asFloat all) (asFlag all))
     go true b = refl
     go false true = refl
     go false false = refl

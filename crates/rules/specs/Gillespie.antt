@@ -7,7 +7,7 @@
 -- prove them.
 use Prim.Native.Nat.{ℕ, suc, _/_, _^_, _≤_, _<_}
 use mathlib.Core.Path.{_≡_}
-use mathlib.Core.Bool.{true, false}
+use mathlib.Core.Bool.{Bool, true, false}
 use mathlib.Core.List.{List, [], _∷_, List·Memᴰ}
 use mathlib.Core.Option.{Option, none, some}
 use lib.ListN.{length, getD, take}
@@ -84,7 +84,7 @@ pub record Accepted (n : Net) : Type 0 where
 -- the states in which steps begin, from the beginning of a run on
 pub data Reached (n : Net) (g : Generator) : State → Type 0 where
   at-first : Reached n g (beginning n g)
-  after-step : {s u : State} {js : List ℕ} {e : Event} → Reached n g s → step n s ≡ given (sets js u (given e)) → Reached n g (e .leaves)
+  after-step : {s u : State} {b : Bool} {js : List ℕ} {e : Event} → Reached n g s → step n s ≡ given (sets b js u (given e)) → Reached n g (e .leaves)
 
 -- x2 is this number over 2 ^ 53, so that it is below 1
 abbrev pub draw : Generator → ℕ
@@ -122,10 +122,11 @@ NeverFailing = (n : Net) → Accepted n → (m : Marking) → countsFit m ≡ tr
 pub record FiredIn (n : Net) (g : Generator) (j : ℕ) : Type 0 where
   pub begins : State
   pub reached : Reached n g begins
+  pub rounds : Bool
   pub starters : List ℕ
   pub now : State
   pub event : Event
-  pub steps : step n begins ≡ given (sets starters now (given event))
+  pub steps : step n begins ≡ given (sets rounds starters now (given event))
   pub fires : event .what ≡ fired j ∷ []
 
 -- each firing in a run's trace is in such a step

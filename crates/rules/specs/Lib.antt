@@ -1,5 +1,6 @@
 pub mod Enabled
 pub mod Propensity
+pub mod Exact
 pub mod Jump
 pub mod Timers
 pub mod Moves

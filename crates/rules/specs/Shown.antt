@@ -1,4 +1,4 @@
--- What a path call shows of its run: counts at the instants, end, steps, settled instants, peak. Document 01, "The run of demand 3",
+-- What a path call shows of its run: counts at the instants, end, steps, settled instants, peak, rounded steps. Document 01, "The run of demand 3",
 -- "Added", and refusals 12 and 13 of "Path".
 use Prim.Native.Nat.{ℕ, zero, suc, _+_, max}
 use mathlib.Core.Bool.{Bool, true, false, _&&_, _||_}
@@ -11,7 +11,7 @@ use Rattle.net.specs.Net.{Net, Marking, pick, zero64}
 use Rattle.rng.specs.State.{State as Generator}
 use Rattle.rules.specs.Moves.{Entry, reading, started, completed, fired, after, initialCounts}
 use Rattle.rules.specs.Step.{State, Answer, refused, given}
-use Rattle.rules.specs.Run.{End, quiet, spent, reached, Run, Outcome, beginning, run, outcome, stepsOf, trace}
+use Rattle.rules.specs.Run.{End, quiet, spent, reached, Run, Outcome, beginning, run, outcome, stepsOf, roundedOf, trace}
 
 -- ---- the clock first reaches x at the first reading not below it
 
@@ -74,13 +74,14 @@ lastOf [] = zero64
 lastOf (x ∷ []) = x
 lastOf (x ∷ (y ∷ ys)) = lastOf (y ∷ ys)
 
--- an answer: the counts at each instant, in place order, and what "Added" lists
+-- an answer: the counts at each instant, in place order, what "Added" lists, and order 6's count
 pub record Path : Type 0 where
   pub shown : List Marking
   pub end : End
   pub steps : ℕ
   pub settled : ℕ
   pub peak : ℕ
+  pub rounded : ℕ
   pub generator : Generator
 
 -- the answer from a run and its outcome
@@ -95,6 +96,7 @@ reported n xs r (given o) =
       steps = stepsOf r;
       settled = settledOf (o .end) es xs;
       peak = peakOf ms;
+      rounded = roundedOf r;
       generator = o .left .generator;
     })
 

@@ -10,6 +10,7 @@ use Rattle.refusals.specs as Refusal
 use Rattle.net.specs.Net.{Transition, Net, Marking, pick, zero64, one64, timed}
 use Rattle.rules.specs.Enabled.{enabled}
 use Rattle.rules.specs.Propensity.{propensities, total}
+use Rattle.rules.specs.Exact.{addsRounded}
 use Rattle.rng.specs.State.{State as Generator}
 use Rattle.rng.specs.Xoshiro.{step as drawn, uniform}
 use Rattle.portable_log.specs.Log.{plog}
@@ -135,20 +136,21 @@ raced n s a0 xs =
 -- ---- the step
 
 -- Nothing is left: none has started and nothing was drawn (proofs/Detours, still-same and not-drawn). Or these start, the clock is set, which gives this
--- state, and this event follows unless the clock is now past the last instant.
+-- state, and this event follows unless the clock is now past the last instant. Either way, document 02, order 6: whether the step's "a0 adds a propensity
+-- above 0 with some binomial inexact".
 pub data Step : Type 0 where
-  still : Step
-  sets : List ℕ → State → Answer Event → Step
+  still : Bool → Step
+  sets : Bool → List ℕ → State → Answer Event → Step
 
 abbrev pub setClock : Float → State → State
 setClock t s = state t (s .counts) (s .timers) (s .generator)
 
 -- s has the counts and timers after the starts js and the generator after x1, but still the clock of the step's beginning;
--- xs are the propensities and a0 their total
-abbrev pub goOn : Net → List ℕ → State → Float → List Float → Next → Step
-goOn n js s a0 xs nothingLeft = still
-goOn n js s a0 xs (race dt) = let u = setClock (add binary64 (s .clock) dt) s in sets js u (raced n u a0 xs)
-goOn n js s a0 xs (completion at) = let u = setClock at s in sets js u (complete n u)
+-- xs are the propensities and a0 their total, rounded says whether it adds a rounded one
+abbrev pub goOn : Net → Bool → List ℕ → State → Float → List Float → Next → Step
+goOn n rounded js s a0 xs nothingLeft = still rounded
+goOn n rounded js s a0 xs (race dt) = let u = setClock (add binary64 (s .clock) dt) s in sets rounded js u (raced n u a0 xs)
+goOn n rounded js s a0 xs (completion at) = let u = setClock at s in sets rounded js u (complete n u)
 
 abbrev pub afterStarts : Net → State → Answer Starts → Answer Step
 afterStarts n s (refused c) = refused c
@@ -156,7 +158,7 @@ afterStarts n s (given b) =
     let xs = propensities n (b .counts) in
     let a0 = total xs in
     let u = state (s .clock) (b .counts) (b .timers) (drawnFor a0 (s .generator)) in
-    given (goOn n (b .who) u a0 xs (next a0 (s .clock) (waiting a0 (s .generator)) (b .timers)))
+    given (goOn n (addsRounded n (b .counts)) (b .who) u a0 xs (next a0 (s .clock) (waiting a0 (s .generator)) (b .timers)))
 
 abbrev pub step : Net → State → Answer Step
 step n s = afterStarts n s (starts n s)

@@ -1,5 +1,7 @@
--- `combinations` refuses nothing in a run. Propensity.antt reads the float of its answer, and there is one: for every kinetic take of every transition of an
--- accepted net, at all counts of at most 2^53, and so at the counts at which a step works its propensities. proofs/Values.antt proves it.
+-- `combinations` refuses nothing in a run. Propensity.antt reads the float of its answer and Exact.antt whether it is exact, and there are both: for every
+-- kinetic take of every transition of an accepted net, at all counts of at most 2^53, and so at the counts at which a step works its propensities.
+-- proofs/Values.antt proves it.
+use Prim.Native.Nat.{ℕ}
 use mathlib.Core.Path.{_≡_}
 use mathlib.Core.Bool.{true}
 use mathlib.Core.List.{List, [], _∷_}
@@ -11,14 +13,19 @@ use Rattle.net.specs.Readable.{readable, fault}
 use Rattle.rng.specs.State.{State as Generator}
 use Rattle.combinations.specs.Combinations.{value, combinations}
 use Rattle.rules.specs.Propensity.{ways}
+use Rattle.rules.specs.Exact.{exactWays}
 use Rattle.rules.specs.Step.{State, given, Starts, countsFit, starts}
 use Rattle.rules.specs.Gillespie.{Reached}
 
--- at the counts m the answer for each of these takes that is kinetic is the value that `ways` reads
+-- to choose w of c gives a value, not a refusal
+abbrev pub Read : ℕ → ℕ → Type 0
+Read c w = combinations (pos c) (pos w) ≡ value (ways c w) (exactWays c w)
+
+-- at the counts m the answer for each of these takes that is kinetic is what `ways` and `exactWays` read
 abbrev pub Valued : Marking → List Take → Type 0
 Valued m [] = Unit
 Valued m (k ∷ ks) =
-    (k .kinetic ≡ true → combinations (pos (held m (k .place))) (pos (amount (k .weight))) ≡ value (ways (held m (k .place)) (amount (k .weight))))
+    (k .kinetic ≡ true → Read (held m (k .place)) (amount (k .weight)))
     × Valued m ks
 
 abbrev pub AllValued : Marking → List Transition → Type 0

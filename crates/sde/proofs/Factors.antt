@@ -18,15 +18,14 @@ use Rattle.net.specs.Net.{pick, zero64, rateOf}
 use Rattle.net.specs.Sound.{Sound}
 use Rattle.net.specs.Readable.{Slot, slots, takesOf, transition}
 use Rattle.net.proofs.Slots.{slots-step, slots-end}
-use Rattle.combinations.specs.declared.Ways.{Ways}
-use Rattle.combinations.specs.Combinations.{meaning, combinationsReal}
-use Rattle.rules.specs.Propensity.{asFloat}
-use Rattle.sde.specs.Diffusion.{at, waysAt, kineticOf, factored, propensity}
+use Rattle.combinations.specs.declared.RealWays.{RealWays}
+use Rattle.combinations.specs.Real.{meaning, combinationsReal}
+use Rattle.sde.specs.Diffusion.{at, asFloat, waysAt, kineticOf, factored, propensity}
 use Rattle.sde.specs.Slots.{Inside, timesSlot}
 use Rattle.engine.proofs.Arcs.{span, slots-of}
 
 -- what the answer of `combinations_real` says of a number that is the same signed
-pub ways-answer : (x : Float) (w : ℕ) → w ≤ 1_000_000 → (r : Ways) → meaning r ≡ combinationsReal x (toZ w64 w) → asFloat (meaning r) ≡ waysAt x w
+pub ways-answer : (x : Float) (w : ℕ) → w ≤ 1_000_000 → (r : RealWays) → meaning r ≡ combinationsReal x (toZ w64 w) → asFloat (meaning r) ≡ waysAt x w
 ways-answer x w h r e =
     let b : toZ w64 w ≡ pos w = toZ-pos w64 (omega arith) in
     ap asFloat (e ∙ ap (combinationsReal x) b)

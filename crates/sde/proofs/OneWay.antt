@@ -4,7 +4,7 @@ use Prim.Native.Nat.{ℕ, zero, suc, _+_, _-_, _*_, _%_, _^_, _≤_, _<_}
 use mathlib.Core.Path.{_≡_, refl, sym, ap, _∙_, subst}
 use mathlib.Core.Bool.{Bool, true, false, cond, _&&_}
 use native.Mathlib.Omega.{arith}
-use native.Mathlib.Nat.{mul-one, one-mul, zero-mul, mul-assoc, mul-left-comm, eq-of-mul-eq-mul-right, zero-lt-suc, pow-succ', pow-suc, mul-pos, lt-irrefl, lt-of-lt-of-le, mul-lt-mul-of-pos-right}
+use native.Mathlib.Nat.{mul-one, one-mul, zero-mul, mul-assoc, zero-lt-suc, pow-succ', pow-suc, mul-pos, lt-irrefl, lt-of-lt-of-le, mul-lt-mul-of-pos-right}
 use lib.Dec.{T, eqb, ltb, leb, eqb→eq, ltb→lt, leb→le}
 use lib.IntN.{ℤ, pos, negsuc}
 use lib.Pow.{pow-add, pow-pos, pow-lt}
@@ -13,23 +13,12 @@ use lib.Ieee.Exact.{HasValue, round-exact}
 use lib.Ieee.Fits.{down-pos, up-pos, round-fits, and-l, and-r}
 use borrow.Author.Tests.{le-ltb, leb-true, leb-false}
 use Rattle.combinations.specs.Combinations.{one64}
+use Rattle.combinations.proofs.Decided.{odd-pow}
 use Rattle.rules.specs.Propensity.{float}
 use Rattle.sde.specs.Diffusion.{waysAt}
 use Rattle.engine.proofs.Arcs.{on-bool}
 
 -- ---- the one way to write a number
-
-even-odd : (m t : ℕ) → m % 2 ≡ 1 → m ≡ 2 * t → ⊥
-even-odd m t o h = omega arith
-
-odd-pow : (m n a b : ℕ) → m % 2 ≡ 1 → n % 2 ≡ 1 → m * 2 ^ a ≡ n * 2 ^ b → (m ≡ n) × (a ≡ b)
-odd-pow m n zero zero o p h = (sym (mul-one m) ∙ h ∙ mul-one n, refl)
-odd-pow m n zero (suc b) o p h = absurd (even-odd m (n * 2 ^ b) o (sym (mul-one m) ∙ h ∙ ap (λ (x : ℕ). n * x) (pow-succ' 2 b) ∙ mul-left-comm n 2 (2 ^ b)))
-odd-pow m n (suc a) zero o p h = absurd (even-odd n (m * 2 ^ a) p (sym (mul-one n) ∙ sym h ∙ ap (λ (x : ℕ). m * x) (pow-succ' 2 a) ∙ mul-left-comm m 2 (2 ^ a)))
-odd-pow m n (suc a) (suc b) o p h =
-    let r = odd-pow m n a b o p (eq-of-mul-eq-mul-right 2 (zero-lt-suc 1) (m * 2 ^ a) (n * 2 ^ b)
-    (mul-assoc m (2 ^ a) 2 ∙ ap (λ (x : ℕ). m * x) (sym (pow-suc 2 a)) ∙ h ∙ ap (λ (x : ℕ). n * x) (pow-suc 2 b) ∙ sym (mul-assoc n (2 ^ b) 2))) in
-    (r .0, ap suc (r .1))
 
 -- 2 ^ e as a fraction of powers
 abbrev over : ℤ → ℕ

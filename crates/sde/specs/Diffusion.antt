@@ -8,9 +8,9 @@ use lib.IntN.{pos}
 use lib.ListN.{getD}
 use lib.Ieee.{Float, nan, binary64, add, sub, mul, div, lt, le, eq}
 use Rattle.net.specs.Net.{Place, Arc, Take, Transition, Net, pick, zero64, amount, rateOf}
-use Rattle.combinations.specs.Combinations.{combinationsReal}
+use Rattle.combinations.specs.Real as Real
 use Rattle.root.specs.Root.{rootOf}
-use Rattle.rules.specs.Propensity.{float, asFloat}
+use Rattle.rules.specs.Propensity.{float}
 use Rattle.rules.specs.Step.{Answer, refused, given}
 use Rattle.averages.specs.Request.{Request, seedOf, instant}
 use Rattle.averages.specs.Request as Request
@@ -46,9 +46,13 @@ kineticOf (k ∷ ks) = pick (k .kinetic) (k ∷ kineticOf ks) (kineticOf ks)
 abbrev pub at : List Float → ℕ → Float
 at x p = getD x p nan
 
--- `combinations_real` as a float: it refuses nothing here, since in an accepted net a kinetic weight is at most 16
+-- The float that `combinations_real` gives. It refuses nothing here, since in an accepted net a kinetic weight is at most 16.
+abbrev pub asFloat : Real.Answer → Float
+asFloat (Real.value v) = v
+asFloat (Real.refused c) = nan
+
 abbrev pub waysAt : Float → ℕ → Float
-waysAt v w = asFloat (combinationsReal v (pos w))
+waysAt v w = asFloat (Real.combinationsReal v (pos w))
 
 -- `factored` and `propensity` are those of rules/specs/Propensity at a state of real numbers: the rate times `combinations_real` over kinetic takes, take
 -- by take, on top of a; 0 as soon as the product is 0 or below

@@ -12,7 +12,7 @@ ghost use Rattle.net.specs.Record.{lent};
 ghost use Rattle.net.specs.Sound as Sound;
 ghost use Rattle.sde.specs.Diffusion as Diffusion;
 ghost use Rattle.sde.specs.Slots as Slots;
-use combinations::Ways;
+use combinations::RealWays;
 use engine::marking;
 
 // How many ways there are to choose w of x, as a float.
@@ -22,8 +22,8 @@ fn ways(x: f64, w: u64) -> f64
 {
     let answer = combinations::combinations_real(x, w as i64);
     match answer {
-        Ways::Value(v) => v,
-        Ways::Refused => 0.0 / 0.0,
+        RealWays::Value(v) => v,
+        RealWays::Refused => 0.0 / 0.0,
     }
 }
 

@@ -3,7 +3,7 @@
 -- that follows from here; a step carries it on or ends it (rules, proofs/PlayLaws).
 use Prim.Native.Nat.{ℕ, zero, suc, _+_, _-_, _*_, _≤_, _<_, max}
 use mathlib.Core.Path.{_≡_, refl, sym, ap, subst, _∙_}
-use mathlib.Core.Bool.{true, false}
+use mathlib.Core.Bool.{Bool, true, false}
 use mathlib.Core.List.{List, [], _∷_, _++_, append-nil}
 use mathlib.Core.Logic.{inl}
 use native.Mathlib.Omega.{arith}
@@ -134,23 +134,28 @@ module _ (places : ℕ) (xs : List Float) (clock : Float) (m : Marking) (next ne
 
 -- ---- between two steps
 
--- these counts have been shown, and the whole is they and the run from here, with so many steps left
+-- a step counts once
+pub one-at-most : (b : Bool) → pick b 1 0 ≤ 1
+one-at-most true = omega arith
+one-at-most false = omega arith
+
+-- these counts have been shown, so many of the steps done add a rounded propensity, and the whole is this and the run from here, with so many steps left
 pub record SoFar (n : Net) (last : Float) (xs : List Float) (places : ℕ) (whole : Answer Played) (from most₀ : ℕ) (t₀ : List Float)
-    (left done next most : ℕ) (s : State) (t : List Float) : Type 0 where
+    (left done rounds next most : ℕ) (s : State) (t : List Float) : Type 0 where
   pub shown : List Marking
   pub listed : Listed places (length xs) from next most₀ most shown t₀ t
   pub within : next ≤ length xs
-  pub rest : whole ≡ addDone shown (length shown) done (play n last left (drop next xs) s)
+  pub rest : whole ≡ addDone shown (length shown) rounds done (play n last left (drop next xs) s)
 
 pub so-far-none : (n : Net) (last : Float) (xs : List Float) (places left next most : ℕ) (s : State) (t : List Float) → next ≤ length xs
-    → SoFar n last xs places (play n last left (drop next xs) s) next most t (left - 0) 0 next most s t
+    → SoFar n last xs places (play n last left (drop next xs) s) next most t (left - 0) 0 0 next most s t
 so-far-none n last xs places left next most s t h =
     let e : left ≡ left - 0 = omega arith in
     record {
       shown = [];
       listed = listed-none places (length xs) next most t;
       within = h;
-      rest = sym (Rule.addDone-none (play n last left (drop next xs) s)) ∙ ap (λ (l : ℕ). addDone [] 0 0 (play n last l (drop next xs) s)) e;
+      rest = sym (Rule.addDone-none (play n last left (drop next xs) s)) ∙ ap (λ (l : ℕ). addDone [] 0 0 0 (play n last l (drop next xs) s)) e;
     }
 
 -- the loop ends with this
@@ -159,26 +164,26 @@ WalkedTo xs places whole from most₀ t₀ m t w end = WalkBy whole xs m (λ (sh
 
 module _ {n : Net} {last : Float} {xs : List Float} {places : ℕ} {whole : Answer Played} {from most₀ : ℕ} {t₀ : List Float} where
   -- no step more: the clock has reached the last instant, or the limit has been reached
-  module _ (w : Walked) {left : ℕ} {s : State} {t : List Float} (f : SoFar n last xs places whole from most₀ t₀ left (w .steps) (w .next) (w .peak) s t)
+  module _ (w : Walked) {left : ℕ} {s : State} {t : List Float} (f : SoFar n last xs places whole from most₀ t₀ left (w .steps) (w .rounded) (w .next) (w .peak) s t)
       (g : s .generator ≡ words (w .rng .s)) where
     pub at-last : lt (s .clock) last ≡ false → WalkedTo xs places whole from most₀ t₀ (s .counts) t w Reached
     at-last h =
         ends Reached reached s (f .shown) refl refl g (f .within) (f .listed)
-        (f .rest ∙ ap (addDone (f .shown) (length (f .shown)) (w .steps)) (Rule.play-over n last (drop (w .next) xs) s left h))
+        (f .rest ∙ ap (addDone (f .shown) (length (f .shown)) (w .rounded) (w .steps)) (Rule.play-over n last (drop (w .next) xs) s left h))
 
     pub at-limit : left ≡ 0 → lt (s .clock) last ≡ true → WalkedTo xs places whole from most₀ t₀ (s .counts) t w Spent
     at-limit z h =
         ends Spent spent s (f .shown) refl refl g (f .within) (f .listed)
-        (f .rest ∙ ap (λ (l : ℕ). addDone (f .shown) (length (f .shown)) (w .steps) (play n last l (drop (w .next) xs) s)) z
-        ∙ ap (addDone (f .shown) (length (f .shown)) (w .steps)) (Rule.play-spent n last (drop (w .next) xs) s h))
+        (f .rest ∙ ap (λ (l : ℕ). addDone (f .shown) (length (f .shown)) (w .rounded) (w .steps) (play n last l (drop (w .next) xs) s)) z
+        ∙ ap (addDone (f .shown) (length (f .shown)) (w .rounded) (w .steps)) (Rule.play-spent n last (drop (w .next) xs) s h))
 
   -- a step
-  module _ {left done next most : ℕ} {s : State} {t : List Float} (f : SoFar n last xs places whole from most₀ t₀ left done next most s t)
+  module _ {left done rounds next most : ℕ} {s : State} {t : List Float} (f : SoFar n last xs places whole from most₀ t₀ left done rounds next most s t)
       (k : ℕ) (one : left ≡ suc k) (below : lt (s .clock) last ≡ true) where
-    carried : (r : Answer Played) → play n last (suc k) (drop next xs) s ≡ r → whole ≡ addDone (f .shown) (length (f .shown)) done r
+    carried : (r : Answer Played) → play n last (suc k) (drop next xs) s ≡ r → whole ≡ addDone (f .shown) (length (f .shown)) rounds done r
     carried r e =
-        f .rest ∙ ap (λ (l : ℕ). addDone (f .shown) (length (f .shown)) done (play n last l (drop next xs) s)) one
-        ∙ ap (addDone (f .shown) (length (f .shown)) done) e
+        f .rest ∙ ap (λ (l : ℕ). addDone (f .shown) (length (f .shown)) rounds done (play n last l (drop next xs) s)) one
+        ∙ ap (addDone (f .shown) (length (f .shown)) rounds done) e
 
     -- the clock reading of a step, at which the state is u
     module _ (u : State) {next′ most′ : ℕ} {t′ : List Float} (v : ShownBy places xs (u .clock) (u .counts) next next′ most most′ t t′) where
@@ -199,53 +204,56 @@ module _ {n : Net} {last : Float} {xs : List Float} {places : ℕ} {whole : Answ
       now-left : beyond (u .clock) (drop next xs) ≡ drop next′ xs
       now-left = shown-beyond places xs (u .clock) (u .counts) next next′ most most′ t t′ v
 
-      on-reading : (r : Answer Played) → play n last (suc k) (drop next xs) s ≡ stepAnd (u .counts) seen r → whole ≡ addDone now-shown (length now-shown) (done + 1) r
-      on-reading r e =
-          carried (stepAnd (u .counts) seen r) e
-          ∙ Rule.addDone-step (f .shown) (length (f .shown)) done (u .counts) seen r
-          ∙ ap (λ (i : ℕ). addDone now-shown i (done + 1) r) now-many
+      on-reading : (b : Bool) (r : Answer Played) → play n last (suc k) (drop next xs) s ≡ stepAnd b (u .counts) seen r
+          → whole ≡ addDone now-shown (length now-shown) (rounds + pick b 1 0) (done + 1) r
+      on-reading b r e =
+          carried (stepAnd b (u .counts) seen r) e
+          ∙ Rule.addDone-step (f .shown) (length (f .shown)) rounds done b (u .counts) seen r
+          ∙ ap (λ (i : ℕ). addDone now-shown i (rounds + pick b 1 0) (done + 1) r) now-many
 
-    pub goes-on : {same : Type 0} {next′ most′ : ℕ} {s′ : State} {t′ : List Float}
-        → StepBy (step n s) s last (λ (u : State). ShownBy places xs (u .clock) (u .counts) next next′ most most′ t t′) same s′ Ending.GoesOn
-        → SoFar n last xs places whole from most₀ t₀ k (done + 1) next′ most′ s′ t′
-    goes-on {same} {next′} {most′} {s′} {t′} (goesOn js u ev p q v z) =
+    pub goes-on : {same : Type 0} {next′ most′ : ℕ} {s′ : State} {t′ : List Float} {b : Bool} (rounds′ : ℕ) → rounds′ ≡ rounds + pick b 1 0
+        → StepBy (step n s) s last (λ (u : State). ShownBy places xs (u .clock) (u .counts) next next′ most most′ t t′) same s′ b Ending.GoesOn
+        → SoFar n last xs places whole from most₀ t₀ k (done + 1) rounds′ next′ most′ s′ t′
+    goes-on {same} {next′} {most′} {s′} {t′} {b} rounds′ ro (goesOn js u ev p q v z) =
         record {
           shown = now-shown u v;
           listed = now-listed u v;
           within = shown-within places xs (u .clock) (u .counts) next next′ most most′ t t′ v (f .within);
-          rest = on-reading u v (play n last k (beyond (u .clock) (drop next xs)) (ev .leaves)) (Rule.play-event n last (drop next xs) s k below js u (given ev) p q)
-              ∙ ap (λ (zs : List Float). addDone (now-shown u v) (length (now-shown u v)) (done + 1) (play n last k zs (ev .leaves))) (now-left u v)
-              ∙ ap (λ (x : State). addDone (now-shown u v) (length (now-shown u v)) (done + 1) (play n last k (drop next′ xs) x)) z;
+          rest = on-reading u v b (play n last k (beyond (u .clock) (drop next xs)) (ev .leaves)) (Rule.play-event n last (drop next xs) s k below b js u (given ev) p q)
+              ∙ ap (λ (zs : List Float). addDone (now-shown u v) (length (now-shown u v)) (rounds + pick b 1 0) (done + 1) (play n last k zs (ev .leaves))) (now-left u v)
+              ∙ ap (λ (x : State). addDone (now-shown u v) (length (now-shown u v)) (rounds + pick b 1 0) (done + 1) (play n last k (drop next′ xs) x)) z
+              ∙ ap (λ (i : ℕ). addDone (now-shown u v) (length (now-shown u v)) i (done + 1) (play n last k (drop next′ xs) s′)) (sym ro);
         }
 
-    module _ (w : Walked) {s′ : State} {t′ : List Float} (st : w .steps ≡ done + 1) (g : s′ .generator ≡ words (w .rng .s)) where
-      pub past-last : {same : Type 0} → StepBy (step n s) s last (λ (u : State). ShownBy places xs (u .clock) (u .counts) next (w .next) most (w .peak) t t′) same s′ Ending.Reached
+    module _ (w : Walked) {s′ : State} {t′ : List Float} {b : Bool} (st : w .steps ≡ done + 1) (ro : w .rounded ≡ rounds + pick b 1 0)
+        (g : s′ .generator ≡ words (w .rng .s)) where
+      pub past-last : {same : Type 0} → StepBy (step n s) s last (λ (u : State). ShownBy places xs (u .clock) (u .counts) next (w .next) most (w .peak) t t′) same s′ b Ending.Reached
           → WalkedTo xs places whole from most₀ t₀ (s′ .counts) t′ w Reached
       past-last (passed js ev p q v) =
           ends Reached reached s′ (now-shown s′ v) refl refl g (shown-within places xs (s′ .clock) (s′ .counts) next (w .next) most (w .peak) t t′ v (f .within)) (now-listed s′ v)
-          (on-reading s′ v (given (over reached s′ (beyond (s′ .clock) (drop next xs)))) (Rule.play-past n last (drop next xs) s k below js s′ ev p q)
-          ∙ ap (λ (zs : List Float). addDone (now-shown s′ v) (length (now-shown s′ v)) (done + 1) (given (over reached s′ zs))) (now-left s′ v)
-          ∙ ap (λ (i : ℕ). addDone (now-shown s′ v) (length (now-shown s′ v)) i (given (over reached s′ (drop (w .next) xs)))) (sym st))
+          (on-reading s′ v b (given (over reached s′ (beyond (s′ .clock) (drop next xs)))) (Rule.play-past n last (drop next xs) s k below b js s′ ev p q)
+          ∙ ap (λ (zs : List Float). addDone (now-shown s′ v) (length (now-shown s′ v)) (rounds + pick b 1 0) (done + 1) (given (over reached s′ zs))) (now-left s′ v)
+          ∙ (λ i. addDone (now-shown s′ v) (length (now-shown s′ v)) (sym ro i) (sym st i) (given (over reached s′ (drop (w .next) xs)))))
 
-      pub nothing-left : {shows : State → Type 0} → StepBy (step n s) s last shows (NotShown next (w .next) most (w .peak) t t′) s′ Ending.Quiet
+      pub nothing-left : {shows : State → Type 0} → StepBy (step n s) s last shows (NotShown next (w .next) most (w .peak) t t′) s′ b Ending.Quiet
           → WalkedTo xs places whole from most₀ t₀ (s′ .counts) t′ w Quiet
-      nothing-left (no-more p b v) =
+      nothing-left (no-more p same v) =
           let sh = f .shown in
           let a : length sh + 0 ≡ length sh = omega arith in
-          ends Quiet quiet s sh refl (sym (ap (λ (x : State). x .counts) b)) (sym (ap (λ (x : State). x .generator) b) ∙ g)
+          ends Quiet quiet s sh refl (sym (ap (λ (x : State). x .counts) same)) (sym (ap (λ (x : State). x .generator) same) ∙ g)
           (rw (v .next) (f .within))
           (rw (v .next, v .peak, v .table) (f .listed))
-          (carried (stepAnd (s .counts) [] (given (over quiet s (drop next xs)))) (Rule.play-still n last (drop next xs) s k below p)
-          ∙ Rule.addDone-step sh (length sh) done (s .counts) [] (given (over quiet s (drop next xs)))
-          ∙ ap (λ (l : List Marking). addDone l (length sh + 0) (done + 1) (given (over quiet s (drop next xs)))) (append-nil sh)
-          ∙ ap (λ (i : ℕ). addDone sh i (done + 1) (given (over quiet s (drop next xs)))) a
-          ∙ ap (λ (i : ℕ). addDone sh (length sh) (done + 1) (given (over quiet s (drop i xs)))) (sym (v .next))
-          ∙ ap (λ (i : ℕ). addDone sh (length sh) i (given (over quiet s (drop (w .next) xs)))) (sym st))
+          (carried (stepAnd b (s .counts) [] (given (over quiet s (drop next xs)))) (Rule.play-still n last (drop next xs) s k below b p)
+          ∙ Rule.addDone-step sh (length sh) rounds done b (s .counts) [] (given (over quiet s (drop next xs)))
+          ∙ ap (λ (l : List Marking). addDone l (length sh + 0) (rounds + pick b 1 0) (done + 1) (given (over quiet s (drop next xs)))) (append-nil sh)
+          ∙ ap (λ (i : ℕ). addDone sh i (rounds + pick b 1 0) (done + 1) (given (over quiet s (drop next xs)))) a
+          ∙ ap (λ (i : ℕ). addDone sh (length sh) (rounds + pick b 1 0) (done + 1) (given (over quiet s (drop i xs)))) (sym (v .next))
+          ∙ (λ i. addDone sh (length sh) (sym ro i) (sym st i) (given (over quiet s (drop (w .next) xs)))))
 
-    pub turned-down : (w : Walked) {shows : State → Type 0} {same : Type 0} {m : Marking} {s′ : State} {t′ : List Float} (c : ℕ)
-        → StepBy (step n s) s last shows same s′ (Ending.Refused c) → WalkedTo xs places whole from most₀ t₀ m t′ w (Refused c)
+    pub turned-down : (w : Walked) {shows : State → Type 0} {same : Type 0} {m : Marking} {s′ : State} {t′ : List Float} {b : Bool} (c : ℕ)
+        → StepBy (step n s) s last shows same s′ b (Ending.Refused c) → WalkedTo xs places whole from most₀ t₀ m t′ w (Refused c)
     turned-down w c (starting p) = refuses c (carried (refused c) (Rule.play-refused n last (drop next xs) s k below c p))
-    turned-down w c (putting js u p q) = refuses c (carried (refused c) (Rule.play-event n last (drop next xs) s k below js u (refused c) p q))
+    turned-down w {b = b} c (putting js u p q) = refuses c (carried (refused c) (Rule.play-event n last (drop next xs) s k below b js u (refused c) p q))
 
 -- ---- the whole path
 
@@ -270,10 +278,10 @@ settles Spent e next n r p h = let q : e ≡ spent = cc in rw q h
 settles Reached e next n r p h = let q : e ≡ reached = cc in rw q
 settles (Refused c) e next n r p h = let z : _≡_ {A = ℕ} 0 1 = cc in absurd (omega arith)
 
-same-call : {e e′ : Answer End} {a a′ b b′ d d′ : ℕ} {g g′ : Generator} {t t′ : List Float} → e ≡ e′ → a ≡ a′ → b ≡ b′ → d ≡ d′ → g ≡ g′ → t ≡ t′
-    → _≡_ {A = Call} (record { end = e; steps = a; settled = b; peak = d; generator = g; table = t })
-    (record { end = e′; steps = a′; settled = b′; peak = d′; generator = g′; table = t′ })
-same-call p q r s x y = λ i. record { end = p i; steps = q i; settled = r i; peak = s i; generator = x i; table = y i }
+same-call : {e e′ : Answer End} {a a′ b b′ d d′ c c′ : ℕ} {g g′ : Generator} {t t′ : List Float} → e ≡ e′ → a ≡ a′ → b ≡ b′ → d ≡ d′ → c ≡ c′ → g ≡ g′ → t ≡ t′
+    → _≡_ {A = Call} (record { end = e; steps = a; settled = b; peak = d; rounded = c; generator = g; table = t })
+    (record { end = e′; steps = a′; settled = b′; peak = d′; rounded = c′; generator = g′; table = t′ })
+same-call p q r s z x y = λ i. record { end = p i; steps = q i; settled = r i; peak = s i; rounded = z i; generator = x i; table = y i }
 
 -- a table that shows a list from the first instant to the last
 module _ (places n most : ℕ) (all : List Marking) (t₀ t : List Float) (f : Listed places n 0 n 0 most all t₀ t) where
@@ -293,14 +301,14 @@ module _ (n : Net) (g : Generator) (xs : List Float) (k places next most : ℕ) 
   abbrev pub to-come : Answer Played
   to-come = play n last k (drop next xs) (state zero64 m [] g)
 
-  whole-path : worked n g xs k ≡ answerOf (length xs) (addDone (alike m (upTo zero64 xs)) (length (upTo zero64 xs)) 0 to-come)
+  whole-path : worked n g xs k ≡ answerOf (length xs) (addDone (alike m (upTo zero64 xs)) (length (upTo zero64 xs)) 0 0 to-come)
   whole-path =
       played-path n g xs k rise
       ∙ Rule.asPath-done n xs (play n (lastOf xs) k (beyond zero64 xs) (beginning n g))
-      ∙ ap (λ (l : Float). answerOf (length xs) (addDone (alike (initialCounts n) (upTo zero64 xs)) (length (upTo zero64 xs)) 0 (play n l k (beyond zero64 xs) (beginning n g)))) (sym final)
-      ∙ ap (λ (ys : List Float). answerOf (length xs) (addDone (alike (initialCounts n) (upTo zero64 xs)) (length (upTo zero64 xs)) 0 (play n last k ys (beginning n g))))
+      ∙ ap (λ (l : Float). answerOf (length xs) (addDone (alike (initialCounts n) (upTo zero64 xs)) (length (upTo zero64 xs)) 0 0 (play n l k (beyond zero64 xs) (beginning n g)))) (sym final)
+      ∙ ap (λ (ys : List Float). answerOf (length xs) (addDone (alike (initialCounts n) (upTo zero64 xs)) (length (upTo zero64 xs)) 0 0 (play n last k ys (beginning n g))))
       (shown-beyond places xs zero64 m 0 next 0 most t₀ t₁ v)
-      ∙ ap (λ (x : Marking). answerOf (length xs) (addDone (alike x (upTo zero64 xs)) (length (upTo zero64 xs)) 0 (play n last k (drop next xs) (state zero64 x [] g)))) (sym start)
+      ∙ ap (λ (x : Marking). answerOf (length xs) (addDone (alike x (upTo zero64 xs)) (length (upTo zero64 xs)) 0 0 (play n last k (drop next xs) (state zero64 x [] g)))) (sym start)
 
   module _ (w : Walked) (m′ : Marking) (t₂ : List Float) where
     abbrev pub Walks : PathEnd → Type 0
@@ -314,14 +322,14 @@ module _ (n : Net) (g : Generator) (xs : List Float) (k places next most : ℕ) 
     pub answered : (end : PathEnd) → NotRefused end → Walks end → (most′ : ℕ) (t₃ : List Float)
         → ShownUntil places (length xs) m′ (w .next) (length xs) (w .peak) most′ t₂ t₃ → places * length xs ≤ length t₀
         → (r : PathAnswer) → r .end ≡ end → r .steps ≡ w .steps → r .settled ≡ settledAt end (w .next) (length xs) → r .peak ≡ most′
-        → r .generator ≡ w .rng → callOf r t₃ ≡ played places (length xs) g t₀ (worked n g xs k)
-    answered end nr (refuses c p) most′ t₃ u fits r e₁ e₂ e₃ e₄ e₅ = absurd nr
-    answered end nr (ends _ e s sh p q x inside l h) most′ t₃ u fits r e₁ e₂ e₃ e₄ e₅ =
+        → r .rounded ≡ w .rounded → r .generator ≡ w .rng → callOf r t₃ ≡ played places (length xs) g t₀ (worked n g xs k)
+    answered end nr (refuses c p) most′ t₃ u fits r e₁ e₂ e₃ e₄ e₅ e₆ = absurd nr
+    answered end nr (ends _ e s sh p q x inside l h) most′ t₃ u fits r e₁ e₂ e₃ e₄ e₅ e₆ =
         same-call (ap endOf e₁ ∙ p) (omega (arith, e₂)) (e₃ ∙ settles end e (w .next) (length xs) (length (upTo zero64 xs) + (length sh + 0)) p many)
-        (e₄ ∙ listed-peak places (length xs) most′ all t₀ t₃ total) (ap (λ y. words (y .s)) e₅ ∙ sym x)
+        (e₄ ∙ listed-peak places (length xs) most′ all t₀ t₃ total) (omega (arith, e₅)) (ap (λ y. words (y .s)) e₆ ∙ sym x)
         (listed-table places (length xs) most′ all t₀ t₃ total fits)
         ∙ sym (ap (played places (length xs) g t₀) (whole-path
-        ∙ ap (λ (a : Answer Played). answerOf (length xs) (addDone (alike m (upTo zero64 xs)) (length (upTo zero64 xs)) 0 a)) h))
+        ∙ ap (λ (a : Answer Played). answerOf (length xs) (addDone (alike m (upTo zero64 xs)) (length (upTo zero64 xs)) 0 0 a)) h))
       where
         ys : List Float
         ys = drop (w .next) xs
@@ -345,15 +353,15 @@ module _ (n : Net) (g : Generator) (xs : List Float) (k places next most : ℕ) 
     -- a refusal leaves the cells of the answer +0
     pub refused-path : (c : ℕ) (end : PathEnd) → end ≡ Refused c → Walks end → length t₂ ≡ length t₁ → Stay places (length xs) t₁ t₂
         → (t₃ : List Float) → t₃ ≡ cleared (places * length xs) t₂
-        → (r : PathAnswer) → r .end ≡ Refused c → r .steps ≡ 0 → r .settled ≡ 0 → r .peak ≡ 0 → words (r .generator .s) ≡ g
+        → (r : PathAnswer) → r .end ≡ Refused c → r .steps ≡ 0 → r .settled ≡ 0 → r .peak ≡ 0 → r .rounded ≡ 0 → words (r .generator .s) ≡ g
         → callOf r t₃ ≡ played places (length xs) g t₀ (worked n g xs k)
-    refused-path c end d (refuses c′ p) long stay t₃ z r e₁ e₂ e₃ e₄ e₅ =
+    refused-path c end d (refuses c′ p) long stay t₃ z r e₁ e₂ e₃ e₄ e₅ e₆ =
         let b : c ≡ c′ = cc in
-        same-call (ap endOf e₁ ∙ ap refused b) e₂ e₃ e₄ e₅
+        same-call (ap endOf e₁ ∙ ap refused b) e₂ e₃ e₄ e₅ e₆
         (z ∙ cleared-stay (places * length xs) t₀ t₂ (long ∙ v .cells .long) (λ i a. stay i a ∙ v .cells .further i a))
         ∙ sym (ap (played places (length xs) g t₀) (whole-path
-        ∙ ap (λ (a : Answer Played). answerOf (length xs) (addDone (alike m (upTo zero64 xs)) (length (upTo zero64 xs)) 0 a)) p))
-    refused-path c end d (ends _ e s sh p q x inside l h) long stay t₃ z r e₁ e₂ e₃ e₄ e₅ =
+        ∙ ap (λ (a : Answer Played). answerOf (length xs) (addDone (alike m (upTo zero64 xs)) (length (upTo zero64 xs)) 0 0 a)) p))
+    refused-path c end d (ends _ e s sh p q x inside l h) long stay t₃ z r e₁ e₂ e₃ e₄ e₅ e₆ =
         let i : refused c ≡ given e = sym (ap endOf d) ∙ p in
         let y : _≡_ {A = ℕ} 0 1 = cc in
         absurd (omega arith)

@@ -19,6 +19,7 @@ use Rattle.rng.specs.Xoshiro.{step as drawn, uniform}
 use Rattle.rules.specs.Jump.{chosen}
 use Rattle.rules.specs.Moves.{Entry, completed, fired, withoutArcs, transition, taking, putting, move}
 use Rattle.rules.specs.Propensity.{propensities, total}
+use Rattle.rules.specs.Exact.{addsRounded}
 use Rattle.rules.specs.Timers.{Timer, first, others}
 use Rattle.rules.specs.Step.{State, state, Answer, refused, given, starts, waiting, drawnFor, Next, nothingLeft, race, completion, next, Event, countsFit, event, complete, fire, raced, Step, still, sets, goOn, afterStarts, step}
 use Rattle.rules.proofs.Detours.{still-same, not-drawn}
@@ -180,31 +181,32 @@ runs-one a0 t dt [] d h = absurd (go (le a0 zero64) h)
     go false e = let z : _≡_ {A = ℕ} 0 1 = cc in omega arith
 runs-one a0 t dt (y ∷ ys) d h = omega arith
 
-went : (n : Net) (js : List ℕ) (t : Float) (m : Marking) (q : List Timer) (g : Generator) (ps : List Float) (sum : Float) (xs : List Float) (a0 dt : Float) (h : Generator) (x : Next)
-    → xs ≡ ps → a0 ≡ sum → dt ≡ waiting a0 g → h ≡ drawnFor a0 g → x ≡ next a0 t dt q
-    → goOn n js (state t m q (drawnFor sum g)) sum ps (next sum t (waiting sum g) q) ≡ goOn n js (state t m q h) a0 xs x
-went n js t m q g ps sum xs a0 dt h x each all wait draws comes = rw (each, comes, draws, wait, all)
+went : (n : Net) (js : List ℕ) (t : Float) (m : Marking) (q : List Timer) (g : Generator) (ps : List Float) (sum : Float) (rounds : Bool) (xs : List Float) (a0 : Float)
+    (rounded : Bool) (dt : Float) (h : Generator) (x : Next)
+    → xs ≡ ps → a0 ≡ sum → rounded ≡ rounds → dt ≡ waiting a0 g → h ≡ drawnFor a0 g → x ≡ next a0 t dt q
+    → goOn n rounds js (state t m q (drawnFor sum g)) sum ps (next sum t (waiting sum g) q) ≡ goOn n rounded js (state t m q h) a0 xs x
+went n js t m q g ps sum rounds xs a0 rounded dt h x each all adds wait draws comes = rw (each, adds, comes, draws, wait, all)
 
 -- the step after the starts: it goes on to x; where that is nothing the state is that before, and where it is a completion a timer runs
-pub record Going (n : NetRecord) (before : State) (counts : List ℕ) (ats : List Float) (whos : List ℕ) (k : ℕ) (props : List Float) (a0 : Float) (ws : List ℕ) (x : Next) : Type 0 where
+pub record Going (n : NetRecord) (before : State) (counts : List ℕ) (ats : List Float) (whos : List ℕ) (k : ℕ) (props : List Float) (a0 : Float) (rounded : Bool) (ws : List ℕ) (x : Next) : Type 0 where
   pub who : List ℕ
-  pub is : step (readable n) before ≡ given (goOn (readable n) who (stateOf n counts ats whos k (before .clock) ws) a0 (take (n .transitions) props) x)
+  pub is : step (readable n) before ≡ given (goOn (readable n) rounded who (stateOf n counts ats whos k (before .clock) ws) a0 (take (n .transitions) props) x)
   pub same : x ≡ nothingLeft → stateOf n counts ats whos k (before .clock) ws ≡ before
   pub runs : (d : Float) → x ≡ completion d → 0 < length (timers ats whos k)
 
 module _ (n : NetRecord) (before : State) (counts : List ℕ) (ats : List Float) (whos : List ℕ) (r : Started)
     (s : StartsAre (starts (readable n) before) (marking (n .places) counts) (timers ats whos (r .timers)) r) where
-  pub advance-full : r .full ≡ true → (u : State) (props : List Float) (a0 : Float) (b : Bool) → AdvancedBy n (step (readable n) before) before u props a0 b Full
-  advance-full h u props a0 b = Stepping.full (ap (afterStarts (readable n) before) (go s))
+  pub advance-full : r .full ≡ true → (u : State) (props : List Float) (a0 : Float) (rounded b : Bool) → AdvancedBy n (step (readable n) before) before u props a0 rounded b Full
+  advance-full h u props a0 rounded b = Stepping.full (ap (afterStarts (readable n) before) (go s))
     where
       go : StartsAre (starts (readable n) before) (marking (n .places) counts) (timers ats whos (r .timers)) r → starts (readable n) before ≡ refused Refusal.tooManyTimers
       go (full a e) = e
       go (done who a e b) = absurd (true≢false (sym h ∙ a))
 
-  pub going : r .full ≡ false → length (before .timers) ≤ 256 → (props : List Float) (a0 : Float) → Totalled n counts props a0 → (dt : Float) (ws : List ℕ)
+  pub going : r .full ≡ false → length (before .timers) ≤ 256 → (props : List Float) (a0 : Float) (rounded : Bool) → Totalled n counts props a0 → rounded ≡ addsRounded (readable n) (marking (n .places) counts) → (dt : Float) (ws : List ℕ)
       → dt ≡ waiting a0 (before .generator) → words ws ≡ drawnFor a0 (before .generator) → (x : Next) → x ≡ next a0 (before .clock) dt (timers ats whos (r .timers))
-      → Going n before counts ats whos (r .timers) props a0 ws x
-  going h few props a0 all dt ws wait draws x comes = go s
+      → Going n before counts ats whos (r .timers) props a0 rounded ws x
+  going h few props a0 rounded all adds dt ws wait draws x comes = go s
     where
       m : Marking
       m = marking (n .places) counts
@@ -224,33 +226,34 @@ module _ (n : NetRecord) (before : State) (counts : List ℕ) (ats : List Float)
           ∙ ap (λ (y : List Timer). state (before .clock) (before .counts) y (words ws)) (l .0 ∙ sym (u .1))
           ∙ ap (λ (y : Generator). state (before .clock) (before .counts) (before .timers) y) (draws ∙ not-drawn a0 (before .generator) (l .1))
 
-      go : StartsAre (starts (readable n) before) m q r → Going n before counts ats whos (r .timers) props a0 ws x
+      go : StartsAre (starts (readable n) before) m q r → Going n before counts ats whos (r .timers) props a0 rounded ws x
       go (full a e) = absurd (true≢false (sym a ∙ h))
       go (done who a e b) =
           record {
             who = who;
             is = ap (afterStarts (readable n) before) e
                 ∙ ap given
-                (went (readable n) who (before .clock) m q (before .generator) ps (total ps) (take (n .transitions) props) a0 dt (words ws) x (all .each) (all .all) wait draws comes);
+                (went (readable n) who (before .clock) m q (before .generator) ps (total ps) (addsRounded (readable n) m) (take (n .transitions) props) a0
+                rounded dt (words ws) x (all .each) (all .all) adds wait draws comes);
             same = as-before who e;
             runs = λ d z. runs-one a0 (before .clock) dt q d (sym z ∙ comes);
           }
 
-module _ {n : NetRecord} {before : State} {counts : List ℕ} {ats : List Float} {whos : List ℕ} {k : ℕ} {props : List Float} {a0 : Float} {ws : List ℕ} {x : Next}
-    (w : Going n before counts ats whos k props a0 ws x) where
+module _ {n : NetRecord} {before : State} {counts : List ℕ} {ats : List Float} {whos : List ℕ} {k : ℕ} {props : List Float} {a0 : Float} {rounded : Bool} {ws : List ℕ}
+    {x : Next} (w : Going n before counts ats whos k props a0 rounded ws x) where
   at-next : (y : Next) → x ≡ y
-      → step (readable n) before ≡ given (goOn (readable n) (w .who) (stateOf n counts ats whos k (before .clock) ws) a0 (take (n .transitions) props) y)
+      → step (readable n) before ≡ given (goOn (readable n) rounded (w .who) (stateOf n counts ats whos k (before .clock) ws) a0 (take (n .transitions) props) y)
   at-next y e =
-      w .is ∙ ap (λ (z : Next). given (goOn (readable n) (w .who) (stateOf n counts ats whos k (before .clock) ws) a0 (take (n .transitions) props) z)) e
+      w .is ∙ ap (λ (z : Next). given (goOn (readable n) rounded (w .who) (stateOf n counts ats whos k (before .clock) ws) a0 (take (n .transitions) props) z)) e
 
-  pub advance-nothing : x ≡ nothingLeft → AdvancedBy n (step (readable n) before) before (stateOf n counts ats whos k (before .clock) ws) props a0 false Nothing
+  pub advance-nothing : x ≡ nothingLeft → AdvancedBy n (step (readable n) before) before (stateOf n counts ats whos k (before .clock) ws) props a0 rounded false Nothing
   advance-nothing e = Stepping.nothing (at-next nothingLeft e) (w .same e)
 
   pub advance-race : (d : Float) → x ≡ race d
-      → AdvancedBy n (step (readable n) before) before (stateOf n counts ats whos k (add binary64 (before .clock) d) ws) props a0 false Follows
+      → AdvancedBy n (step (readable n) before) before (stateOf n counts ats whos k (add binary64 (before .clock) d) ws) props a0 rounded false Follows
   advance-race d e = Stepping.event (w .who) (λ z. absurd (true≢false (sym z))) (at-next (race d) e)
 
-  pub advance-completion : (d : Float) → x ≡ completion d → AdvancedBy n (step (readable n) before) before (stateOf n counts ats whos k d ws) props a0 true Follows
+  pub advance-completion : (d : Float) → x ≡ completion d → AdvancedBy n (step (readable n) before) before (stateOf n counts ats whos k d ws) props a0 rounded true Follows
   advance-completion d e = Stepping.event (w .who) (λ z. w .runs d e) (at-next (completion d) e)
 
 -- ---- the whole step
@@ -259,38 +262,38 @@ never : {A : Type 0} → _≡_ {A = ℕ} 0 1 → A
 never z = absurd (omega arith)
 
 -- the clock is set, which gives the state u, and e follows
-pub record Sets (spec : Answer Step) (u : State) (e : Answer Event) : Type 0 where
+pub record Sets (spec : Answer Step) (rounded : Bool) (u : State) (e : Answer Event) : Type 0 where
   pub who : List ℕ
-  pub is : spec ≡ given (sets who u e)
+  pub is : spec ≡ given (sets rounded who u e)
 
-module _ {n : NetRecord} {spec : Answer Step} {before u : State} {props : List Float} {a0 : Float} {completes : Bool} where
-  pub if-full : {d : Due} → AdvancedBy n spec before u props a0 completes d → d ≡ Full → spec ≡ refused Refusal.tooManyTimers
+module _ {n : NetRecord} {spec : Answer Step} {before u : State} {props : List Float} {a0 : Float} {rounded completes : Bool} where
+  pub if-full : {d : Due} → AdvancedBy n spec before u props a0 rounded completes d → d ≡ Full → spec ≡ refused Refusal.tooManyTimers
   if-full (Stepping.full h) e = h
   if-full (Stepping.nothing h k) e = never (cc)
   if-full (Stepping.event js k h) e = never (cc)
 
-  pub if-nothing : {d : Due} → AdvancedBy n spec before u props a0 completes d → d ≡ Nothing → (spec ≡ given still) × (u ≡ before)
+  pub if-nothing : {d : Due} → AdvancedBy n spec before u props a0 rounded completes d → d ≡ Nothing → (spec ≡ given (still rounded)) × (u ≡ before)
   if-nothing (Stepping.full h) e = never (cc)
   if-nothing (Stepping.nothing h k) e = (h, k)
   if-nothing (Stepping.event js k h) e = never (cc)
 
-  pub if-event : {d : Due} → AdvancedBy n spec before u props a0 completes d → d ≡ Follows
-      → (completes ≡ true → 0 < length (u .timers)) × Sets spec u (eventOf n u a0 props completes)
+  pub if-event : {d : Due} → AdvancedBy n spec before u props a0 rounded completes d → d ≡ Follows
+      → (completes ≡ true → 0 < length (u .timers)) × Sets spec rounded u (eventOf n u a0 props completes)
   if-event (Stepping.full h) e = never (cc)
   if-event (Stepping.nothing h k) e = never (cc)
   if-event (Stepping.event js k h) e = (k, record { who = js; is = h })
 
-module _ {spec : Answer Step} {u : State} {e : Answer Event} (w : Sets spec u e) {before : State} {last : Float} {shows : State → Type 0} {same : Type 0} where
-  pub step-reached : lt last (u .clock) ≡ true → shows u → StepBy spec before last shows same u Reached
+module _ {spec : Answer Step} {rounded : Bool} {u : State} {e : Answer Event} (w : Sets spec rounded u e) {before : State} {last : Float} {shows : State → Type 0} {same : Type 0} where
+  pub step-reached : lt last (u .clock) ≡ true → shows u → StepBy spec before last shows same u rounded Reached
   step-reached t h = Stepping.reached (w .who) e (w .is) t h
 
-  pub step-on : lt last (u .clock) ≡ false → shows u → {s : State} {b : Bool} → EventBy e s b → b ≡ true → StepBy spec before last shows same s GoesOn
-  step-on t h (happens v a l) z = Stepping.goesOn (w .who) u v (w .is ∙ ap (λ (x : Answer Event). given (sets (w .who) u x)) a) t h l
+  pub step-on : lt last (u .clock) ≡ false → shows u → {s : State} {b : Bool} → EventBy e s b → b ≡ true → StepBy spec before last shows same s rounded GoesOn
+  step-on t h (happens v a l) z = Stepping.goesOn (w .who) u v (w .is ∙ ap (λ (x : Answer Event). given (sets rounded (w .who) u x)) a) t h l
   step-on t h (tooLarge a) z = absurd (true≢false (sym z))
 
-  pub step-large : lt last (u .clock) ≡ false → {s : State} {b : Bool} → EventBy e s b → b ≡ false → StepBy spec before last shows same s (Refused Refusal.countTooLarge)
+  pub step-large : lt last (u .clock) ≡ false → {s : State} {b : Bool} → EventBy e s b → b ≡ false → StepBy spec before last shows same s rounded (Refused Refusal.countTooLarge)
   step-large t (happens v a l) z = absurd (true≢false z)
-  step-large t (tooLarge a) z = Stepping.putting (w .who) u (w .is ∙ ap (λ (x : Answer Event). given (sets (w .who) u x)) a) t
+  step-large t (tooLarge a) z = Stepping.putting (w .who) u (w .is ∙ ap (λ (x : Answer Event). given (sets rounded (w .who) u x)) a) t
 
 pub timers-run : (ats : List Float) (whos : List ℕ) (k : ℕ) → 0 < length (timers ats whos k) → 0 < k
 timers-run ats whos k h = rw length-timers at h

@@ -34,18 +34,19 @@ pub record Call : Type 0 where
   pub steps : ℕ
   pub settled : ℕ
   pub peak : ℕ
+  pub rounded : ℕ
   pub generator : Generator
   pub table : List Float
 
--- a refusal gives the generator back as lent, and 0 for steps, settled instants and peak
+-- a refusal gives the generator back as lent, and 0 for steps, settled instants, peak and rounded steps
 abbrev pub turnedDown : ℕ → Generator → List Float → Call
-turnedDown c g table = record { end = refused c; steps = 0; settled = 0; peak = 0; generator = g; table = table }
+turnedDown c g table = record { end = refused c; steps = 0; settled = 0; peak = 0; rounded = 0; generator = g; table = table }
 
 -- the answer of the run, or its refusal: then the cells of the answer are +0
 abbrev pub played : ℕ → ℕ → Generator → List Float → Answer Path → Call
 played places n g table (refused c) = turnedDown c g (cleared (places * n) table)
 played places n g table (given a) =
-    record { end = given (a .end); steps = a .steps; settled = a .settled; peak = a .peak; generator = a .generator; table = tableOf places (a .shown) table }
+    record { end = given (a .end); steps = a .steps; settled = a .settled; peak = a .peak; rounded = a .rounded; generator = a .generator; table = tableOf places (a .shown) table }
 
 -- "11 table too short"
 abbrev pub tableFits : ℕ → ℕ → List Float → Bool
@@ -73,4 +74,4 @@ called n g xs k table = unlessFault (fault n) g table (afterNet (readable n) g x
 -- what the program's answer and table say
 abbrev pub callOf : PathAnswer → List Float → Call
 callOf r table =
-    record { end = endOf (r .end); steps = r .steps; settled = r .settled; peak = r .peak; generator = words (r .generator .s); table = table }
+    record { end = endOf (r .end); steps = r .steps; settled = r .settled; peak = r .peak; rounded = r .rounded; generator = words (r .generator .s); table = table }

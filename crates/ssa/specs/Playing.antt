@@ -31,7 +31,7 @@ pub record Listed (places n from to most most′ : ℕ) (shown : List Marking) (
 pub data WalkBy (whole : Answer Played) (xs : List Float) (m : Marking) (shows : List Marking → Type 0) (w : Walked) : PathEnd → Type 0 where
   refuses : (c : ℕ) → whole ≡ refused c → WalkBy whole xs m shows w (Refused c)
   ends : (end : PathEnd) (e : End) (s : State) (sh : List Marking) → endOf end ≡ given e → s .counts ≡ m → s .generator ≡ words (w .rng .s)
-      → w .next ≤ length xs → shows sh → whole ≡ addDone sh (length sh) (w .steps) (given (over e s (drop (w .next) xs))) → WalkBy whole xs m shows w end
+      → w .next ≤ length xs → shows sh → whole ≡ addDone sh (length sh) (w .rounded) (w .steps) (given (over e s (drop (w .next) xs))) → WalkBy whole xs m shows w end
 
 -- "Settled are then the instants ≤ some clock reading so far, else all"
 abbrev pub settledAt : PathEnd → ℕ → ℕ → ℕ

@@ -38,12 +38,12 @@ abbrev pub eventOf : NetRecord → State → Float → List Float → Bool → A
 eventOf n u a0 props completes = pick completes (Rule.complete (readable n) u) (Rule.raced (readable n) u a0 (take (n .transitions) props))
 
 -- A step up to the clock reading that it sets: refused by 15, nothing left and the state as before, or an event that follows in the state u, a completion
--- only where a timer runs. The starts js leave no trace in the program.
-pub data AdvancedBy (n : NetRecord) (spec : Answer Step) (before u : State) (props : List Float) (a0 : Float) (completes : Bool) : Due → Type 0 where
-  full : spec ≡ refused Refusal.tooManyTimers → AdvancedBy n spec before u props a0 completes Full
-  nothing : spec ≡ given still → u ≡ before → AdvancedBy n spec before u props a0 completes Nothing
-  event : (js : List ℕ) → (completes ≡ true → 0 < length (u .timers)) → spec ≡ given (sets js u (eventOf n u a0 props completes))
-      → AdvancedBy n spec before u props a0 completes Follows
+-- only where a timer runs; `rounded` says whether a0 adds a rounded propensity. The starts js leave no trace in the program.
+pub data AdvancedBy (n : NetRecord) (spec : Answer Step) (before u : State) (props : List Float) (a0 : Float) (rounded completes : Bool) : Due → Type 0 where
+  full : spec ≡ refused Refusal.tooManyTimers → AdvancedBy n spec before u props a0 rounded completes Full
+  nothing : spec ≡ given (still rounded) → u ≡ before → AdvancedBy n spec before u props a0 rounded completes Nothing
+  event : (js : List ℕ) → (completes ≡ true → 0 < length (u .timers)) → spec ≡ given (sets rounded js u (eventOf n u a0 props completes))
+      → AdvancedBy n spec before u props a0 rounded completes Follows
 
 -- the event that ends a step: it leaves the state u, or a count would pass 2^53
 pub data EventBy (spec : Answer Event) (u : State) : Bool → Type 0 where
@@ -51,12 +51,12 @@ pub data EventBy (spec : Answer Event) (u : State) : Bool → Type 0 where
   tooLarge : spec ≡ refused Refusal.countTooLarge → EventBy spec u false
 
 -- A whole step from the state `before`. u is the state at its clock reading, whose counts are shown; s is the state that it leaves: where nothing
--- is left, the state before, and nothing was shown.
-pub data StepBy (spec : Answer Step) (before : State) (last : Float) (shows : State → Type 0) (same : Type 0) (s : State) : Ending → Type 0 where
-  goesOn : (js : List ℕ) (u : State) (e : Event) → spec ≡ given (sets js u (given e)) → lt last (u .clock) ≡ false → shows u → e .leaves ≡ s
-      → StepBy spec before last shows same s GoesOn
-  quiet : spec ≡ given still → s ≡ before → same → StepBy spec before last shows same s Quiet
-  reached : (js : List ℕ) (e : Answer Event) → spec ≡ given (sets js s e) → lt last (s .clock) ≡ true → shows s → StepBy spec before last shows same s Reached
-  starting : spec ≡ refused Refusal.tooManyTimers → StepBy spec before last shows same s (Refused Refusal.tooManyTimers)
-  putting : (js : List ℕ) (u : State) → spec ≡ given (sets js u (refused Refusal.countTooLarge)) → lt last (u .clock) ≡ false
-      → StepBy spec before last shows same s (Refused Refusal.countTooLarge)
+-- is left, the state before, and nothing was shown. `rounded` says whether its a0 adds a rounded propensity.
+pub data StepBy (spec : Answer Step) (before : State) (last : Float) (shows : State → Type 0) (same : Type 0) (s : State) (rounded : Bool) : Ending → Type 0 where
+  goesOn : (js : List ℕ) (u : State) (e : Event) → spec ≡ given (sets rounded js u (given e)) → lt last (u .clock) ≡ false → shows u → e .leaves ≡ s
+      → StepBy spec before last shows same s rounded GoesOn
+  quiet : spec ≡ given (still rounded) → s ≡ before → same → StepBy spec before last shows same s rounded Quiet
+  reached : (js : List ℕ) (e : Answer Event) → spec ≡ given (sets rounded js s e) → lt last (s .clock) ≡ true → shows s → StepBy spec before last shows same s rounded Reached
+  starting : spec ≡ refused Refusal.tooManyTimers → StepBy spec before last shows same s rounded (Refused Refusal.tooManyTimers)
+  putting : (js : List ℕ) (u : State) → spec ≡ given (sets rounded js u (refused Refusal.countTooLarge)) → lt last (u .clock) ≡ false
+      → StepBy spec before last shows same s rounded (Refused Refusal.countTooLarge)

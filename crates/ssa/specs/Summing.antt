@@ -21,17 +21,19 @@ use Rattle.ssa.specs.declared.members.Turn.{Turn}
 use Rattle.ssa.specs.declared.members.Turn.the-variants as Turn
 use Rattle.ssa.specs.declared.members.Summed.{Summed}
 use Rattle.ssa.specs.declared.members.Summed.the-variants as Summed
-use Rattle.engine.specs.Engine.{Tidy, anyTimed}
+use Rattle.engine.specs.Engine.{Tidy}
 use Rattle.engine.specs.Limits.{Limits}
+use Rattle.engine.specs.Traits.{Of}
+use Rattle.engine.specs.declared.traits.Traits.{Traits}
 use Rattle.ssa.specs.Cells.{tableOf, cleared}
 use Rattle.ssa.specs.Ensemble.{oneIfSpent, spentOf, cellsOf, lastShown}
 
--- what every path is lent: a tidy net with small initial counts, its limits, whether it has timers, and instants that fit
-pub record Lent (n : NetRecord) (limit : List ℕ) (timed : Bool) (xs : List Float) : Type 0 where
+-- what every path is lent: a tidy net with small initial counts, its limits and traits, and instants that fit
+pub record Lent (n : NetRecord) (limit : List ℕ) (traits : Traits) (xs : List Float) : Type 0 where
   pub tidy : Tidy n
   pub limits : Limits n limit
   pub small : (p : ℕ) → p < n .places → getD (n .initial) p 0 ≤ 2 ^ 53
-  pub timers : timed ≡ anyTimed (n .transitions) (n .delay)
+  pub traits-of : Of n traits
   pub fit : instantsFit xs ≡ true
 
 -- path k, from the seed, the instants and the step limit that the program has at hand

@@ -17,6 +17,7 @@ use crate::PathAnswer;
 use crate::PathEnd;
 use crate::run;
 use engine::slots;
+use engine::traits;
 use net::Net;
 use rng::Xoshiro256;
 
@@ -81,6 +82,7 @@ pub fn turned_down(c: u64, generator: Xoshiro256) -> PathAnswer
         steps: 0,
         settled: 0,
         peak: 0,
+        rounded: 0,
         generator: generator,
     }
 }
@@ -124,7 +126,18 @@ fn lent_path<'a>(
         &mut limit,
     );
     let mut counts = slots::first_counts(places, initial);
-    let timed = slots::any_timed(transitions, delay);
+    let traits = traits::traits_of(
+        places,
+        transitions,
+        initial,
+        capacity,
+        rate,
+        delay,
+        arcs,
+        kind,
+        place,
+        weight,
+    );
     run::play(
         places,
         transitions,
@@ -137,7 +150,7 @@ fn lent_path<'a>(
         place,
         weight,
         &limit,
-        timed,
+        traits,
         &mut counts,
         instants,
         steps,

@@ -25,11 +25,14 @@ pub enum PathEnd {
     Refused(u64),
 }
 
+// The end of a path, its steps, how many instants are settled, the peak, how many steps have an a0 that adds a rounded propensity, and the generator after
+// it; of a path that is turned down the number, four times 0, and the generator as it came.
 pub struct PathAnswer {
     pub end: PathEnd,
     pub steps: u64,
     pub settled: u64,
     pub peak: u64,
+    pub rounded: u64,
     pub generator: Xoshiro256,
 }
 
@@ -42,7 +45,7 @@ pub enum EnsembleAnswer {
 }
 
 // A path of the net from the generator's state: place p at instant i is cell p * n + i of the table, n instants. The end, the steps, how many
-// instants are settled, the peak and the generator after it are the answer. A net, instants, a limit or a table that does not fit is turned down
+// instants are settled, the peak, how many steps add a rounded propensity and the generator after it are the answer. A net, instants, a limit or a table that does not fit is turned down
 // with nothing touched; a run in which a count would pass 2^53 or a 257th timer would start leaves +0 in the answer's cells.
 pub fn path(
     net: Net,

@@ -27,6 +27,8 @@ use crate::shown;
 use averages::moments;
 use averages::request;
 use engine::slots;
+use engine::traits;
+use engine::traits::Traits;
 use net::Net;
 use rng::Xoshiro256;
 
@@ -58,7 +60,7 @@ fn one_path<'a>(
     place: &'a [usize; 1024],
     weight: &'a [u64; 1024],
     limit: &'a [u64; 1024],
-    timed: bool,
+    traits: Traits,
     instants: &[f64],
     steps: u64,
     seed: u64,
@@ -67,7 +69,7 @@ fn one_path<'a>(
 ) -> PathAnswer
     ghost { NetRecord }
     requires { λ net. ⌜ lent places transitions (now initial) (now capacity) (now rate) (now delay) (now arcs) (now kind) (now place) (now weight) ≡ net ⌝ }
-    requires { λ net. ⌜ Summing.Lent net (now limit) timed (now instants) × (places * length (now instants) ≤ length (now path)) ⌝ }
+    requires { λ net. ⌜ Summing.Lent net (now limit) traits (now instants) × (places * length (now instants) ≤ length (now path)) ⌝ }
     ensures { λ net r. ⌜ Path.callOf r (now (path .exit)) ≡ Path.played places (length (now (instants .entry))) (Seeding.seeded (Request.seedOf seed k))
         (now (path .entry)) (Summing.drawn (Record.readable net) seed (now (instants .entry)) steps k) ⌝ }
 {
@@ -85,7 +87,7 @@ fn one_path<'a>(
         place,
         weight,
         limit,
-        timed,
+        traits,
         &mut counts,
         instants,
         steps,
@@ -119,7 +121,7 @@ fn member_turn<'a>(
     place: &'a [usize; 1024],
     weight: &'a [u64; 1024],
     limit: &'a [u64; 1024],
-    timed: bool,
+    traits: Traits,
     instants: &[f64],
     steps: u64,
     seed: u64,
@@ -131,7 +133,7 @@ fn member_turn<'a>(
 ) -> Turn
     ghost { NetRecord }
     requires { λ net. ⌜ lent places transitions (now initial) (now capacity) (now rate) (now delay) (now arcs) (now kind) (now place) (now weight) ≡ net ⌝ }
-    requires { λ net. ⌜ Summing.Lent net (now limit) timed (now instants) × (places * length (now instants) ≤ length (now path)) × (spent < 65_535) ⌝ }
+    requires { λ net. ⌜ Summing.Lent net (now limit) traits (now instants) × (places * length (now instants) ≤ length (now path)) × (spent < 65_535) ⌝ }
     ensures { λ net r. ⌜ Summing.TurnBy (Summing.drawn (Record.readable net) seed (now (instants .entry)) steps k) places (length (now (instants .entry))) spent
         (now (mean .entry)) (now (mean .exit)) (now (deviation .entry)) (now (deviation .exit)) (now (path .entry)) (now (path .exit)) r ⌝ }
 {
@@ -147,7 +149,7 @@ fn member_turn<'a>(
         place,
         weight,
         limit,
-        timed,
+        traits,
         instants,
         steps,
         seed,
@@ -178,7 +180,7 @@ fn sum_paths<'a>(
     place: &'a [usize; 1024],
     weight: &'a [u64; 1024],
     limit: &'a [u64; 1024],
-    timed: bool,
+    traits: Traits,
     instants: &[f64],
     steps: u64,
     seed: u64,
@@ -189,7 +191,7 @@ fn sum_paths<'a>(
 ) -> Summed
     ghost { NetRecord }
     requires { λ net. ⌜ lent places transitions (now initial) (now capacity) (now rate) (now delay) (now arcs) (now kind) (now place) (now weight) ≡ net ⌝ }
-    requires { λ net. ⌜ Summing.Lent net (now limit) timed (now instants) × (realizations ≤ 65_535) × (places * length (now instants) ≤ length (now path))
+    requires { λ net. ⌜ Summing.Lent net (now limit) traits (now instants) × (realizations ≤ 65_535) × (places * length (now instants) ≤ length (now path))
         × (now mean ≡ Cells.cleared (places * length (now instants)) (now mean))
         × (now deviation ≡ Cells.cleared (places * length (now instants)) (now deviation)) ⌝ }
     ensures { λ net r. ⌜ Summing.SummedBy (Summing.pathsFrom (Summing.drawn (Record.readable net) seed (now (instants .entry)) steps) 0 realizations)
@@ -212,7 +214,7 @@ fn sum_paths<'a>(
             place,
             weight,
             limit,
-            timed,
+            traits,
             instants,
             steps,
             seed,
@@ -262,7 +264,7 @@ fn averaged<'a>(
     place: &'a [usize; 1024],
     weight: &'a [u64; 1024],
     limit: &'a [u64; 1024],
-    timed: bool,
+    traits: Traits,
     instants: &[f64],
     steps: u64,
     seed: u64,
@@ -273,7 +275,7 @@ fn averaged<'a>(
 ) -> EnsembleAnswer
     ghost { NetRecord }
     requires { λ net. ⌜ lent places transitions (now initial) (now capacity) (now rate) (now delay) (now arcs) (now kind) (now place) (now weight) ≡ net ⌝ }
-    requires { λ net. ⌜ Summing.Lent net (now limit) timed (now instants) × (realizations ≤ 65_535) × (places * length (now instants) ≤ length (now mean))
+    requires { λ net. ⌜ Summing.Lent net (now limit) traits (now instants) × (realizations ≤ 65_535) × (places * length (now instants) ≤ length (now mean))
         × (places * length (now instants) ≤ length (now deviation)) × (places * length (now instants) ≤ length (now path)) ⌝ }
     ensures { λ net r. ⌜ Ensemble.callOf r (now (mean .exit)) (now (deviation .exit)) (now (path .exit))
         ≡ Ensemble.tabulated places (length (now (instants .entry)))
@@ -295,7 +297,7 @@ fn averaged<'a>(
         place,
         weight,
         limit,
-        timed,
+        traits,
         instants,
         steps,
         seed,
@@ -360,7 +362,18 @@ fn lent_ensemble<'a>(
         weight,
         &mut limit,
     );
-    let timed = slots::any_timed(transitions, delay);
+    let traits = traits::traits_of(
+        places,
+        transitions,
+        initial,
+        capacity,
+        rate,
+        delay,
+        arcs,
+        kind,
+        place,
+        weight,
+    );
     let mut grid = [0.0; 1024];
     let few = samples as u32;
     request::fill_grid(few, request::interval(few, horizon), &mut grid);
@@ -377,7 +390,7 @@ fn lent_ensemble<'a>(
         place,
         weight,
         &limit,
-        timed,
+        traits,
         &grid[..n],
         MOST_STEPS,
         seed,

@@ -1,7 +1,7 @@
 // The loop of a path: steps while the clock is below the last instant and the limit allows; then the instants that are left are shown.
 ghost use mathlib.Core.Path.{_≡_};
 ghost use mathlib.Core.Bool.{true};
-ghost use Prim.Native.Nat.{_*_, _<_, _≤_};
+ghost use Prim.Native.Nat.{_+_, _*_, _<_, _≤_};
 ghost use lib.ListN.{length};
 ghost use lib.ListN as ListN;
 ghost use Rattle.net.specs.Net as Net;
@@ -14,6 +14,7 @@ ghost use Rattle.rules.specs.Shown as Shown;
 ghost use Rattle.rules.proofs.Play as Play;
 ghost use Rattle.engine.specs.Engine as Engine;
 ghost use Rattle.engine.specs.Limits as Limits;
+ghost use Rattle.engine.specs.Traits as Has;
 ghost use Rattle.ssa.specs.Cells as Cells;
 ghost use Rattle.ssa.specs.Stepping as Stepping;
 ghost use Rattle.ssa.specs.Playing as Playing;
@@ -24,15 +25,29 @@ use crate::shown;
 use crate::step;
 use crate::step::Ending;
 use crate::step::Now;
+use engine::traits::Traits;
 use rng::Xoshiro256;
 
-// How the steps ended: after so many, with so many instants shown, and the largest sum of the counts that one of these has shown.
+// How the steps ended: after so many, of which so many add a rounded propensity, with so many instants shown, and the largest sum of the counts that one of
+// these has shown.
 pub struct Walked {
     pub end: PathEnd,
     pub steps: u64,
+    pub rounded: u64,
     pub next: usize,
     pub peak: u64,
     pub rng: Xoshiro256,
+}
+
+// One more, where a step adds a rounded propensity.
+fn one_more(rounded: u64, so: bool) -> u64
+    requires { ⌜ rounded < 0xFFFF_FFFF_FFFF_FFFF ⌝ }
+    ensures { λ r. ⌜ r ≡ rounded + Net.pick so 1 0 ⌝ }
+{
+    if so {
+        return rounded + 1;
+    }
+    rounded
 }
 
 // The steps of a path, at most so many.
@@ -48,7 +63,7 @@ fn take_steps<'a>(
     place: &'a [usize; 1024],
     weight: &'a [u64; 1024],
     limit: &'a [u64; 1024],
-    timed: bool,
+    traits: Traits,
     counts: &mut [u64; 32],
     ats: &mut [f64; 256],
     whos: &mut [usize; 256],
@@ -61,7 +76,7 @@ fn take_steps<'a>(
 ) -> Walked
     ghost { NetRecord }
     requires { λ net. ⌜ lent places transitions (now initial) (now capacity) (now rate) (now delay) (now arcs) (now kind) (now place) (now weight) ≡ net ⌝ }
-    requires { λ net. ⌜ Stepping.Ready net (now limit) (now counts) (now ats) (now whos) (s .timers) × (timed ≡ Engine.anyTimed transitions (now delay))
+    requires { λ net. ⌜ Stepping.Ready net (now limit) (now counts) (now ats) (now whos) (s .timers) × Has.Of net traits
         × (length (now props) ≡ 64) × (s .next ≤ length (now instants)) × (length (now instants) ≤ 1024)
         × (places * length (now instants) ≤ length (now table)) ⌝ }
     ensures is { λ net r. ⌜ Playing.WalkBy
@@ -75,6 +90,7 @@ fn take_steps<'a>(
 {
     let mut at = s;
     let mut done: u64 = 0;
+    let mut rounded: u64 = 0;
     while done < steps {
         let clock = at.clock;
         let rng = at.rng;
@@ -91,7 +107,7 @@ fn take_steps<'a>(
                 place,
                 weight,
                 limit,
-                timed,
+                traits,
                 counts,
                 ats,
                 whos,
@@ -105,11 +121,13 @@ fn take_steps<'a>(
             let ending = r.ending;
             let g = after.rng;
             done += 1;
+            rounded = one_more(rounded, r.rounded);
             match ending {
                 Ending::GoesOn => at = after,
                 Ending::Quiet => return Walked {
                     end: PathEnd::Quiet,
                     steps: done,
+                    rounded: rounded,
                     next: after.next,
                     peak: after.peak,
                     rng: g,
@@ -117,6 +135,7 @@ fn take_steps<'a>(
                 Ending::Reached => return Walked {
                     end: PathEnd::Reached,
                     steps: done,
+                    rounded: rounded,
                     next: after.next,
                     peak: after.peak,
                     rng: g,
@@ -124,6 +143,7 @@ fn take_steps<'a>(
                 Ending::Refused(c) => return Walked {
                     end: PathEnd::Refused(c),
                     steps: done,
+                    rounded: rounded,
                     next: after.next,
                     peak: after.peak,
                     rng: g,
@@ -133,6 +153,7 @@ fn take_steps<'a>(
             return Walked {
                 end: PathEnd::Reached,
                 steps: done,
+                rounded: rounded,
                 next: at.next,
                 peak: at.peak,
                 rng: rng,
@@ -145,6 +166,7 @@ fn take_steps<'a>(
         return Walked {
             end: PathEnd::Spent,
             steps: done,
+            rounded: rounded,
             next: at.next,
             peak: at.peak,
             rng: rng,
@@ -153,6 +175,7 @@ fn take_steps<'a>(
     Walked {
         end: PathEnd::Reached,
         steps: done,
+        rounded: rounded,
         next: at.next,
         peak: at.peak,
         rng: rng,
@@ -184,7 +207,7 @@ pub fn play<'a>(
     place: &'a [usize; 1024],
     weight: &'a [u64; 1024],
     limit: &'a [u64; 1024],
-    timed: bool,
+    traits: Traits,
     counts: &mut [u64; 32],
     instants: &[f64],
     steps: u64,
@@ -194,7 +217,7 @@ pub fn play<'a>(
     ghost { NetRecord }
     requires { λ net. ⌜ lent places transitions (now initial) (now capacity) (now rate) (now delay) (now arcs) (now kind) (now place) (now weight) ≡ net ⌝ }
     requires { λ net. ⌜ Engine.Tidy net × Limits.Limits net (now limit) × Engine.Counts (now counts)
-        × (Engine.marking places (now counts) ≡ Moves.initialCounts (Record.readable net)) × (timed ≡ Engine.anyTimed transitions (now delay))
+        × (Engine.marking places (now counts) ≡ Moves.initialCounts (Record.readable net)) × Has.Of net traits
         × (0 < length (now instants)) × (length (now instants) ≤ 1024) × (Shown.rising Net.zero64 (now instants) ≡ true)
         × (places * length (now instants) ≤ length (now table)) ⌝ }
     ensures { λ net r. ⌜ Path.callOf r (now (table .exit)) ≡ Path.played places (length (now (instants .entry))) (Random.words (rng .s)) (now (table .entry))
@@ -225,7 +248,7 @@ pub fn play<'a>(
         place,
         weight,
         limit,
-        timed,
+        traits,
         counts,
         &mut ats,
         &mut whos,
@@ -244,6 +267,7 @@ pub fn play<'a>(
             steps: 0,
             settled: 0,
             peak: 0,
+            rounded: 0,
             generator: rng,
         };
     }
@@ -255,6 +279,7 @@ pub fn play<'a>(
         steps: w.steps,
         settled: settled(end, next, n),
         peak: peak,
+        rounded: w.rounded,
         generator: g,
     }
 }

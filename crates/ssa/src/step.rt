@@ -6,13 +6,15 @@ ghost use Rattle.net.specs.Readable as Record;
 ghost use Rattle.net.specs.Record.{lent};
 ghost use Rattle.net.specs.declared.Net.{Net as NetRecord};
 ghost use Rattle.rules.specs.Step as Rule;
-ghost use Rattle.engine.specs.Engine as Engine;
+ghost use Rattle.engine.specs.Traits as Has;
 ghost use Rattle.ssa.specs.Cells as Cells;
 ghost use Rattle.ssa.specs.Stepping as Stepping;
 use crate::firing;
 use crate::shown;
 use crate::starts;
 use engine::marking;
+use engine::rounding;
+use engine::traits::Traits;
 use jump::Next;
 use rng::Xoshiro256;
 
@@ -34,8 +36,10 @@ pub enum Ending {
     Refused(u64),
 }
 
+// What a step leaves, whether its a0 adds a rounded propensity, and whether the run goes on.
 pub struct Stepped {
     pub now: Now,
+    pub rounded: bool,
     pub ending: Ending,
 }
 
@@ -46,13 +50,14 @@ pub enum Due {
     Full,
 }
 
-// A step up to the clock reading that it sets, and whether the event is a completion.
+// A step up to the clock reading that it sets, whether the event is a completion, and the total of the propensities with whether it adds a rounded one.
 pub struct Advanced {
     pub due: Due,
     pub completes: bool,
     pub clock: f64,
     pub timers: usize,
     pub a0: f64,
+    pub rounded: bool,
     pub rng: Xoshiro256,
 }
 
@@ -69,7 +74,7 @@ fn advance<'a>(
     place: &'a [usize; 1024],
     weight: &'a [u64; 1024],
     limit: &'a [u64; 1024],
-    timed: bool,
+    traits: Traits,
     counts: &mut [u64; 32],
     ats: &mut [f64; 256],
     whos: &mut [usize; 256],
@@ -80,15 +85,16 @@ fn advance<'a>(
 ) -> Advanced
     ghost { NetRecord }
     requires { λ net. ⌜ lent places transitions (now initial) (now capacity) (now rate) (now delay) (now arcs) (now kind) (now place) (now weight) ≡ net ⌝ }
-    requires { λ net. ⌜ Stepping.Ready net (now limit) (now counts) (now ats) (now whos) running × (timed ≡ Engine.anyTimed transitions (now delay))
+    requires { λ net. ⌜ Stepping.Ready net (now limit) (now counts) (now ats) (now whos) running × Has.Of net traits
         × (length (now props) ≡ 64) ⌝ }
     ensures is { λ net r. let before = Stepping.stateOf net (now (counts .entry)) (now (ats .entry)) (now (whos .entry)) running t (rng .s) in
         ⌜ Stepping.AdvancedBy net (Rule.step (Record.readable net) before) before
         (Stepping.stateOf net (now (counts .exit)) (now (ats .exit)) (now (whos .exit)) (r .timers) (r .clock) (r .rng .s))
-        (now (props .exit)) (r .a0) (r .completes) (r .due) ⌝ }
+        (now (props .exit)) (r .a0) (r .rounded) (r .completes) (r .due) ⌝ }
     ensures ready { λ net r. ⌜ Stepping.Ready net (now (limit .entry)) (now (counts .exit)) (now (ats .exit)) (now (whos .exit)) (r .timers)
         × (length (now (props .exit)) ≡ 64) ⌝ }
 {
+    let timed = traits.timed;
     let s = starts::start_all(
         places,
         transitions,
@@ -116,6 +122,7 @@ fn advance<'a>(
             clock: t,
             timers: n,
             a0: 0.0,
+            rounded: false,
             rng: rng,
         };
     }
@@ -134,6 +141,21 @@ fn advance<'a>(
         counts,
         props,
     );
+    let rounded = rounding::adds_rounded(
+        places,
+        transitions,
+        initial,
+        capacity,
+        rate,
+        delay,
+        arcs,
+        kind,
+        place,
+        weight,
+        traits,
+        counts,
+        props,
+    );
     let w = jump::waiting(a0, rng);
     let dt = w.dt;
     let g = w.rng;
@@ -145,6 +167,7 @@ fn advance<'a>(
             clock: t,
             timers: n,
             a0: a0,
+            rounded: rounded,
             rng: g,
         },
         Next::Race(wait) => Advanced {
@@ -153,6 +176,7 @@ fn advance<'a>(
             clock: t + wait,
             timers: n,
             a0: a0,
+            rounded: rounded,
             rng: g,
         },
         Next::Completion(at) => Advanced {
@@ -161,6 +185,7 @@ fn advance<'a>(
             clock: at,
             timers: n,
             a0: a0,
+            rounded: rounded,
             rng: g,
         },
     }
@@ -179,7 +204,7 @@ pub fn one_step<'a>(
     place: &'a [usize; 1024],
     weight: &'a [u64; 1024],
     limit: &'a [u64; 1024],
-    timed: bool,
+    traits: Traits,
     counts: &mut [u64; 32],
     ats: &mut [f64; 256],
     whos: &mut [usize; 256],
@@ -191,7 +216,7 @@ pub fn one_step<'a>(
 ) -> Stepped
     ghost { NetRecord }
     requires { λ net. ⌜ lent places transitions (now initial) (now capacity) (now rate) (now delay) (now arcs) (now kind) (now place) (now weight) ≡ net ⌝ }
-    requires { λ net. ⌜ Stepping.Ready net (now limit) (now counts) (now ats) (now whos) (s .timers) × (timed ≡ Engine.anyTimed transitions (now delay))
+    requires { λ net. ⌜ Stepping.Ready net (now limit) (now counts) (now ats) (now whos) (s .timers) × Has.Of net traits
         × (length (now props) ≡ 64) × (s .next ≤ length (now instants)) × (length (now instants) ≤ 1024)
         × (places * length (now instants) ≤ length (now table)) ⌝ }
     ensures is { λ net r. let before = Stepping.stateOf net (now (counts .entry)) (now (ats .entry)) (now (whos .entry)) (s .timers) (s .clock) (s .rng .s) in
@@ -200,7 +225,7 @@ pub fn one_step<'a>(
         (now (table .entry)) (now (table .exit)))
         (Cells.NotShown (s .next) (r .now .next) (s .peak) (r .now .peak) (now (table .entry)) (now (table .exit)))
         (Stepping.stateOf net (now (counts .exit)) (now (ats .exit)) (now (whos .exit)) (r .now .timers) (r .now .clock) (r .now .rng .s))
-        (r .ending) ⌝ }
+        (r .rounded) (r .ending) ⌝ }
     ensures ready { λ net r. ⌜ Stepping.Ready net (now (limit .entry)) (now (counts .exit)) (now (ats .exit)) (now (whos .exit)) (r .now .timers)
         × (length (now (props .exit)) ≡ 64) × (length (now (table .exit)) ≡ length (now (table .entry)))
         × Cells.Stay places (length (now (instants .entry))) (now (table .entry)) (now (table .exit)) ⌝ }
@@ -219,7 +244,7 @@ pub fn one_step<'a>(
         place,
         weight,
         limit,
-        timed,
+        traits,
         counts,
         ats,
         whos,
@@ -229,6 +254,7 @@ pub fn one_step<'a>(
         rng,
     );
     let running = d.timers;
+    let rounded = d.rounded;
     let clock = d.clock;
     let g = d.rng;
     let due = d.due;
@@ -243,6 +269,7 @@ pub fn one_step<'a>(
             };
             Stepped {
                 now: now,
+                rounded: rounded,
                 ending: Ending::Refused(refusals::TOO_MANY_TIMERS),
             }
         }
@@ -256,6 +283,7 @@ pub fn one_step<'a>(
             };
             Stepped {
                 now: now,
+                rounded: rounded,
                 ending: Ending::Quiet,
             }
         }
@@ -271,6 +299,7 @@ pub fn one_step<'a>(
                 };
                 return Stepped {
                     now: now,
+                    rounded: rounded,
                     ending: Ending::Reached,
                 };
             }
@@ -307,11 +336,13 @@ pub fn one_step<'a>(
             if e.fits {
                 return Stepped {
                     now: now,
+                    rounded: rounded,
                     ending: Ending::GoesOn,
                 };
             }
             Stepped {
                 now: now,
+                rounded: rounded,
                 ending: Ending::Refused(refusals::COUNT_TOO_LARGE),
             }
         }

@@ -1,4 +1,5 @@
 // Runs published vectors and cases at edges: words in decimal or hexadecimal as they are published, floats by their bits, any NaN as `nan`.
+use combinations::RealWays;
 use combinations::Ways;
 use libc::STDOUT_FILENO;
 use rng::Xoshiro256;
@@ -22,13 +23,6 @@ fn float_line(x: f64) {
         print(b"nan\n");
     } else {
         hex_line(f64::to_bits(x));
-    }
-}
-
-fn ways_line(w: Ways) {
-    match w {
-        Ways::Value(x) => float_line(x),
-        Ways::Refused => print(b"refused\n"),
     }
 }
 
@@ -151,7 +145,11 @@ fn roots() {
 }
 
 fn ways(m: i64, w: i64) {
-    ways_line(combinations::combinations(m, w));
+    let answer = combinations::combinations(m, w);
+    match answer {
+        Ways::Value(x, _) => float_line(x),
+        Ways::Refused => print(b"refused\n"),
+    }
 }
 
 fn whole_ways() {
@@ -175,7 +173,11 @@ fn whole_ways() {
 }
 
 fn real(x: f64, w: i64) {
-    ways_line(combinations::combinations_real(x, w));
+    let answer = combinations::combinations_real(x, w);
+    match answer {
+        RealWays::Value(v) => float_line(v),
+        RealWays::Refused => print(b"refused\n"),
+    }
 }
 
 fn real_ways() {

@@ -1,8 +1,8 @@
--- `c_face::leaves::cild_combinations` meets its contract: what the answer ensures, read as a flag and a float; m and w are passed on as they came. Assumes nothing.
+-- `c_face::leaves::cild_combinations` meets its contract: what the answer ensures, read as a flag and numbers; m and w are passed on as they came. Assumes nothing.
 use borrow.Author.Needs.{needs}
 use mathlib.Core.Path.{ap, _∙_}
 use mir.Facts.{toZ-ofZ}
-use Rattle.c_face.specs.Told.{isValue, orZero}
+use Rattle.c_face.specs.Told.{isValue, orZero, oneIfExact}
 use Rattle.c_face.proofs.leaves.cild_combinations.Statement.{statement}
 use Rattle.c_face.proofs.leaves.cild_combinations.Tie as tie
 
@@ -14,9 +14,9 @@ told-requires c κs = search needs
 
 returns : tie.Need-returns
 returns c =
-    let s = c .before .before .before in
-    let e = rw (toZ-ofZ (s .fits .m), toZ-ofZ (s .fits .w)) at (c .before .before .combinations .ensures) in
-    (c .told .ensures .0 ∙ ap isValue e, c .told .ensures .1 ∙ ap orZero e)
+    let s = c .before .before .before .before in
+    let e = rw (toZ-ofZ (s .fits .m), toZ-ofZ (s .fits .w)) at (c .before .before .before .combinations .ensures) in
+    (c .told .ensures .0 ∙ ap isValue e, c .told .ensures .1 ∙ ap orZero e, c .told .ensures .2 ∙ ap oneIfExact e)
 
 pub cild-combinations-spec : {M : Type 1} → statement M
 cild-combinations-spec = tie.close (tie.spec combinations-requires told-requires returns)

@@ -13,9 +13,9 @@ use Rattle.c_face.proofs.path.cild_path.Tie as tie
 
 -- what an answer says is what its call leaves
 left : (r : PathAnswer) (table : List Float) (n : ℕ) (s : List ℕ) (l : Call) → callOf r table ≡ l → n ≡ endNumber (endOf (r .end)) → s ≡ r .generator .s
-    → Left l (n ∷ r .steps ∷ r .settled ∷ r .peak ∷ []) (words s) table
+    → Left l (n ∷ r .steps ∷ r .settled ∷ r .peak ∷ r .rounded ∷ []) (words s) table
 left r table n s l e h k =
-    (ap (λ (m : ℕ). m ∷ r .steps ∷ r .settled ∷ r .peak ∷ []) h ∙ ap toldOf e, ap words k ∙ ap (λ (x : Call). x .generator) e, ap (λ (x : Call). x .table) e)
+    (ap (λ (m : ℕ). m ∷ r .steps ∷ r .settled ∷ r .peak ∷ r .rounded ∷ []) h ∙ ap toldOf e, ap words k ∙ ap (λ (x : Call). x .generator) e, ap (λ (x : Call). x .table) e)
 
 from-state-requires : tie.Need-from-state-requires
 from-state-requires c κs = search needs

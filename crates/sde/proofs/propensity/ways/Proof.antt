@@ -1,8 +1,8 @@
 -- Each case of the answer says its float, and 0 over 0 is the NaN of a refusal; the cast keeps the number. Assumes nothing.
 use mathlib.Core.Path.{sym, ap, _∙_}
-use Rattle.combinations.specs.declared.Ways.{Ways}
-use Rattle.combinations.specs.Combinations.{meaning}
-use Rattle.rules.specs.Propensity.{asFloat}
+use Rattle.combinations.specs.declared.RealWays.{RealWays}
+use Rattle.combinations.specs.Real.{meaning}
+use Rattle.sde.specs.Diffusion.{asFloat}
 use Rattle.engine.proofs.Factors.{no-number}
 use Rattle.sde.proofs.Factors.{ways-answer}
 use borrow.Author.Needs.{needs}
@@ -25,7 +25,7 @@ returns : tie.Need-returns
 returns c =
     let k = c .before .before .before in
     let s = k .before in
-    ap (λ (z : Ways). asFloat (meaning z)) (sym (c .before .answer .given .1))
+    ap (λ (z : RealWays). asFloat (meaning z)) (sym (c .before .answer .given .1))
     ∙ ways-answer (s .args .x) (s .args .w) (s .pre) (k .combinations-real .result) (k .combinations-real .ensures)
 
 returns-2 : tie.Need-returns-2
@@ -33,7 +33,7 @@ returns-2 c =
     let k = c .before .before in
     let s = k .before in
     no-number
-    ∙ ap (λ (z : Ways). asFloat (meaning z)) (sym (c .enum-told .given .1))
+    ∙ ap (λ (z : RealWays). asFloat (meaning z)) (sym (c .enum-told .given .1))
     ∙ ways-answer (s .args .x) (s .args .w) (s .pre) (k .combinations-real .result) (k .combinations-real .ensures)
 
 pub ways-spec : {M : Type 1} → statement M

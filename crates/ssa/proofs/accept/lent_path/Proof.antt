@@ -13,8 +13,8 @@ fill-limits-requires c κs = search needs
 first-counts-requires : tie.Need-first-counts-requires
 first-counts-requires c κs = search needs
 
-any-timed-requires : tie.Need-any-timed-requires
-any-timed-requires c κs = search needs
+traits-of-requires : tie.Need-traits-of-requires
+traits-of-requires c κs = search needs
 
 play-requires : tie.Need-play-requires
 play-requires c κs =
@@ -26,7 +26,7 @@ play-requires c κs =
       c .before .before .before .before .before .fill-limits .ensures,
       counts .1,
       counts .0 ∙ initial-is (lent (a .places) (a .transitions) (a .initial .now) (a .capacity .now) (a .rate .now) (a .delay .now) (a .arcs .now) (a .kind .now) (a .place .now) (a .weight .now)),
-      c .before .before .before .any-timed .ensures,
+      c .before .before .before .traits-of .ensures,
       f .some-instant,
       f .few,
       f .risen,
@@ -45,7 +45,7 @@ lent-path-spec =
     (tie.spec
     fill-limits-requires
     first-counts-requires
-    any-timed-requires
+    traits-of-requires
     play-requires
     same-length
     returns)

@@ -29,8 +29,8 @@ long s = let f = passing (wanted s) (s .pre .2) in omega (arith, f .few, length-
 fill-limits-requires : tie.Need-fill-limits-requires
 fill-limits-requires c κs = search needs
 
-any-timed-requires : tie.Need-any-timed-requires
-any-timed-requires c κs = search needs
+traits-of-requires : tie.Need-traits-of-requires
+traits-of-requires c κs = search needs
 
 cast-few : tie.Need-cast-few
 cast-few c =
@@ -65,7 +65,7 @@ averaged-requires c κs =
         tidy = s .pre .0;
         limits = c .before .before .before .before .before .before .before .before .before .before .fill-limits .ensures;
         small = s .pre .1;
-        timers = c .before .before .before .before .before .before .before .before .before .any-timed .ensures;
+        traits-of = c .before .before .before .before .before .before .before .before .before .traits-of .ensures;
         fit = grid-passes (wanted s) (i .result) blank (g .last .1 .1 .0) (i .ensures) (g .ensures) (long s) f;
       },
       f .repeated,
@@ -98,7 +98,7 @@ lent-ensemble-spec =
     tie.close
     (tie.spec
     fill-limits-requires
-    any-timed-requires
+    traits-of-requires
     cast-few
     interval-requires
     slice-aggregate-fill-grid

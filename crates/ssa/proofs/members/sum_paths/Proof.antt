@@ -11,12 +11,12 @@ use Rattle.ssa.proofs.members.sum_paths.Statement.{statement}
 use Rattle.ssa.proofs.members.sum_paths.Tie as tie
 
 abbrev Inv-loop : tie.InvT-loop
-Inv-loop places transitions initial capacity rate delay arcs kind place weight limit timed instants steps seed realizations mean₀ deviation₀ path₀ spent₀ k₀ mean deviation path spent k =
+Inv-loop places transitions initial capacity rate delay arcs kind place weight limit traits instants steps seed realizations mean₀ deviation₀ path₀ spent₀ k₀ mean deviation path spent k =
     SumsAt (drawn (readable (lent places transitions initial capacity rate delay arcs kind place weight)) seed instants steps) places (length instants) realizations k spent
     mean₀ mean deviation₀ deviation path₀ path
 
 abbrev μ-loop : tie.MeasureT-loop
-μ-loop places transitions initial capacity rate delay arcs kind place weight limit timed instants steps seed realizations mean₀ deviation₀ path₀ spent₀ k₀ mean deviation path spent k =
+μ-loop places transitions initial capacity rate delay arcs kind place weight limit traits instants steps seed realizations mean₀ deviation₀ path₀ spent₀ k₀ mean deviation path spent k =
     realizations - k
 
 loop-holds : tie.Need-loop-holds Inv-loop μ-loop

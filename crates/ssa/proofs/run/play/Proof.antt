@@ -82,7 +82,7 @@ returns c =
     (w .result) (marking (s .places) (w .last .1 .1 .1 .1 .1 .1 .1 .1 .1 .1 .1 .1 .0)) (w .last .1 .1 .1 .1 .1 .1 .1 .1 .1 .1 .1 .1 .1 .1 .1 .1 .1 .1 .0)
     (c .before .before .before .before .before .end .given .0 .0) (w .result .end) (c .before .before .before .before .before .end .given .1) (w .ensures .0) (w .ensures .1 .1) (w .ensures .1 .2)
     (c .before .before .clear .last .0) (c .before .before .clear .ensures)
-    (record { end = Refused (c .before .before .before .before .before .end .given .0 .0); steps = 0; settled = 0; peak = 0; generator = s .rng }) refl refl refl refl refl
+    (record { end = Refused (c .before .before .before .before .before .end .given .0 .0); steps = 0; settled = 0; peak = 0; rounded = 0; generator = s .rng }) refl refl refl refl refl refl
 
 show-until-requires : tie.Need-show-until-requires
 show-until-requires c κs =
@@ -114,7 +114,7 @@ returns-2 c =
     (w .result) (marking (s .places) (w .last .1 .1 .1 .1 .1 .1 .1 .1 .1 .1 .1 .1 .0)) (w .last .1 .1 .1 .1 .1 .1 .1 .1 .1 .1 .1 .1 .1 .1 .1 .1 .1 .1 .0)
     (w .result .end) (not-refused (w .result .end) (c .before .before .before .before .before .before .before .match .keys2)) (w .ensures .0)
     (c .before .before .before .show-until .result) (c .before .before .before .show-until .last .0) (c .before .before .before .show-until .ensures) (a .pre .8)
-    _ refl refl (c .settled .ensures) refl refl
+    _ refl refl (c .settled .ensures) refl refl refl
 
 pub play-spec : {M : Type 1} → statement M
 play-spec =

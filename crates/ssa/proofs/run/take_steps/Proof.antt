@@ -10,29 +10,31 @@ use Rattle.rules.proofs.Play.{play}
 use Rattle.ssa.specs.declared.PathEnd.the-variants.{Quiet, Spent, Reached, Refused}
 use Rattle.ssa.specs.declared.run.Walked.{Walked}
 use Rattle.ssa.specs.Stepping.{Ready, stateOf}
-use Rattle.ssa.proofs.Playing.{SoFar, so-far-none, at-last, at-limit, goes-on, past-last, nothing-left, turned-down}
+use Rattle.ssa.proofs.Playing.{one-at-most, SoFar, so-far-none, at-last, at-limit, goes-on, past-last, nothing-left, turned-down}
 use Rattle.ssa.proofs.run.take_steps.Statement.{statement}
 use Rattle.ssa.proofs.run.take_steps.Tie as tie
 
 abbrev Inv-loop : tie.InvT-loop
-Inv-loop places transitions initial capacity rate delay arcs kind place weight limit timed counts₀ ats₀ whos₀ props₀ instants last table₀ steps at₀ done₀ counts ats whos props table at done =
+Inv-loop places transitions initial capacity rate delay arcs kind place weight limit traits counts₀ ats₀ whos₀ props₀ instants last table₀ steps at₀ done₀ rounded₀ counts ats whos props table at done rounded =
     let net = lent places transitions initial capacity rate delay arcs kind place weight in
     (done ≤ steps)
+    × (rounded ≤ done)
     × Ready net limit counts ats whos (at .timers)
     × (length props ≡ 64)
     × SoFar (readable net) last instants places
     (play (readable net) last steps (drop (at₀ .next) instants) (stateOf net counts₀ ats₀ whos₀ (at₀ .timers) (at₀ .clock) (at₀ .rng .s)))
     (at₀ .next) (at₀ .peak) table₀
-    (steps - done) done (at .next) (at .peak) (stateOf net counts ats whos (at .timers) (at .clock) (at .rng .s)) table
+    (steps - done) done rounded (at .next) (at .peak) (stateOf net counts ats whos (at .timers) (at .clock) (at .rng .s)) table
 
 abbrev μ-loop : tie.MeasureT-loop
-μ-loop places transitions initial capacity rate delay arcs kind place weight limit timed counts₀ ats₀ whos₀ props₀ instants last table₀ steps at₀ done₀ counts ats whos props table at done =
+μ-loop places transitions initial capacity rate delay arcs kind place weight limit traits counts₀ ats₀ whos₀ props₀ instants last table₀ steps at₀ done₀ rounded₀ counts ats whos props table at done rounded =
     steps - done
 
 loop-holds : tie.Need-loop-holds Inv-loop μ-loop
 loop-holds c =
     let a = c .before .before in
     let s = a .args in (
+      omega arith,
       omega arith,
       a .pre .0,
       a .pre .2,
@@ -43,44 +45,50 @@ one-step-requires : tie.Need-one-step-requires Inv-loop μ-loop
 one-step-requires c κs =
     let l = c .before .before .before .before .before .before .before .before in
     let a = l .before .before .before in
-    (l .loop .inv .1, a .pre .1, l .loop .inv .2, l .loop .inv .3 .within, a .pre .4, omega (arith, a .pre .5, l .loop .inv .3 .listed .long))
+    (l .loop .inv .2, a .pre .1, l .loop .inv .3, l .loop .inv .4 .within, a .pre .4, omega (arith, a .pre .5, l .loop .inv .4 .listed .long))
 
 add-done : tie.Need-add-done Inv-loop μ-loop
 add-done c = let l = c .before .before .before .before .before .before .before .before .before .before .before .before .before in omega (arith, l .before .before .before .fits .steps, c .before .before .before .before .before .before .before .before .before .before .before .before .loop-test .taken)
+
+one-more-requires : tie.Need-one-more-requires Inv-loop μ-loop
+one-more-requires c κs =
+    let l = c .before .before .before .before .before .before .before .before .before .before .before .before .before in
+    omega (arith, l .loop .inv .1, c .before .before .before .before .before .before .before .before .before .before .before .before .loop-test .taken, l .before .before .before .fits .steps)
 
 enum-told : tie.Need-enum-told Inv-loop μ-loop
 enum-told c = search needs
 
 loop-less : tie.Need-loop-less Inv-loop μ-loop
-loop-less c = omega (arith, c .before .before .before .before .before .before .before .before .before .before .before .before .before .before .loop-test .taken)
+loop-less c = omega (arith, c .before .before .before .before .before .before .before .before .before .before .before .before .before .before .before .loop-test .taken)
 
 loop-again : tie.Need-loop-again Inv-loop μ-loop
 loop-again c =
-    let o = c .before .before .before .before .before .before in
+    let o = c .before .before .before .before .before .before .before in
     let l = o .before .before .before .before .before .before .before .before .before in
-    let f = l .loop .inv .3 in
+    let f = l .loop .inv .4 in
     let e : l .before .before .before .args .steps - l .loop .done ≡ suc (l .before .before .before .args .steps - (l .loop .done + 1)) = omega (arith, o .before .before .before .before .before .before .before .before .loop-test .taken) in (
       omega (arith, o .before .before .before .before .before .before .before .before .loop-test .taken),
+      omega (arith, l .loop .inv .1, c .before .before .one-more .ensures, one-at-most (o .one-step .result .rounded)),
       o .one-step .ensures .1 .0,
       o .one-step .ensures .1 .1,
-      goes-on f (l .before .before .before .args .steps - (l .loop .done + 1)) e (o .before .before .before .before .before .before .if1 .taken) (rw (c .enum-told .given .1) at (o .one-step .ensures .0)),
+      goes-on f (l .before .before .before .args .steps - (l .loop .done + 1)) e (o .before .before .before .before .before .before .if1 .taken) (c .before .before .one-more .result) (c .before .before .one-more .ensures) (rw (c .enum-told .given .1) at (o .one-step .ensures .0)),
     )
 
 enum-told-2 : tie.Need-enum-told-2 Inv-loop μ-loop
 enum-told-2 c = search needs
 
 same-length : tie.Need-same-length Inv-loop μ-loop
-same-length c = c .before .before .before .before .before .before .one-step .ensures .1 .2 ∙ c .before .before .before .before .before .before .before .before .before .before .before .before .before .before .before .loop .inv .3 .listed .long
+same-length c = c .before .before .before .before .before .before .before .one-step .ensures .1 .2 ∙ c .before .before .before .before .before .before .before .before .before .before .before .before .before .before .before .before .loop .inv .4 .listed .long
 
 returns : tie.Need-returns Inv-loop μ-loop
 returns c =
-    let o = c .before .before .before .before .before .before in
+    let o = c .before .before .before .before .before .before .before in
     let l = o .before .before .before .before .before .before .before .before .before in
-    let f = l .loop .inv .3 in
+    let f = l .loop .inv .4 in
     let e : l .before .before .before .args .steps - l .loop .done ≡ suc (l .before .before .before .args .steps - (l .loop .done + 1)) = omega (arith, o .before .before .before .before .before .before .before .before .loop-test .taken) in
     let r = o .one-step .result .now in
-    let w : Walked = record { end = Quiet; steps = l .loop .done + 1; next = r .next; peak = r .peak; rng = r .rng } in (
-      nothing-left f (l .before .before .before .args .steps - (l .loop .done + 1)) e (o .before .before .before .before .before .before .if1 .taken) w refl refl (rw (c .enum-told2 .given .1) at (o .one-step .ensures .0)),
+    let w : Walked = record { end = Quiet; steps = l .loop .done + 1; rounded = c .before .before .one-more .result; next = r .next; peak = r .peak; rng = r .rng } in (
+      nothing-left f (l .before .before .before .args .steps - (l .loop .done + 1)) e (o .before .before .before .before .before .before .if1 .taken) w refl (c .before .before .one-more .ensures) refl (rw (c .enum-told2 .given .1) at (o .one-step .ensures .0)),
       (o .one-step .ensures .1 .0 .counts, o .one-step .ensures .1 .2 ∙ f .listed .long, λ i h. o .one-step .ensures .1 .3 i h ∙ f .listed .further i h),
     )
 
@@ -88,17 +96,17 @@ enum-told-3 : tie.Need-enum-told-3 Inv-loop μ-loop
 enum-told-3 c = search needs
 
 same-length-2 : tie.Need-same-length-2 Inv-loop μ-loop
-same-length-2 c = c .before .before .before .before .before .before .one-step .ensures .1 .2 ∙ c .before .before .before .before .before .before .before .before .before .before .before .before .before .before .before .loop .inv .3 .listed .long
+same-length-2 c = c .before .before .before .before .before .before .before .one-step .ensures .1 .2 ∙ c .before .before .before .before .before .before .before .before .before .before .before .before .before .before .before .before .loop .inv .4 .listed .long
 
 returns-2 : tie.Need-returns-2 Inv-loop μ-loop
 returns-2 c =
-    let o = c .before .before .before .before .before .before in
+    let o = c .before .before .before .before .before .before .before in
     let l = o .before .before .before .before .before .before .before .before .before in
-    let f = l .loop .inv .3 in
+    let f = l .loop .inv .4 in
     let e : l .before .before .before .args .steps - l .loop .done ≡ suc (l .before .before .before .args .steps - (l .loop .done + 1)) = omega (arith, o .before .before .before .before .before .before .before .before .loop-test .taken) in
     let r = o .one-step .result .now in
-    let w : Walked = record { end = Reached; steps = l .loop .done + 1; next = r .next; peak = r .peak; rng = r .rng } in (
-      past-last f (l .before .before .before .args .steps - (l .loop .done + 1)) e (o .before .before .before .before .before .before .if1 .taken) w refl refl (rw (c .enum-told3 .given .1) at (o .one-step .ensures .0)),
+    let w : Walked = record { end = Reached; steps = l .loop .done + 1; rounded = c .before .before .one-more .result; next = r .next; peak = r .peak; rng = r .rng } in (
+      past-last f (l .before .before .before .args .steps - (l .loop .done + 1)) e (o .before .before .before .before .before .before .if1 .taken) w refl (c .before .before .one-more .ensures) refl (rw (c .enum-told3 .given .1) at (o .one-step .ensures .0)),
       (o .one-step .ensures .1 .0 .counts, o .one-step .ensures .1 .2 ∙ f .listed .long, λ i h. o .one-step .ensures .1 .3 i h ∙ f .listed .further i h),
     )
 
@@ -106,49 +114,49 @@ enum-known-ending : tie.Need-enum-known-ending Inv-loop μ-loop
 enum-known-ending c = search needs
 
 same-length-3 : tie.Need-same-length-3 Inv-loop μ-loop
-same-length-3 c = c .before .before .before .before .before .before .before .one-step .ensures .1 .2 ∙ c .before .before .before .before .before .before .before .before .before .before .before .before .before .before .before .before .loop .inv .3 .listed .long
+same-length-3 c = c .before .before .before .before .before .before .before .before .one-step .ensures .1 .2 ∙ c .before .before .before .before .before .before .before .before .before .before .before .before .before .before .before .before .before .loop .inv .4 .listed .long
 
 returns-3 : tie.Need-returns-3 Inv-loop μ-loop
 returns-3 c =
-    let o = c .before .before .before .before .before .before .before in
+    let o = c .before .before .before .before .before .before .before .before in
     let l = o .before .before .before .before .before .before .before .before .before in
-    let f = l .loop .inv .3 in
+    let f = l .loop .inv .4 in
     let e : l .before .before .before .args .steps - l .loop .done ≡ suc (l .before .before .before .args .steps - (l .loop .done + 1)) = omega (arith, o .before .before .before .before .before .before .before .before .loop-test .taken) in
     let r = o .one-step .result .now in
-    let w : Walked = record { end = Refused (c .before .ending .given .0 .0); steps = l .loop .done + 1; next = r .next; peak = r .peak; rng = r .rng } in (
+    let w : Walked = record { end = Refused (c .before .ending .given .0 .0); steps = l .loop .done + 1; rounded = c .before .before .before .one-more .result; next = r .next; peak = r .peak; rng = r .rng } in (
       turned-down f (l .before .before .before .args .steps - (l .loop .done + 1)) e (o .before .before .before .before .before .before .if1 .taken) w (c .before .ending .given .0 .0) (rw (c .before .ending .given .1) at (o .one-step .ensures .0)),
       (o .one-step .ensures .1 .0 .counts, o .one-step .ensures .1 .2 ∙ f .listed .long, λ i h. o .one-step .ensures .1 .3 i h ∙ f .listed .further i h),
     )
 
 same-length-4 : tie.Need-same-length-4 Inv-loop μ-loop
-same-length-4 c = c .before .before .before .loop .inv .3 .listed .long
+same-length-4 c = c .before .before .before .loop .inv .4 .listed .long
 
 returns-4 : tie.Need-returns-4 Inv-loop μ-loop
 returns-4 c =
     let l = c .before .before .before in
-    let f = l .loop .inv .3 in
-    let w : Walked = record { end = Reached; steps = l .loop .done; next = l .loop .at .next; peak = l .loop .at .peak; rng = l .loop .at .rng } in
-    (at-last w f refl (c .if1 .left), (l .loop .inv .1 .counts, f .listed .long, f .listed .further))
+    let f = l .loop .inv .4 in
+    let w : Walked = record { end = Reached; steps = l .loop .done; rounded = l .loop .rounded; next = l .loop .at .next; peak = l .loop .at .peak; rng = l .loop .at .rng } in
+    (at-last w f refl (c .if1 .left), (l .loop .inv .2 .counts, f .listed .long, f .listed .further))
 
 same-length-5 : tie.Need-same-length-5 Inv-loop μ-loop
-same-length-5 c = c .before .before .before .loop .inv .3 .listed .long
+same-length-5 c = c .before .before .before .loop .inv .4 .listed .long
 
 returns-5 : tie.Need-returns-5 Inv-loop μ-loop
 returns-5 c =
     let l = c .before .before .before in
-    let f = l .loop .inv .3 in
-    let w : Walked = record { end = Spent; steps = l .loop .done; next = l .loop .at .next; peak = l .loop .at .peak; rng = l .loop .at .rng } in
-    (at-limit w f refl (omega (arith, c .before .before .loop-test .left)) (c .if2 .taken), (l .loop .inv .1 .counts, f .listed .long, f .listed .further))
+    let f = l .loop .inv .4 in
+    let w : Walked = record { end = Spent; steps = l .loop .done; rounded = l .loop .rounded; next = l .loop .at .next; peak = l .loop .at .peak; rng = l .loop .at .rng } in
+    (at-limit w f refl (omega (arith, c .before .before .loop-test .left)) (c .if2 .taken), (l .loop .inv .2 .counts, f .listed .long, f .listed .further))
 
 same-length-6 : tie.Need-same-length-6 Inv-loop μ-loop
-same-length-6 c = c .before .before .before .loop .inv .3 .listed .long
+same-length-6 c = c .before .before .before .loop .inv .4 .listed .long
 
 returns-6 : tie.Need-returns-6 Inv-loop μ-loop
 returns-6 c =
     let l = c .before .before .before in
-    let f = l .loop .inv .3 in
-    let w : Walked = record { end = Reached; steps = l .loop .done; next = l .loop .at .next; peak = l .loop .at .peak; rng = l .loop .at .rng } in
-    (at-last w f refl (c .if2 .left), (l .loop .inv .1 .counts, f .listed .long, f .listed .further))
+    let f = l .loop .inv .4 in
+    let w : Walked = record { end = Reached; steps = l .loop .done; rounded = l .loop .rounded; next = l .loop .at .next; peak = l .loop .at .peak; rng = l .loop .at .rng } in
+    (at-last w f refl (c .if2 .left), (l .loop .inv .2 .counts, f .listed .long, f .listed .further))
 
 pub take-steps-spec : {M : Type 1} → statement M
 take-steps-spec =
@@ -159,6 +167,7 @@ take-steps-spec =
     loop-holds
     one-step-requires
     add-done
+    one-more-requires
     enum-told
     loop-less
     loop-again

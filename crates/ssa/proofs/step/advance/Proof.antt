@@ -22,14 +22,14 @@ abbrev from : tie.Start → State
 from s = stateOf (net s) (s .args .counts .now) (s .args .ats .now) (s .args .whos .now) (s .args .running) (s .args .t) (s .args .rng .s)
 
 start-all-requires : tie.Need-start-all-requires
-start-all-requires c κs = (c .before .before .before .pre .0, c .before .before .before .pre .1)
+start-all-requires c κs = (c .before .before .before .pre .0, c .before .before .before .pre .1 .timers)
 
 returns : tie.Need-returns
 returns c =
     let b = c .before in
     let s = b .before .before .before .before in (
       advance-full (net s) (from s) (b .start-all .last .1 .1 .1 .1 .1 .1 .1 .1 .1 .1 .1 .1 .0) (b .start-all .last .1 .1 .1 .1 .1 .1 .1 .1 .1 .1 .1 .1 .1 .0)
-          (b .start-all .last .1 .1 .1 .1 .1 .1 .1 .1 .1 .1 .1 .1 .1 .1 .0) (b .start-all .result) (b .start-all .ensures .0) (c .if1 .taken) _ _ _ _,
+          (b .start-all .last .1 .1 .1 .1 .1 .1 .1 .1 .1 .1 .1 .1 .1 .1 .0) (b .start-all .result) (b .start-all .ensures .0) (c .if1 .taken) _ _ _ _ _,
       (b .start-all .ensures .1, s .pre .2),
     )
 
@@ -39,12 +39,19 @@ propensities-requires c κs =
     let r = b .start-all .ensures .1 in
     (r .tidy, r .limits, r .counts, b .before .before .before .before .pre .2)
 
+adds-rounded-requires : tie.Need-adds-rounded-requires
+adds-rounded-requires c κs =
+    let b = c .before .before .before .before .before .before in
+    let r = b .start-all .ensures .1 in
+    let p = c .before .before .propensities .ensures in
+    (r .tidy, b .before .before .before .before .pre .1, r .counts, p .long, p .each)
+
 waiting-requires : tie.Need-waiting-requires
 waiting-requires c κs = search needs
 
 element-copy-out-next-event : tie.Need-element-copy-out-next-event
 element-copy-out-next-event c =
-    let r = c .before .before .before .before .before .before .start-all .ensures .1 in
+    let r = c .before .before .before .before .before .before .before .before .before .start-all .ensures .1 in
     omega (arith, r .ats)
 
 next-event-requires : tie.Need-next-event-requires
@@ -60,7 +67,7 @@ enum-known-what-2 : tie.Need-enum-known-what-2
 enum-known-what-2 c = search needs
 
 abbrev begun : tie.After-next-event → tie.After-start-all
-begun c = c .before .before .before .before .before .before .before .before
+begun c = c .before .before .before .before .before .before .before .before .before .before .before
 
 abbrev start : tie.After-next-event → tie.Start
 start c = begun c .before .before .before .before
@@ -68,32 +75,35 @@ start c = begun c .before .before .before .before
 goes-on : (c : tie.After-next-event)
     → Going (net (start c)) (from (start c)) (begun c .start-all .last .1 .1 .1 .1 .1 .1 .1 .1 .1 .1 .1 .1 .0) (begun c .start-all .last .1 .1 .1 .1 .1 .1 .1 .1 .1 .1 .1 .1 .1 .0)
     (begun c .start-all .last .1 .1 .1 .1 .1 .1 .1 .1 .1 .1 .1 .1 .1 .1 .0) (begun c .start-all .result .timers)
-    (c .before .before .before .before .propensities .last .1 .1 .1 .1 .1 .1 .1 .1 .1 .1 .1 .1 .0) (c .before .before .before .before .propensities .result)
+    (c .before .before .before .before .before .before .before .propensities .last .1 .1 .1 .1 .1 .1 .1 .1 .1 .1 .1 .1 .0) (c .before .before .before .before .before .before .before .propensities .result)
+    (c .before .before .before .before .adds-rounded .result)
     (c .before .before .before .waiting .result .rng .s) (nextOf (c .next-event .result))
 goes-on c =
     let b = begun c in
     let s = start c in
     let w = c .before .before .before in
-    let p = w .before in
+    let a = w .before in
+    let p = a .before .before .before in
     going (net s) (from s) (b .start-all .last .1 .1 .1 .1 .1 .1 .1 .1 .1 .1 .1 .1 .0) (b .start-all .last .1 .1 .1 .1 .1 .1 .1 .1 .1 .1 .1 .1 .1 .0)
     (b .start-all .last .1 .1 .1 .1 .1 .1 .1 .1 .1 .1 .1 .1 .1 .1 .0) (b .start-all .result) (b .start-all .ensures .0)
-    (p .before .before .before .if1 .left) (rw length-timers (s .pre .0 .few)) (p .propensities .last .1 .1 .1 .1 .1 .1 .1 .1 .1 .1 .1 .1 .0) (p .propensities .result) (p .propensities .ensures)
+    (p .before .before .before .if1 .left) (rw length-timers (s .pre .0 .few)) (p .propensities .last .1 .1 .1 .1 .1 .1 .1 .1 .1 .1 .1 .1 .0) (p .propensities .result)
+    (a .adds-rounded .result) (p .propensities .ensures) (a .adds-rounded .ensures)
     (w .waiting .result .dt) (w .waiting .result .rng .s) (w .waiting .ensures .0) (w .waiting .ensures .1) (nextOf (c .next-event .result)) (c .next-event .ensures _ (told _ _ _))
 
 returns-2 : tie.Need-returns-2
 returns-2 c =
     let e = c .before .before in
-    (advance-nothing (goes-on e) (ap nextOf (c .enum-told .given .1)), (begun e .start-all .ensures .1, e .before .before .before .before .propensities .ensures .long))
+    (advance-nothing (goes-on e) (ap nextOf (c .enum-told .given .1)), (begun e .start-all .ensures .1, e .before .before .before .before .before .before .before .propensities .ensures .long))
 
 returns-3 : tie.Need-returns-3
 returns-3 c =
     let e = c .before .before .before in
-    (advance-race (goes-on e) (c .before .what .given .0 .0) (ap nextOf (c .before .what .given .1)), (begun e .start-all .ensures .1, e .before .before .before .before .propensities .ensures .long))
+    (advance-race (goes-on e) (c .before .what .given .0 .0) (ap nextOf (c .before .what .given .1)), (begun e .start-all .ensures .1, e .before .before .before .before .before .before .before .propensities .ensures .long))
 
 returns-4 : tie.Need-returns-4
 returns-4 c =
     let e = c .before .before .before in
-    (advance-completion (goes-on e) (c .before .what2 .given .0 .0) (ap nextOf (c .before .what2 .given .1)), (begun e .start-all .ensures .1, e .before .before .before .before .propensities .ensures .long))
+    (advance-completion (goes-on e) (c .before .what2 .given .0 .0) (ap nextOf (c .before .what2 .given .1)), (begun e .start-all .ensures .1, e .before .before .before .before .before .before .before .propensities .ensures .long))
 
 pub advance-spec : {M : Type 1} → statement M
 advance-spec =
@@ -102,6 +112,7 @@ advance-spec =
     start-all-requires
     returns
     propensities-requires
+    adds-rounded-requires
     waiting-requires
     element-copy-out-next-event
     next-event-requires

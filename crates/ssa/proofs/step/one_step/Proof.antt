@@ -47,7 +47,7 @@ abbrev event-of : tie.After-advance → Answer Event
 event-of d = eventOf (net d) (reads d) (d .advance .result .a0) (props d) (d .advance .result .completes)
 
 advanced : (d : tie.After-advance)
-    → AdvancedBy (net d) (rule d) (from d) (reads d) (props d) (d .advance .result .a0) (d .advance .result .completes) (d .advance .result .due)
+    → AdvancedBy (net d) (rule d) (from d) (reads d) (props d) (d .advance .result .a0) (d .advance .result .rounded) (d .advance .result .completes) (d .advance .result .due)
 advanced d = d .advance .ensures .0
 
 -- an event, from where the counts have been shown: a completion only where a timer runs
@@ -55,7 +55,7 @@ abbrev at-event : tie.After-show → tie.After-advance
 at-event w = w .before .before .before .before .before .before
 
 follows : (w : tie.After-show)
-    → (at-event w .advance .result .completes ≡ true → 0 < at-event w .advance .result .timers) × Sets (rule (at-event w)) (reads (at-event w)) (event-of (at-event w))
+    → (at-event w .advance .result .completes ≡ true → 0 < at-event w .advance .result .timers) × Sets (rule (at-event w)) (at-event w .advance .result .rounded) (reads (at-event w)) (event-of (at-event w))
 follows w =
     let d = at-event w in
     let l = d .advance .last .1 .1 .1 .1 .1 .1 .1 .1 .1 .1 .1 .1 .1 in
@@ -92,7 +92,7 @@ returns : tie.Need-returns
 returns c =
     let w = c .before .before .before in
     let v = at-event w .advance .ensures .1 in (
-      step-reached {spec = rule (at-event w)} {u = reads (at-event w)} {e = event-of (at-event w)} (follows w .1) (c .if1 .taken) (w .show .ensures),
+      step-reached {spec = rule (at-event w)} {rounded = at-event w .advance .result .rounded} {u = reads (at-event w)} {e = event-of (at-event w)} (follows w .1) (c .if1 .taken) (w .show .ensures),
       (v .0, v .1, w .show .ensures .cells .long, w .show .ensures .cells .further),
     )
 
@@ -110,7 +110,7 @@ returns-2 c =
     let f = c .before .before in
     let b = f .before .before .before .before .before in
     let w = b .before .before .before in (
-      step-on {spec = rule (at-event w)} {u = reads (at-event w)} {e = event-of (at-event w)} (follows w .1) (b .if1 .left) (w .show .ensures) (f .happen .ensures .0) (c .if2 .taken),
+      step-on {spec = rule (at-event w)} {rounded = at-event w .advance .result .rounded} {u = reads (at-event w)} {e = event-of (at-event w)} (follows w .1) (b .if1 .left) (w .show .ensures) (f .happen .ensures .0) (c .if2 .taken),
       (f .happen .ensures .1, at-event w .advance .ensures .1 .1, w .show .ensures .cells .long, w .show .ensures .cells .further),
     )
 
@@ -135,7 +135,7 @@ returns-5 c =
     let f = c .before .before in
     let b = f .before .before .before .before .before in
     let w = b .before .before .before in (
-      step-large {spec = rule (at-event w)} {u = reads (at-event w)} {e = event-of (at-event w)} (follows w .1) (b .if1 .left) (f .happen .ensures .0) (c .if2 .left),
+      step-large {spec = rule (at-event w)} {rounded = at-event w .advance .result .rounded} {u = reads (at-event w)} {e = event-of (at-event w)} (follows w .1) (b .if1 .left) (f .happen .ensures .0) (c .if2 .left),
       (f .happen .ensures .1, at-event w .advance .ensures .1 .1, w .show .ensures .cells .long, w .show .ensures .cells .further),
     )
 
