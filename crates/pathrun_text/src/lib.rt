@@ -25,8 +25,8 @@ fn table() -> [f64; 2048]
     [0.0; 2048]
 }
 
-// The float of these bits; all patterns of a NaN are one.
-fn float_of(bits: u64) -> f64
+// The float of these bits, as a run line has its horizon; all patterns of a NaN are one.
+pub fn float_of(bits: u64) -> f64
     ensures { λ r. ⌜ r ≡ ofBits binary64 bits ⌝ }
 {
     if 0x7FF0_0000_0000_0000 < bits % 0x8000_0000_0000_0000 {
