@@ -13,7 +13,7 @@ use lib.Ieee.{binary64, ofBits}
 use lib.Ieee.Fits.{eq→eqb}
 use Rattle.combinations.specs.Binomial.{falling, factorial, binomial, exact}
 use Rattle.combinations.specs.Parts.{Agree, Holds}
-use Rattle.combinations.proofs.Binomial.{factorial-pos, falling-front, no-rest}
+use Rattle.combinations.proofs.Binomial.{factorial-pos, no-rest}
 use Rattle.combinations.proofs.Patterns.{normal-whole}
 use Rattle.combinations.proofs.Tables.{at-below}
 use Rattle.combinations.proofs.Value.{same-test, no-test}
@@ -38,13 +38,6 @@ scaled M F k o t e = mul-right-comm M (2 ^ k) F ∙ ap (λ (x : ℕ). x * 2 ^ k)
 
 -- ---- the factorial
 
-falling-self : (w : ℕ) → falling w w ≡ factorial w
-falling-self zero = refl
-falling-self (suc w) = falling-front w w ∙ mul-comm (suc w) (falling w w) ∙ (λ i. falling-self w i * add w i)
-  where
-    add : (w : ℕ) → suc w ≡ w + 1
-    add w = omega arith
-
 factorial-small : (w : ℕ) → w ≤ 16 → factorial w ≤ 2 ^ 45
 factorial-small w h = leb→le (factorial w) (2 ^ 45) (at-below (λ k. leb (factorial k) (2 ^ 45)) 17 tt w (omega arith))
 
@@ -55,7 +48,7 @@ pub apart : {h l h' l' : ℕ} → l < 2 ^ 64 → l' < 2 ^ 64 → h * 2 ^ 64 + l 
 apart p q e = (omega arith, omega arith)
 
 module _ (b m w : ℕ) (g : 2 ^ 52 ≤ b) (s : b < 2047 * 2 ^ 52) (few : w ≤ 16)
-    {hl ll tl hr lr tr : ℕ} (x : Holds ((b % 2 ^ 52 + 2 ^ 52) * falling w w) hl ll tl) (y : Holds (1 * falling m w) hr lr tr) where
+    {hl ll tl hr lr tr : ℕ} (x : Holds ((b % 2 ^ 52 + 2 ^ 52) * factorial w) hl ll tl) (y : Holds (falling m w) hr lr tr) where
   abbrev M : ℕ
   M = b % 2 ^ 52 + 2 ^ 52
 
@@ -63,10 +56,10 @@ module _ (b m w : ℕ) (g : 2 ^ 52 ≤ b) (s : b < 2047 * 2 ^ 52) (few : w ≤ 1
   k = b / 2 ^ 52 - 1
 
   left : M * factorial w ≡ x .odd * 2 ^ tl
-  left = ap (λ (z : ℕ). M * z) (sym (falling-self w)) ∙ x .product
+  left = x .product
 
   right : binomial m w * factorial w ≡ y .odd * 2 ^ tr
-  right = no-rest m w ∙ sym (one-mul (falling m w)) ∙ y .product
+  right = no-rest m w ∙ y .product
 
   -- as exact values the two are equal if both parts are
   to-parts : M * 2 ^ k ≡ binomial m w * 2 ^ 1074 → (x .odd ≡ y .odd) × (tl + k ≡ tr + 1074)

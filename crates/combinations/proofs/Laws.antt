@@ -1,5 +1,5 @@
 -- The laws for callers, of the whole answer. Assumes nothing.
-use mathlib.Core.Path.{_≡_, refl, sym, ap, _∙_}
+use mathlib.Core.Path.{_≡_, refl, sym, ap, _∙_, subst}
 use mathlib.Core.Logic.{⊎-elim}
 use mathlib.Core.Bool.{true}
 use Prim.Native.Nat.{ℕ, zero, suc, _-_, _^_, _≤_, _<_}
@@ -7,7 +7,7 @@ use native.Mathlib.Nat.{eq-zero-or-pos, le-trans}
 use native.Mathlib.Omega.{arith}
 use lib.Dec.{leb, leb→le}
 use lib.IntN.{pos}
-use lib.ListN.{getD}
+use lib.ListN.{getD, List·getD-eq-default as getD-eq-default}
 use lib.Ieee.{ofBits, ofInt, eq}
 use borrow.Author.Tests.{le-ltb, lt-ltb, lt-leb}
 use Rattle.combinations.specs.Binomial.{binomial, whole, exact}
@@ -60,20 +60,26 @@ every-flag m (suc w) h l =
 in-domain : (m w : ℕ) → w ≤ 16 → m ≤ getD unrounded w 0 → m ≤ 2 ^ 53
 in-domain m w h l = le-trans l (leb→le (getD unrounded w 0) (2 ^ 53) (at-entry (λ k n. leb n (2 ^ 53)) unrounded tt w (omega arith)))
 
+fewer : (m w : ℕ) → m < suc w → combinations (pos m) (pos (suc w)) ≡ value (float (binomial m (suc w))) true
+fewer m w k = short m w k ∙ ap (λ x. value x true) (zero-is ∙ ap float (sym (binomial-short m (suc w) k)))
+
 pub exact-up-to : ExactUpTo
-exact-up-to m zero h l = ap (λ x. value x true) one-is
-exact-up-to m (suc w) h l =
+exact-up-to m zero l = ap (λ x. value x true) one-is
+exact-up-to m (suc w) l =
     ⊎-elim
     (λ z.
+    let h : suc w ≤ 16 = omega arith in
+    ⊎-elim
+    (λ y.
     let k : suc w ≤ m = omega arith in
     worked m w h (in-domain m (suc w) h l) k ∙ (λ i. value (product-is m (suc w) h k l i) (product-exact m (suc w) h k l i)))
-    (λ p.
-    let k : m < suc w = omega arith in
-    short m w k ∙ ap (λ x. value x true) (zero-is ∙ ap float (sym (binomial-short m (suc w) k))))
-    (eq-zero-or-pos (suc w - m))
+    (λ p. fewer m w (omega arith))
+    (eq-zero-or-pos (suc w - m)))
+    (λ p. fewer m w (omega (arith, subst (λ (n : ℕ). m ≤ n) (getD-eq-default unrounded 0 {n = suc w} (omega arith)) l)))
+    (eq-zero-or-pos (suc w - 16))
 
 pub one-is-exact : OneIsExact
-one-is-exact m h = exact-up-to m 1 (omega arith) h ∙ ap (λ (n : ℕ). value (float n) true) (binomial-one m)
+one-is-exact m h = exact-up-to m 1 h ∙ ap (λ (n : ℕ). value (float n) true) (binomial-one m)
 
 -- ---- what the flag says
 

@@ -18,7 +18,7 @@ use Rattle.combinations.specs.Binomial.{binomial, exact}
 use Rattle.floats.specs.{float}
 use Rattle.combinations.specs.Combinations.{one64, withFactor, product, wholeFactor}
 use Rattle.combinations.specs.Theorems.{unrounded}
-use Rattle.combinations.proofs.Binomial.{next-binomial, binomial-pos, step-mono}
+use Rattle.combinations.proofs.Binomial.{next-binomial, binomial-one, binomial-pos, step-mono}
 use Rattle.combinations.proofs.Product.{minus-pos}
 use Rattle.combinations.proofs.Tables.{below, at-below, every, at-entry}
 use Rattle.combinations.proofs.Value.{value-whole}
@@ -146,3 +146,7 @@ module _ (m w : ℕ) (h : w ≤ 16) (k : w ≤ m) (l : m ≤ getD unrounded w 0)
       product-fits : (n : ℕ) → T (fits binary64 (product (wholeFactor (pos m)) n))
       product-fits zero = ofBits-fits binary64 0x3FF0_0000_0000_0000
       product-fits (suc i) = div-fits binary64 (mul binary64 (product (wholeFactor (pos m)) i) (wholeFactor (pos m) i)) (float (i + 1))
+
+-- the first factor over 1 is m itself
+pub first-factor : (m : ℕ) → 1 ≤ m → m ≤ 2 ^ 53 → float m ≡ product (wholeFactor (pos m)) 1
+first-factor m h l = sym (product-is m 1 (omega arith) h l ∙ ap float (binomial-one m))

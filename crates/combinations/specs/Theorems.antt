@@ -47,9 +47,10 @@ abbrev pub unrounded : List ℕ
 unrounded =
     9007199254740992 ∷ 9007199254740992 ∷ 94906266 ∷ 262145 ∷ 15248 ∷ 2932 ∷ 1015 ∷ 489 ∷ 290 ∷ 196 ∷ 146 ∷ 116 ∷ 97 ∷ 84 ∷ 75 ∷ 69 ∷ 64 ∷ []
 
--- Up to there no step rounds, and the answer is the binomial coefficient as a float, exact: at w = 2 up to m = 94,906,266, at w = 16 up to 64.
+-- Up to there no step rounds, and the answer is the binomial coefficient as a float, exact: at w = 2 up to m = 94,906,266, at w = 16 up to 64. Past 16 the table
+-- says 0, and of no token there are no ways.
 abbrev pub ExactUpTo : Type 0
-ExactUpTo = (m w : ℕ) → w ≤ 16 → m ≤ getD unrounded w 0 → combinations (pos m) (pos w) ≡ value (float (binomial m w)) true
+ExactUpTo = (m w : ℕ) → m ≤ getD unrounded w 0 → combinations (pos m) (pos w) ≡ value (float (binomial m w)) true
 
 -- At w = 1 that is every m: as many ways as there are tokens.
 abbrev pub OneIsExact : Type 0

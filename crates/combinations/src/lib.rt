@@ -4,7 +4,7 @@ ghost use mathlib.Core.Path.{_≡_};
 ghost use Prim.Native.Nat.{_≤_, _<_, _^_};
 ghost use lib.IntN.{pos};
 ghost use lib.ListN.{getD};
-ghost use Rattle.combinations.specs.Binomial.{exact};
+ghost use Rattle.combinations.specs.Binomial.{binomial, exact};
 ghost use Rattle.combinations.specs.Combinations as Spec;
 ghost use Rattle.combinations.specs.Real as Real;
 ghost use Rattle.combinations.specs.Theorems as Theorems;
@@ -53,6 +53,37 @@ fn whole_product(m: u64, w: u64) -> f64
     result
 }
 
+// The same product from its first factor on, which m over 1 is.
+fn begun_product(m: u64, w: u64) -> f64
+    requires { ⌜ (1 ≤ w) × (w ≤ m) × (m ≤ 2 ^ 53) ⌝ }
+    ensures { λ r. ⌜ r ≡ Spec.product (Spec.wholeFactor (pos m)) w ⌝ }
+{
+    let mut result = m as f64;
+    for i in 1..w {
+        result = with_factor(result, (m - i) as f64, i);
+    }
+    result
+}
+
+// The same for two factors: compiled, nothing is divided.
+fn pairs(m: u64) -> f64
+    requires { ⌜ (2 ≤ m) × (m ≤ 2 ^ 53) ⌝ }
+    ensures { λ r. ⌜ r ≡ Spec.product (Spec.wholeFactor (pos m)) 2 ⌝ }
+{
+    with_factor(m as f64, (m - 1) as f64, 1)
+}
+
+// The same by the shortest way.
+fn short_product(m: u64, w: u64) -> f64
+    requires { ⌜ (1 ≤ w) × (w ≤ m) × (m ≤ 2 ^ 53) ⌝ }
+    ensures { λ r. ⌜ r ≡ Spec.product (Spec.wholeFactor (pos m)) w ⌝ }
+{
+    if w == 2 {
+        return pairs(m);
+    }
+    begun_product(m, w)
+}
+
 // x over 1, times x - 1 over 2, and so on: w factors.
 fn real_product(x: f64, w: u64) -> f64
     requires { ⌜ w ≤ 16 ⌝ }
@@ -65,9 +96,9 @@ fn real_product(x: f64, w: u64) -> f64
     result
 }
 
-// The largest m, up to 2^53, at which no product of w steps passes 2^53. A `match`: an array would be written to the stack at each call.
-fn unrounded(w: u64) -> u64
-    requires { ⌜ w ≤ 16 ⌝ }
+// The largest m, up to 2^53, at which no product of w steps passes 2^53, so that the float is exact; 0 where w is above 16. A `match`: an array would be
+// written to the stack at each call.
+pub fn unrounded(w: u64) -> u64
     ensures { λ r. ⌜ r ≡ getD Theorems.unrounded w 0 ⌝ }
 {
     match w {
@@ -113,14 +144,28 @@ fn judged(m: u64, w: u64) -> Ways
     Ways::Value(x, exact)
 }
 
-// The same for one or two factors, as most takes have: up to the bound of two nothing is looked up and, once compiled, nothing divided.
+// How many ways there are to choose w of m, as a whole number, up to the bound of two.
+fn few_ways(m: u64, w: u64) -> u64
+    requires { ⌜ (w ≤ 2) × (w ≤ m) × (m ≤ 94_906_266) ⌝ }
+    ensures { λ r. ⌜ (r ≡ binomial m w) × (r ≤ 2 ^ 53) ⌝ }
+{
+    if w == 2 {
+        return m * (m - 1) / 2;
+    }
+    if w == 1 {
+        return m;
+    }
+    1
+}
+
+// The same for one or two factors, as most takes have: up to the bound of two nothing is looked up, and the whole number is the float.
 fn judged_few(m: u64, w: u64) -> Ways
     requires { ⌜ (w ≤ 2) × (w ≤ m) × (m ≤ 2 ^ 53) ⌝ }
     ensures { λ r. ⌜ Spec.meaning r ≡ Spec.counted m w ⌝ }
 {
     if m <= UNROUNDED_2 {
-        let x = whole_product(m, w);
-        return Ways::Value(x, true);
+        let n = few_ways(m, w);
+        return Ways::Value(n as f64, true);
     }
     judged(m, w)
 }
@@ -172,7 +217,7 @@ pub fn combinations_unflagged(m: i64, w: i64) -> RealWays
     if m > LARGEST {
         return RealWays::Refused;
     }
-    RealWays::Value(whole_product(m as u64, w as u64))
+    RealWays::Value(short_product(m as u64, w as u64))
 }
 
 // The same product for a real x, where no rule asks whether x is below w: 1 where w is 0 or below, refused where w is above 16.

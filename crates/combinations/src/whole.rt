@@ -4,6 +4,7 @@
 ghost use mathlib.Core.Path.{_≡_};
 ghost use Prim.Native.Nat.{ℕ, _+_, _*_, _%_, _^_, _≤_, _<_};
 ghost use lib.Ieee.{binary64, ofBits};
+ghost use Rattle.combinations.specs.Binomial as Binomial;
 ghost use Rattle.combinations.specs.Binomial.{falling, exact};
 ghost use Rattle.combinations.specs.Parts.{Holds};
 
@@ -53,16 +54,56 @@ fn times(p: Parts, n: u64) -> Parts
     }
 }
 
-// start * top * (top - 1) * ..: count factors behind the start.
-fn with_factors(start: u64, top: u64, count: u64) -> Parts
-    requires { ⌜ (0 < start) × (count ≤ top) × (count ≤ 16) ⌝ }
-    ensures { λ r. ⌜ Holds (start * falling top count) (r .high) (r .low) (r .twos) × (r .twos ≤ 2 ^ 32) ⌝ }
+// top * (top - 1) * ..: count factors.
+fn falling_parts(top: u64, count: u64) -> Parts
+    requires { ⌜ (count ≤ top) × (count ≤ 16) ⌝ }
+    ensures { λ r. ⌜ Holds (falling top count) (r .high) (r .low) (r .twos) × (r .twos ≤ 2 ^ 32) ⌝ }
 {
-    let mut p = stripped(start);
+    let mut p = Parts {
+        high: 0,
+        low: 1,
+        twos: 0,
+    };
     for i in 0..count {
         p = times(p, top - i);
     }
     p
+}
+
+// w!
+fn factorial(w: u64) -> u64
+    requires { ⌜ w ≤ 16 ⌝ }
+    ensures { λ r. ⌜ r ≡ Binomial.factorial w ⌝ }
+{
+    match w {
+        0 => 1,
+        1 => 1,
+        2 => 2,
+        3 => 6,
+        4 => 24,
+        5 => 120,
+        6 => 720,
+        7 => 5040,
+        8 => 40320,
+        9 => 362880,
+        10 => 3628800,
+        11 => 39916800,
+        12 => 479001600,
+        13 => 6227020800,
+        14 => 87178291200,
+        15 => 1307674368000,
+        16 => 20922789888000,
+        _ => 0,
+    }
+}
+
+// n times w!.
+fn times_factorial(n: u64, w: u64) -> Parts
+    requires { ⌜ (0 < n) × (w ≤ 16) ⌝ }
+    ensures { λ r. ⌜ Holds (n * Binomial.factorial w) (r .high) (r .low) (r .twos) × (r .twos ≤ 2 ^ 32) ⌝ }
+{
+    let p = stripped(n);
+    times(p, factorial(w))
 }
 
 // Does the normal value whose pattern is b equal the binomial coefficient? Its M and k, in units of 2^-1074, stand in the pattern.
@@ -70,8 +111,8 @@ fn normal_equals_binomial(b: u64, m: u64, w: u64) -> bool
     requires { ⌜ (2 ^ 52 ≤ b) × (b < 0x7FF0_0000_0000_0000) × (w ≤ 16) × (w ≤ m) ⌝ }
     ensures { λ r. ⌜ r ≡ exact (ofBits binary64 b) m w ⌝ }
 {
-    let l = with_factors(b % 0x10_0000_0000_0000 + 0x10_0000_0000_0000, w, w);
-    let r = with_factors(1, m, w);
+    let l = times_factorial(b % 0x10_0000_0000_0000 + 0x10_0000_0000_0000, w);
+    let r = falling_parts(m, w);
     if l.high == r.high {
         if l.low == r.low {
             return l.twos + (b >> 52) == r.twos + 1075;

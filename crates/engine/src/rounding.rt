@@ -1,6 +1,6 @@
 // Which propensities are rounded: those above 0 with an inexact binomial. Only a kinetic take of several tokens can have one.
 ghost use mathlib.Core.Path.{_≡_};
-ghost use mathlib.Core.Bool.{_&&_, not};
+ghost use mathlib.Core.Bool.{true, _&&_, not};
 ghost use Prim.Native.Nat.{_^_, _<_, _≤_};
 ghost use lib.Dec.{eqb};
 ghost use lib.Ieee.{lt};
@@ -16,7 +16,7 @@ ghost use Rattle.engine.specs.Traits as Spec;
 use crate::traits::Traits;
 use combinations::Ways;
 
-// Is the number of ways to choose w of m tokens no float?
+// Does the float of the ways to choose w of m tokens differ from their number?
 fn inexact_ways(m: u64, w: u64) -> bool
     requires { ⌜ (m ≤ 2 ^ 53) × (w ≤ 1_000_000) ⌝ }
     ensures { λ r. ⌜ r ≡ not (Exact.exactWays m w) ⌝ }
@@ -28,13 +28,13 @@ fn inexact_ways(m: u64, w: u64) -> bool
     }
 }
 
-// Is that of the ways of one slot, at the count of its place? Only a kinetic take has them, and one token is taken in as many ways as there are tokens.
+// Is that of the ways of one slot, at the count of its place? Only a kinetic take has them, and up to a bound by its weight they are exact.
 fn inexact_slot(kind: u64, weight: u64, count: u64) -> bool
     requires { ⌜ (count ≤ 2 ^ 53) × (weight ≤ 1_000_000) ⌝ }
     ensures { λ r. ⌜ r ≡ (eqb kind 0 && not (Exact.exactWays count (Reader.amount weight))) ⌝ }
 {
     if kind == 0 {
-        if weight <= 1 {
+        if count <= combinations::unrounded(weight) {
             return false;
         }
         return inexact_ways(count, weight);
@@ -115,7 +115,22 @@ fn rounded<'a>(
     false
 }
 
-// Does a0, the total of these propensities, add a rounded one?
+// Is no count above the sure one of its place?
+fn within<'a>(places: usize, counts: &[u64; 32], sure: &'a [u64; 32]) -> bool
+    requires { ⌜ places ≤ 32 ⌝ }
+    ensures { λ r. ⌜ (r ≡ true → Spec.Within places (now (sure .entry)) (now (counts .entry))) × (Spec.Within places (now (sure .entry)) (now (counts .entry)) → r ≡ true) ⌝ }
+{
+    let mut p: usize = 0;
+    while p < places {
+        if sure[p] < counts[p] {
+            return false;
+        }
+        p += 1;
+    }
+    true
+}
+
+// Does a0, the total of these propensities, add a rounded one? None is where no count is above its sure one, as almost always.
 pub fn adds_rounded<'a>(
     places: usize,
     transitions: usize,
@@ -127,17 +142,21 @@ pub fn adds_rounded<'a>(
     kind: &'a [u64; 1024],
     place: &'a [usize; 1024],
     weight: &'a [u64; 1024],
+    sure: &'a [u64; 32],
     traits: Traits,
     counts: &[u64; 32],
     props: &[f64; 64],
 ) -> bool
     ghost { NetRecord }
     requires { λ net. ⌜ lent places transitions (now initial) (now capacity) (now rate) (now delay) (now arcs) (now kind) (now place) (now weight) ≡ net ⌝ }
-    requires { λ net. ⌜ Engine.Tidy net × Spec.Of net traits × Engine.Counts (now counts) × (length (now props) ≡ 64)
+    requires { λ net. ⌜ Engine.Tidy net × Spec.Of net (now sure) traits × Engine.Counts (now counts) × (length (now props) ≡ 64)
         × (take transitions (now props) ≡ Propensity.propensities (Record.readable net) (Engine.marking places (now counts))) ⌝ }
     ensures { λ net r. ⌜ r ≡ Exact.addsRounded (Record.readable net) (Engine.marking places (now (counts .entry))) ⌝ }
 {
     if !traits.heavy {
+        return false;
+    }
+    if within(places, counts, sure) {
         return false;
     }
     let mut j: usize = 0;

@@ -18,6 +18,9 @@ pub struct Traits {
     pub heavy: bool,
 }
 
+// Counts go up to 2^53.
+const LARGEST: u64 = 1 << 53;
+
 // Is a slot a kinetic take of several tokens?
 fn heavy_slot(kind: u64, weight: u64) -> bool
     ensures { λ r. ⌜ r ≡ (eqb kind 0 && ltb 1 (Reader.amount weight)) ⌝ }
@@ -79,6 +82,42 @@ fn any_heavy<'a>(
     false
 }
 
+// The bound so far of a place, lowered by one of its slots to the count up to which that one's ways are exact.
+fn lowered(bound: u64, kind: u64, weight: u64) -> u64
+    ensures { λ r. ⌜ (r ≤ bound) × (kind ≡ 0 → Spec.ExactTo r (Reader.amount weight)) ⌝ }
+{
+    if kind == 0 {
+        let own = combinations::unrounded(weight);
+        if own < bound {
+            return own;
+        }
+    }
+    bound
+}
+
+// For each place a count up to which the ways of every kinetic take are exact.
+fn sure_counts<'a>(
+    transitions: usize,
+    kind: &'a [u64; 1024],
+    place: &'a [usize; 1024],
+    weight: &'a [u64; 1024],
+) -> [u64; 32]
+    requires { ⌜ (transitions ≤ 64) × Engine.Below 32 (now place) ⌝ }
+    ensures { λ r. ⌜ Spec.Sure transitions (now (kind .entry)) (now (place .entry)) (now (weight .entry)) r ⌝ }
+{
+    let end = 16 * transitions;
+    let mut sure = [LARGEST; 32];
+    let mut a: usize = 0;
+    while a < end {
+        let p = place[a];
+        let bound = lowered(sure[p], kind[a], weight[a]);
+        sure[p] = bound;
+        a += 1;
+    }
+    sure
+}
+
+// The traits, and the table of these counts.
 pub fn traits_of<'a>(
     places: usize,
     transitions: usize,
@@ -90,12 +129,14 @@ pub fn traits_of<'a>(
     kind: &'a [u64; 1024],
     place: &'a [usize; 1024],
     weight: &'a [u64; 1024],
+    sure: &mut [u64; 32],
 ) -> Traits
     ghost { NetRecord }
     requires { λ net. ⌜ lent places transitions (now initial) (now capacity) (now rate) (now delay) (now arcs) (now kind) (now place) (now weight) ≡ net ⌝ }
     requires { λ net. ⌜ Engine.Tidy net ⌝ }
-    ensures { λ net r. ⌜ Spec.Of net r ⌝ }
+    ensures { λ net r. ⌜ Spec.Of net (now (sure .exit)) r ⌝ }
 {
+    *sure = sure_counts(transitions, kind, place, weight);
     let timed = slots::any_timed(transitions, delay);
     let heavy = any_heavy(
         places,

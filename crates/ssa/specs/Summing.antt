@@ -29,11 +29,11 @@ use Rattle.ssa.specs.Cells.{tableOf, cleared}
 use Rattle.ssa.specs.Ensemble.{oneIfSpent, spentOf, cellsOf, lastShown}
 
 -- what every path is lent: a tidy net with small initial counts, its limits and traits, and instants that fit
-pub record Lent (n : NetRecord) (limit : List ℕ) (traits : Traits) (xs : List Float) : Type 0 where
+pub record Lent (n : NetRecord) (limit sure : List ℕ) (traits : Traits) (xs : List Float) : Type 0 where
   pub tidy : Tidy n
   pub limits : Limits n limit
   pub small : (p : ℕ) → p < n .places → getD (n .initial) p 0 ≤ 2 ^ 53
-  pub traits-of : Of n traits
+  pub traits-of : Of n sure traits
   pub fit : instantsFit xs ≡ true
 
 -- path k, from the seed, the instants and the step limit that the program has at hand

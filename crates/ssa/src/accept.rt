@@ -126,6 +126,7 @@ fn lent_path<'a>(
         &mut limit,
     );
     let mut counts = slots::first_counts(places, initial);
+    let mut sure = [0u64; 32];
     let traits = traits::traits_of(
         places,
         transitions,
@@ -137,6 +138,7 @@ fn lent_path<'a>(
         kind,
         place,
         weight,
+        &mut sure,
     );
     run::play(
         places,
@@ -150,6 +152,7 @@ fn lent_path<'a>(
         place,
         weight,
         &limit,
+        &sure,
         traits,
         &mut counts,
         instants,

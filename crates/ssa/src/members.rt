@@ -60,6 +60,7 @@ fn one_path<'a>(
     place: &'a [usize; 1024],
     weight: &'a [u64; 1024],
     limit: &'a [u64; 1024],
+    sure: &'a [u64; 32],
     traits: Traits,
     instants: &[f64],
     steps: u64,
@@ -69,7 +70,7 @@ fn one_path<'a>(
 ) -> PathAnswer
     ghost { NetRecord }
     requires { λ net. ⌜ lent places transitions (now initial) (now capacity) (now rate) (now delay) (now arcs) (now kind) (now place) (now weight) ≡ net ⌝ }
-    requires { λ net. ⌜ Summing.Lent net (now limit) traits (now instants) × (places * length (now instants) ≤ length (now path)) ⌝ }
+    requires { λ net. ⌜ Summing.Lent net (now limit) (now sure) traits (now instants) × (places * length (now instants) ≤ length (now path)) ⌝ }
     ensures { λ net r. ⌜ Path.callOf r (now (path .exit)) ≡ Path.played places (length (now (instants .entry))) (Seeding.seeded (Request.seedOf seed k))
         (now (path .entry)) (Summing.drawn (Record.readable net) seed (now (instants .entry)) steps k) ⌝ }
 {
@@ -87,6 +88,7 @@ fn one_path<'a>(
         place,
         weight,
         limit,
+        sure,
         traits,
         &mut counts,
         instants,
@@ -121,6 +123,7 @@ fn member_turn<'a>(
     place: &'a [usize; 1024],
     weight: &'a [u64; 1024],
     limit: &'a [u64; 1024],
+    sure: &'a [u64; 32],
     traits: Traits,
     instants: &[f64],
     steps: u64,
@@ -133,7 +136,7 @@ fn member_turn<'a>(
 ) -> Turn
     ghost { NetRecord }
     requires { λ net. ⌜ lent places transitions (now initial) (now capacity) (now rate) (now delay) (now arcs) (now kind) (now place) (now weight) ≡ net ⌝ }
-    requires { λ net. ⌜ Summing.Lent net (now limit) traits (now instants) × (places * length (now instants) ≤ length (now path)) × (spent < 65_535) ⌝ }
+    requires { λ net. ⌜ Summing.Lent net (now limit) (now sure) traits (now instants) × (places * length (now instants) ≤ length (now path)) × (spent < 65_535) ⌝ }
     ensures { λ net r. ⌜ Summing.TurnBy (Summing.drawn (Record.readable net) seed (now (instants .entry)) steps k) places (length (now (instants .entry))) spent
         (now (mean .entry)) (now (mean .exit)) (now (deviation .entry)) (now (deviation .exit)) (now (path .entry)) (now (path .exit)) r ⌝ }
 {
@@ -149,6 +152,7 @@ fn member_turn<'a>(
         place,
         weight,
         limit,
+        sure,
         traits,
         instants,
         steps,
@@ -180,6 +184,7 @@ fn sum_paths<'a>(
     place: &'a [usize; 1024],
     weight: &'a [u64; 1024],
     limit: &'a [u64; 1024],
+    sure: &'a [u64; 32],
     traits: Traits,
     instants: &[f64],
     steps: u64,
@@ -191,7 +196,7 @@ fn sum_paths<'a>(
 ) -> Summed
     ghost { NetRecord }
     requires { λ net. ⌜ lent places transitions (now initial) (now capacity) (now rate) (now delay) (now arcs) (now kind) (now place) (now weight) ≡ net ⌝ }
-    requires { λ net. ⌜ Summing.Lent net (now limit) traits (now instants) × (realizations ≤ 65_535) × (places * length (now instants) ≤ length (now path))
+    requires { λ net. ⌜ Summing.Lent net (now limit) (now sure) traits (now instants) × (realizations ≤ 65_535) × (places * length (now instants) ≤ length (now path))
         × (now mean ≡ Cells.cleared (places * length (now instants)) (now mean))
         × (now deviation ≡ Cells.cleared (places * length (now instants)) (now deviation)) ⌝ }
     ensures { λ net r. ⌜ Summing.SummedBy (Summing.pathsFrom (Summing.drawn (Record.readable net) seed (now (instants .entry)) steps) 0 realizations)
@@ -214,6 +219,7 @@ fn sum_paths<'a>(
             place,
             weight,
             limit,
+            sure,
             traits,
             instants,
             steps,
@@ -264,6 +270,7 @@ fn averaged<'a>(
     place: &'a [usize; 1024],
     weight: &'a [u64; 1024],
     limit: &'a [u64; 1024],
+    sure: &'a [u64; 32],
     traits: Traits,
     instants: &[f64],
     steps: u64,
@@ -275,7 +282,7 @@ fn averaged<'a>(
 ) -> EnsembleAnswer
     ghost { NetRecord }
     requires { λ net. ⌜ lent places transitions (now initial) (now capacity) (now rate) (now delay) (now arcs) (now kind) (now place) (now weight) ≡ net ⌝ }
-    requires { λ net. ⌜ Summing.Lent net (now limit) traits (now instants) × (realizations ≤ 65_535) × (places * length (now instants) ≤ length (now mean))
+    requires { λ net. ⌜ Summing.Lent net (now limit) (now sure) traits (now instants) × (realizations ≤ 65_535) × (places * length (now instants) ≤ length (now mean))
         × (places * length (now instants) ≤ length (now deviation)) × (places * length (now instants) ≤ length (now path)) ⌝ }
     ensures { λ net r. ⌜ Ensemble.callOf r (now (mean .exit)) (now (deviation .exit)) (now (path .exit))
         ≡ Ensemble.tabulated places (length (now (instants .entry)))
@@ -297,6 +304,7 @@ fn averaged<'a>(
         place,
         weight,
         limit,
+        sure,
         traits,
         instants,
         steps,
@@ -362,6 +370,7 @@ fn lent_ensemble<'a>(
         weight,
         &mut limit,
     );
+    let mut sure = [0u64; 32];
     let traits = traits::traits_of(
         places,
         transitions,
@@ -373,6 +382,7 @@ fn lent_ensemble<'a>(
         kind,
         place,
         weight,
+        &mut sure,
     );
     let mut grid = [0.0; 1024];
     let few = samples as u32;
@@ -390,6 +400,7 @@ fn lent_ensemble<'a>(
         place,
         weight,
         &limit,
+        &sure,
         traits,
         &grid[..n],
         MOST_STEPS,

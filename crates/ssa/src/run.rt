@@ -63,6 +63,7 @@ fn take_steps<'a>(
     place: &'a [usize; 1024],
     weight: &'a [u64; 1024],
     limit: &'a [u64; 1024],
+    sure: &'a [u64; 32],
     traits: Traits,
     counts: &mut [u64; 32],
     ats: &mut [f64; 256],
@@ -76,7 +77,7 @@ fn take_steps<'a>(
 ) -> Walked
     ghost { NetRecord }
     requires { λ net. ⌜ lent places transitions (now initial) (now capacity) (now rate) (now delay) (now arcs) (now kind) (now place) (now weight) ≡ net ⌝ }
-    requires { λ net. ⌜ Stepping.Ready net (now limit) (now counts) (now ats) (now whos) (s .timers) × Has.Of net traits
+    requires { λ net. ⌜ Stepping.Ready net (now limit) (now counts) (now ats) (now whos) (s .timers) × Has.Of net (now sure) traits
         × (length (now props) ≡ 64) × (s .next ≤ length (now instants)) × (length (now instants) ≤ 1024)
         × (places * length (now instants) ≤ length (now table)) ⌝ }
     ensures is { λ net r. ⌜ Playing.WalkBy
@@ -107,6 +108,7 @@ fn take_steps<'a>(
                 place,
                 weight,
                 limit,
+                sure,
                 traits,
                 counts,
                 ats,
@@ -207,6 +209,7 @@ pub fn play<'a>(
     place: &'a [usize; 1024],
     weight: &'a [u64; 1024],
     limit: &'a [u64; 1024],
+    sure: &'a [u64; 32],
     traits: Traits,
     counts: &mut [u64; 32],
     instants: &[f64],
@@ -217,7 +220,7 @@ pub fn play<'a>(
     ghost { NetRecord }
     requires { λ net. ⌜ lent places transitions (now initial) (now capacity) (now rate) (now delay) (now arcs) (now kind) (now place) (now weight) ≡ net ⌝ }
     requires { λ net. ⌜ Engine.Tidy net × Limits.Limits net (now limit) × Engine.Counts (now counts)
-        × (Engine.marking places (now counts) ≡ Moves.initialCounts (Record.readable net)) × Has.Of net traits
+        × (Engine.marking places (now counts) ≡ Moves.initialCounts (Record.readable net)) × Has.Of net (now sure) traits
         × (0 < length (now instants)) × (length (now instants) ≤ 1024) × (Shown.rising Net.zero64 (now instants) ≡ true)
         × (places * length (now instants) ≤ length (now table)) ⌝ }
     ensures { λ net r. ⌜ Path.callOf r (now (table .exit)) ≡ Path.played places (length (now (instants .entry))) (Random.words (rng .s)) (now (table .entry))
@@ -248,6 +251,7 @@ pub fn play<'a>(
         place,
         weight,
         limit,
+        sure,
         traits,
         counts,
         &mut ats,

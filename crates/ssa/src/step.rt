@@ -74,6 +74,7 @@ fn advance<'a>(
     place: &'a [usize; 1024],
     weight: &'a [u64; 1024],
     limit: &'a [u64; 1024],
+    sure: &'a [u64; 32],
     traits: Traits,
     counts: &mut [u64; 32],
     ats: &mut [f64; 256],
@@ -85,7 +86,7 @@ fn advance<'a>(
 ) -> Advanced
     ghost { NetRecord }
     requires { λ net. ⌜ lent places transitions (now initial) (now capacity) (now rate) (now delay) (now arcs) (now kind) (now place) (now weight) ≡ net ⌝ }
-    requires { λ net. ⌜ Stepping.Ready net (now limit) (now counts) (now ats) (now whos) running × Has.Of net traits
+    requires { λ net. ⌜ Stepping.Ready net (now limit) (now counts) (now ats) (now whos) running × Has.Of net (now sure) traits
         × (length (now props) ≡ 64) ⌝ }
     ensures is { λ net r. let before = Stepping.stateOf net (now (counts .entry)) (now (ats .entry)) (now (whos .entry)) running t (rng .s) in
         ⌜ Stepping.AdvancedBy net (Rule.step (Record.readable net) before) before
@@ -152,6 +153,7 @@ fn advance<'a>(
         kind,
         place,
         weight,
+        sure,
         traits,
         counts,
         props,
@@ -204,6 +206,7 @@ pub fn one_step<'a>(
     place: &'a [usize; 1024],
     weight: &'a [u64; 1024],
     limit: &'a [u64; 1024],
+    sure: &'a [u64; 32],
     traits: Traits,
     counts: &mut [u64; 32],
     ats: &mut [f64; 256],
@@ -216,7 +219,7 @@ pub fn one_step<'a>(
 ) -> Stepped
     ghost { NetRecord }
     requires { λ net. ⌜ lent places transitions (now initial) (now capacity) (now rate) (now delay) (now arcs) (now kind) (now place) (now weight) ≡ net ⌝ }
-    requires { λ net. ⌜ Stepping.Ready net (now limit) (now counts) (now ats) (now whos) (s .timers) × Has.Of net traits
+    requires { λ net. ⌜ Stepping.Ready net (now limit) (now counts) (now ats) (now whos) (s .timers) × Has.Of net (now sure) traits
         × (length (now props) ≡ 64) × (s .next ≤ length (now instants)) × (length (now instants) ≤ 1024)
         × (places * length (now instants) ≤ length (now table)) ⌝ }
     ensures is { λ net r. let before = Stepping.stateOf net (now (counts .entry)) (now (ats .entry)) (now (whos .entry)) (s .timers) (s .clock) (s .rng .s) in
@@ -244,6 +247,7 @@ pub fn one_step<'a>(
         place,
         weight,
         limit,
+        sure,
         traits,
         counts,
         ats,

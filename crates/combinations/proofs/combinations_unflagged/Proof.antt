@@ -8,7 +8,7 @@ use mathlib.Core.Bool.{false}
 use mir.Facts.{toZ-ofZ}
 use Rattle.combinations.specs.Combinations.{product, wholeFactor}
 use Rattle.combinations.specs.Real.{value}
-use Rattle.combinations.proofs.Signed.{above-zero, not-below, abs-fits, abs-le}
+use Rattle.combinations.proofs.Signed.{above-zero, one-at-least, not-below, abs-fits, abs-le}
 use Rattle.combinations.proofs.combinations_unflagged.Statement.{statement}
 use Rattle.combinations.proofs.combinations_unflagged.Tie as tie
 
@@ -49,22 +49,23 @@ returns-4 c =
     let e = c .before in
     simp (w-above (e .before .before), w-at-most-m (e .before), w-small e, rw (toZ-ofZ (e .before .before .before .fits .m)) at (c .if4 .taken))
 
-cast-whole-product : tie.Need-cast-whole-product
-cast-whole-product c =
+cast-short-product : tie.Need-cast-short-product
+cast-short-product c =
     let s = c .before .before .before .before in
     rw (toZ-ofZ (s .fits .m)) (m-natural c, abs-fits (s .args .m) (s .fits .m) (m-natural c))
 
-cast-whole-product-2 : tie.Need-cast-whole-product-2
-cast-whole-product-2 c =
+cast-short-product-2 : tie.Need-cast-short-product-2
+cast-short-product-2 c =
     let s = c .before .before .before .before in
     rw (toZ-ofZ (s .fits .w)) (w-natural c, abs-fits (s .args .w) (s .fits .w) (w-natural c))
 
-whole-product-requires : tie.Need-whole-product-requires
-whole-product-requires c κs =
+short-product-requires : tie.Need-short-product-requires
+short-product-requires c κs =
     let s = c .before .before .before .before in
     let m = s .args .m in
     let w = s .args .w in
     rw (toZ-ofZ (s .fits .w), toZ-ofZ (s .fits .m)) (
+      one-at-least w (w-above (c .before .before .before)),
       abs-le w m (w-at-most-m (c .before .before)) (w-natural c) (m-natural c),
       abs-le m (pos (2 ^ 53)) (m-small c) (m-natural c) tt,
     )
@@ -74,7 +75,7 @@ returns-5 c =
     let e = c .before in
     let s = e .before .before .before .before in
     simp (w-above (e .before .before .before), w-at-most-m (e .before .before), w-small (e .before), m-small e)
-    (ap value (c .whole-product .ensures ∙ (λ i. product (wholeFactor (pos (natAbs (toZ-ofZ (s .fits .m) i)))) (natAbs (toZ-ofZ (s .fits .w) i)))))
+    (ap value (c .short-product .ensures ∙ (λ i. product (wholeFactor (pos (natAbs (toZ-ofZ (s .fits .m) i)))) (natAbs (toZ-ofZ (s .fits .w) i)))))
 
 pub combinations-unflagged-spec : {M : Type 1} → statement M
 combinations-unflagged-spec =
@@ -84,7 +85,7 @@ combinations-unflagged-spec =
     returns-2
     returns-3
     returns-4
-    cast-whole-product
-    cast-whole-product-2
-    whole-product-requires
+    cast-short-product
+    cast-short-product-2
+    short-product-requires
     returns-5)

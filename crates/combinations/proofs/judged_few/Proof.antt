@@ -1,12 +1,14 @@
--- Up to the bound of two no product of one or two factors is rounded (`product-exact`); above it `judged` says what it is. Assumes nothing.
+-- Up to the bound of two a product of one or two factors is the whole number (`product-is`), exactly (`product-exact`); above it `judged` says what it is. Assumes nothing.
 use borrow.Author.Needs.{needs}
 use native.Mathlib.Omega.{arith}
-use mathlib.Core.Path.{sym}
+use mathlib.Core.Path.{sym, ap, _∙_}
 use Prim.Native.Nat.{ℕ, zero, suc, _≤_}
 use lib.ListN.{getD}
+use Rattle.floats.specs.{float}
 use Rattle.combinations.specs.Combinations.{value}
 use Rattle.combinations.specs.Theorems.{unrounded}
-use Rattle.combinations.proofs.Steps.{product-exact}
+use Rattle.combinations.proofs.Product.{in-f64}
+use Rattle.combinations.proofs.Steps.{product-exact, product-is}
 use Rattle.combinations.proofs.judged_few.Statement.{statement}
 use Rattle.combinations.proofs.judged_few.Tie as tie
 
@@ -17,16 +19,21 @@ within m (suc zero) h l = omega arith
 within m (suc (suc zero)) h l = l
 within m (suc (suc (suc w))) h l = absurd (omega arith)
 
-whole-product-requires : tie.Need-whole-product-requires
-whole-product-requires c κs = search needs
+few-ways-requires : tie.Need-few-ways-requires
+few-ways-requires c κs = search needs
+
+int-to-float-t5 : tie.Need-int-to-float-t5
+int-to-float-t5 c = in-f64 _ (c .before .few-ways .ensures .1)
 
 returns : tie.Need-returns
 returns c =
-    let k = c .before in
+    let f = c .before in
+    let k = f .before in
     let s = k .before in
     let m = s .args .m in
     let w = s .args .w in
-    λ i. value (c .whole-product .ensures i) (sym (product-exact m w (omega arith) (s .pre .1) (within m w (s .pre .0) (k .if1 .taken))) i)
+    let l = within m w (s .pre .0) (k .if1 .taken) in
+    λ i. value ((ap float (f .few-ways .ensures .0) ∙ sym (product-is m w (omega arith) (s .pre .1) l)) i) (sym (product-exact m w (omega arith) (s .pre .1) l) i)
 
 judged-requires : tie.Need-judged-requires
 judged-requires c κs = search needs
@@ -35,4 +42,4 @@ returns-2 : tie.Need-returns-2
 returns-2 c = search needs
 
 pub judged-few-spec : {M : Type 1} → statement M
-judged-few-spec = tie.close (tie.spec whole-product-requires returns judged-requires returns-2)
+judged-few-spec = tie.close (tie.spec few-ways-requires int-to-float-t5 returns judged-requires returns-2)

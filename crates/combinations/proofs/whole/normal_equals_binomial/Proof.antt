@@ -5,14 +5,14 @@ use Rattle.combinations.proofs.Decided.{alike, unlike, apart}
 use Rattle.combinations.proofs.whole.normal_equals_binomial.Statement.{statement}
 use Rattle.combinations.proofs.whole.normal_equals_binomial.Tie as tie
 
-add-with-factors : tie.Need-add-with-factors
-add-with-factors c = search needs
+add-times-factorial : tie.Need-add-times-factorial
+add-times-factorial c = search needs
 
-with-factors-requires : tie.Need-with-factors-requires
-with-factors-requires c κs = search needs
+times-factorial-requires : tie.Need-times-factorial-requires
+times-factorial-requires c κs = search needs
 
-with-factors-requires-2 : tie.Need-with-factors-requires-2
-with-factors-requires-2 c κs = search needs
+falling-parts-requires : tie.Need-falling-parts-requires
+falling-parts-requires c κs = search needs
 
 add-result : tie.Need-add-result
 add-result c = search needs
@@ -26,7 +26,7 @@ returns c =
     let p = q .before in
     let a = p .before .args in
     let h = p .before .pre in
-    alike (a .b) (a .m) (a .w) (h .0) (h .1) (h .2) (p .with-factors .ensures .0) (q .with-factors2 .ensures .0) (c .before .before .before .before .before .if1 .taken) (c .before .before .if2 .taken)
+    alike (a .b) (a .m) (a .w) (h .0) (h .1) (h .2) (p .times-factorial .ensures .0) (q .falling-parts .ensures .0) (c .before .before .before .before .before .if1 .taken) (c .before .before .if2 .taken)
 
 returns-2 : tie.Need-returns-2
 returns-2 c =
@@ -34,7 +34,7 @@ returns-2 c =
     let p = q .before in
     let a = p .before .args in
     let h = p .before .pre in
-    unlike (a .b) (a .m) (a .w) (h .0) (h .1) (h .2) (p .with-factors .ensures .0) (q .with-factors2 .ensures .0) (λ e. c .if2 .left (apart (omega arith) (omega arith) e .1))
+    unlike (a .b) (a .m) (a .w) (h .0) (h .1) (h .2) (p .times-factorial .ensures .0) (q .falling-parts .ensures .0) (λ e. c .if2 .left (apart (omega arith) (omega arith) e .1))
 
 returns-3 : tie.Need-returns-3
 returns-3 c =
@@ -42,15 +42,15 @@ returns-3 c =
     let p = q .before in
     let a = p .before .args in
     let h = p .before .pre in
-    unlike (a .b) (a .m) (a .w) (h .0) (h .1) (h .2) (p .with-factors .ensures .0) (q .with-factors2 .ensures .0) (λ e. c .if1 .left (apart (omega arith) (omega arith) e .0))
+    unlike (a .b) (a .m) (a .w) (h .0) (h .1) (h .2) (p .times-factorial .ensures .0) (q .falling-parts .ensures .0) (λ e. c .if1 .left (apart (omega arith) (omega arith) e .0))
 
 pub normal-equals-binomial-spec : {M : Type 1} → statement M
 normal-equals-binomial-spec =
     tie.close
     (tie.spec
-    add-with-factors
-    with-factors-requires
-    with-factors-requires-2
+    add-times-factorial
+    times-factorial-requires
+    falling-parts-requires
     add-result
     add-result-2
     returns

@@ -18,15 +18,15 @@ traits-of-requires c κs = search needs
 
 play-requires : tie.Need-play-requires
 play-requires c κs =
-    let s = c .before .before .before .before .before .before .before .before .before in
+    let s = c .before .before .before .before .before .before .before .before .before .before .before in
     let a = s .args in
     let f = fitting (a .instants .now) (s .pre .2) in
-    let counts = c .before .before .before .before .first-counts .ensures in (
+    let counts = c .before .before .before .before .before .before .first-counts .ensures in (
       s .pre .0,
-      c .before .before .before .before .before .fill-limits .ensures,
+      c .before .before .before .before .before .before .before .fill-limits .ensures,
       counts .1,
       counts .0 ∙ initial-is (lent (a .places) (a .transitions) (a .initial .now) (a .capacity .now) (a .rate .now) (a .delay .now) (a .arcs .now) (a .kind .now) (a .place .now) (a .weight .now)),
-      c .before .before .before .traits-of .ensures,
+      c .before .before .before .before .traits-of .ensures,
       f .some-instant,
       f .few,
       f .risen,

@@ -79,7 +79,7 @@ returns c =
     refused-path (readable (lent (s .places) (s .transitions) (s .initial .now) (s .capacity .now) (s .rate .now) (s .delay .now) (s .arcs .now) (s .kind .now) (s .place .now) (s .weight .now))) (words (s .rng .s)) (s .instants .now) (s .steps) (s .places) (v .result .next) (v .result .peak)
     (marking (s .places) (s .counts .now)) (getD (s .instants .now) (length (s .instants .now) - 1) nan) (s .table .now) (v .last .1 .0)
     (a .pre .7) (a .pre .3) (last-at (s .instants .now) (a .pre .5)) (v .ensures)
-    (w .result) (marking (s .places) (w .last .1 .1 .1 .1 .1 .1 .1 .1 .1 .1 .1 .1 .0)) (w .last .1 .1 .1 .1 .1 .1 .1 .1 .1 .1 .1 .1 .1 .1 .1 .1 .1 .1 .0)
+    (w .result) (marking (s .places) (w .last .1 .1 .1 .1 .1 .1 .1 .1 .1 .1 .1 .1 .1 .0)) (w .last .1 .1 .1 .1 .1 .1 .1 .1 .1 .1 .1 .1 .1 .1 .1 .1 .1 .1 .1 .0)
     (c .before .before .before .before .before .end .given .0 .0) (w .result .end) (c .before .before .before .before .before .end .given .1) (w .ensures .0) (w .ensures .1 .1) (w .ensures .1 .2)
     (c .before .before .clear .last .0) (c .before .before .clear .ensures)
     (record { end = Refused (c .before .before .before .before .before .end .given .0 .0); steps = 0; settled = 0; peak = 0; rounded = 0; generator = s .rng }) refl refl refl refl refl refl
@@ -93,7 +93,7 @@ show-until-requires c κs =
     let h = still-within (readable (lent (s .places) (s .transitions) (s .initial .now) (s .capacity .now) (s .rate .now) (s .delay .now) (s .arcs .now) (s .kind .now) (s .place .now) (s .weight .now))) (words (s .rng .s)) (s .instants .now) (s .steps) (s .places) (v .result .next) (v .result .peak)
     (marking (s .places) (s .counts .now)) (getD (s .instants .now) (length (s .instants .now) - 1) nan) (s .table .now) (v .last .1 .0)
     (a .pre .7) (a .pre .3) (last-at (s .instants .now) (a .pre .5)) (v .ensures)
-    (w .result) (marking (s .places) (w .last .1 .1 .1 .1 .1 .1 .1 .1 .1 .1 .1 .1 .0)) (w .last .1 .1 .1 .1 .1 .1 .1 .1 .1 .1 .1 .1 .1 .1 .1 .1 .1 .1 .0) (w .result .end) (not-refused (w .result .end) (c .before .before .before .match .keys2)) (w .ensures .0) in
+    (w .result) (marking (s .places) (w .last .1 .1 .1 .1 .1 .1 .1 .1 .1 .1 .1 .1 .1 .0)) (w .last .1 .1 .1 .1 .1 .1 .1 .1 .1 .1 .1 .1 .1 .1 .1 .1 .1 .1 .1 .0) (w .result .end) (not-refused (w .result .end) (c .before .before .before .match .keys2)) (w .ensures .0) in
     (a .pre .0 .places, h, omega arith, a .pre .6, omega (arith, a .pre .8, v .ensures .cells .long, w .ensures .1 .1), w .ensures .1 .0)
 
 settled-requires : tie.Need-settled-requires
@@ -111,7 +111,7 @@ returns-2 c =
     answered (readable (lent (s .places) (s .transitions) (s .initial .now) (s .capacity .now) (s .rate .now) (s .delay .now) (s .arcs .now) (s .kind .now) (s .place .now) (s .weight .now))) (words (s .rng .s)) (s .instants .now) (s .steps) (s .places) (v .result .next) (v .result .peak)
     (marking (s .places) (s .counts .now)) (getD (s .instants .now) (length (s .instants .now) - 1) nan) (s .table .now) (v .last .1 .0)
     (a .pre .7) (a .pre .3) (last-at (s .instants .now) (a .pre .5)) (v .ensures)
-    (w .result) (marking (s .places) (w .last .1 .1 .1 .1 .1 .1 .1 .1 .1 .1 .1 .1 .0)) (w .last .1 .1 .1 .1 .1 .1 .1 .1 .1 .1 .1 .1 .1 .1 .1 .1 .1 .1 .0)
+    (w .result) (marking (s .places) (w .last .1 .1 .1 .1 .1 .1 .1 .1 .1 .1 .1 .1 .1 .0)) (w .last .1 .1 .1 .1 .1 .1 .1 .1 .1 .1 .1 .1 .1 .1 .1 .1 .1 .1 .1 .0)
     (w .result .end) (not-refused (w .result .end) (c .before .before .before .before .before .before .before .match .keys2)) (w .ensures .0)
     (c .before .before .before .show-until .result) (c .before .before .before .show-until .last .0) (c .before .before .before .show-until .ensures) (a .pre .8)
     _ refl refl (c .settled .ensures) refl refl refl

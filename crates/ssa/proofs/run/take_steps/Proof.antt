@@ -15,7 +15,7 @@ use Rattle.ssa.proofs.run.take_steps.Statement.{statement}
 use Rattle.ssa.proofs.run.take_steps.Tie as tie
 
 abbrev Inv-loop : tie.InvT-loop
-Inv-loop places transitions initial capacity rate delay arcs kind place weight limit traits counts₀ ats₀ whos₀ props₀ instants last table₀ steps at₀ done₀ rounded₀ counts ats whos props table at done rounded =
+Inv-loop places transitions initial capacity rate delay arcs kind place weight limit sure traits counts₀ ats₀ whos₀ props₀ instants last table₀ steps at₀ done₀ rounded₀ counts ats whos props table at done rounded =
     let net = lent places transitions initial capacity rate delay arcs kind place weight in
     (done ≤ steps)
     × (rounded ≤ done)
@@ -27,7 +27,7 @@ Inv-loop places transitions initial capacity rate delay arcs kind place weight l
     (steps - done) done rounded (at .next) (at .peak) (stateOf net counts ats whos (at .timers) (at .clock) (at .rng .s)) table
 
 abbrev μ-loop : tie.MeasureT-loop
-μ-loop places transitions initial capacity rate delay arcs kind place weight limit traits counts₀ ats₀ whos₀ props₀ instants last table₀ steps at₀ done₀ rounded₀ counts ats whos props table at done rounded =
+μ-loop places transitions initial capacity rate delay arcs kind place weight limit sure traits counts₀ ats₀ whos₀ props₀ instants last table₀ steps at₀ done₀ rounded₀ counts ats whos props table at done rounded =
     steps - done
 
 loop-holds : tie.Need-loop-holds Inv-loop μ-loop

@@ -33,7 +33,7 @@ from d =
 
 abbrev reads : tie.After-advance → State
 reads d =
-    let l = d .advance .last .1 .1 .1 .1 .1 .1 .1 .1 .1 .1 .1 .1 in
+    let l = d .advance .last .1 .1 .1 .1 .1 .1 .1 .1 .1 .1 .1 .1 .1 in
     let r = d .advance .result in
     stateOf (net d) (l .0) (l .1 .0) (l .1 .1 .0) (r .timers) (r .clock) (r .rng .s)
 
@@ -41,7 +41,7 @@ abbrev rule : tie.After-advance → Answer Step
 rule d = step (readable (net d)) (from d)
 
 abbrev props : tie.After-advance → List Float
-props d = d .advance .last .1 .1 .1 .1 .1 .1 .1 .1 .1 .1 .1 .1 .1 .1 .1 .0
+props d = d .advance .last .1 .1 .1 .1 .1 .1 .1 .1 .1 .1 .1 .1 .1 .1 .1 .1 .0
 
 abbrev event-of : tie.After-advance → Answer Event
 event-of d = eventOf (net d) (reads d) (d .advance .result .a0) (props d) (d .advance .result .completes)
@@ -58,7 +58,7 @@ follows : (w : tie.After-show)
     → (at-event w .advance .result .completes ≡ true → 0 < at-event w .advance .result .timers) × Sets (rule (at-event w)) (at-event w .advance .result .rounded) (reads (at-event w)) (event-of (at-event w))
 follows w =
     let d = at-event w in
-    let l = d .advance .last .1 .1 .1 .1 .1 .1 .1 .1 .1 .1 .1 .1 .1 in
+    let l = d .advance .last .1 .1 .1 .1 .1 .1 .1 .1 .1 .1 .1 .1 .1 .1 in
     let z = if-event (advanced d) (w .before .before .before .enum-told3 .given .1) in
     (λ h. timers-run (l .0) (l .1 .0) (d .advance .result .timers) (z .0 h), z .1)
 
