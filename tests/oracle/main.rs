@@ -1,5 +1,6 @@
 //! Compares the proved functions with the supplied Rust. The source's module stands beside this
 //! file as `ssa` only in the temporary folder in which this is built (tests/oracle/build).
+mod against;
 mod balances;
 mod bench;
 mod binomials;
@@ -45,11 +46,12 @@ fn main() {
             ensembles::record(ensembles);
         }
         ["bench"] => bench::bench(),
+        ["bench-against", ref files @ ..] if files.len() % 2 == 0 => against::bench(files),
         ["bench-reader", folder] => bench::bench_reader(folder),
         ["bench-game"] => bench::bench_game(),
         ["bench-combinations"] => bench::bench_combinations(),
         _ => {
-            eprintln!("compare SEED INPUTS | paths SEED COUNT FILE | ensembles SEED COUNT FOLDER | record FOLDER FOLDER FOLDER FILE | bench | bench-reader FOLDER | bench-game | bench-combinations");
+            eprintln!("compare SEED INPUTS | paths SEED COUNT FILE | ensembles SEED COUNT FOLDER | record FOLDER FOLDER FOLDER FILE | bench | bench-against LIBRARY.. LIBRARY.. | bench-reader FOLDER | bench-game | bench-combinations");
             std::process::exit(2);
         }
     }

@@ -925,10 +925,13 @@ pub fn record(folder: &str) {
 
 // ---- for the benchmark
 
+/// 64 instants from 0 to the end.
+fn scaled(end: f64) -> Vec<f64> {
+    (0..64).map(|i| i as f64 / 63.0 * end).collect()
+}
+
 /// Three nets, small to large, and one that takes two tokens at a time, each with a run of some thousand steps.
 pub fn measured() -> Vec<(&'static str, Case)> {
-    let grid: Vec<f64> = (0..64).map(|i| i as f64 / 63.0).collect();
-    let scaled = |end: f64| grid.iter().map(|x| x * end).collect::<Vec<f64>>();
     let small = net(&[1_000_000, 0], vec![(1.0, 0.0, vec![take(0, 1), put(1, 1)])]);
     let ring = |j: usize| if j % 4 == 3 { (0.0, 0.125, vec![take(j % 8, 1), put((j + 3) % 8, 1)]) } else { (1.0, 0.0, vec![take(j % 8, 1), put((j + 1) % 8, 1)]) };
     let middle = net(&[20; 8], (0..16).map(ring).collect());
@@ -947,5 +950,18 @@ pub fn measured() -> Vec<(&'static str, Case)> {
         ("8 places, 16 transitions, timers", case(middle, MOST_STEPS, &scaled(40.0))),
         ("32 places, 64 transitions, 16 arcs", case(large, MOST_STEPS, &scaled(20.0))),
         ("8 places, 16 transitions, weight 2", case(pairs, MOST_STEPS, &scaled(2.0))),
+    ]
+}
+
+/// Nets of heavier takes: within the counts up to which their ways are exact, and beyond them, where whole numbers decide at every step.
+pub fn measured_beyond() -> Vec<(&'static str, Case)> {
+    let ring = |places: usize, transitions: usize, count: i64, w: i64, rate: i32| {
+        net(&vec![count; places], (0..transitions).map(|j| (2f64.powi(rate), 0.0, vec![take(j % places, w), put((j + 1) % places, w)])).collect())
+    };
+    vec![
+        ("8 places, weight 3, of 200", case(ring(8, 16, 200, 3, -14), MOST_STEPS, &scaled(2.0))),
+        ("8 places, weight 16, of 40", case(ring(8, 16, 40, 16, -32), MOST_STEPS, &scaled(2.0))),
+        ("8 places, weight 16, of 60", case(ring(8, 16, 60, 16, -40), MOST_STEPS, &scaled(2.0))),
+        ("2 places, weight 2, of 2 * 10^8", case(ring(2, 2, 200_000_000, 2, -50), MOST_STEPS, &scaled(200.0))),
     ]
 }

@@ -21,133 +21,39 @@ mod c {
         pub fn cild_outputs(state: *mut [u64; 4], out: *mut u64, len: usize);
         pub fn cild_uniforms(state: *mut [u64; 4], out: *mut f64, len: usize);
         pub fn cild_read(text: *const u8, len: usize, told: *mut [u64; 2]);
-        pub fn cild_path(
-            places: usize,
-            transitions: usize,
-            initial: *const [u64; 32],
-            capacity: *const [u64; 32],
-            label: *const [u8; 512],
-            lengths: *const [usize; 32],
-            rate: *const [f64; 64],
-            delay: *const [f64; 64],
-            arcs: *const [usize; 64],
-            kind: *const [u64; 1024],
-            place: *const [usize; 1024],
-            weight: *const [u64; 1024],
-            state: *mut [u64; 4],
-            instants: *const f64,
-            n: usize,
-            limit: u64,
-            table: *mut f64,
-            cells: usize,
-            told: *mut [u64; 5],
-        );
-        pub fn cild_ensemble(
-            places: usize,
-            transitions: usize,
-            initial: *const [u64; 32],
-            capacity: *const [u64; 32],
-            label: *const [u8; 512],
-            lengths: *const [usize; 32],
-            rate: *const [f64; 64],
-            delay: *const [f64; 64],
-            arcs: *const [usize; 64],
-            kind: *const [u64; 1024],
-            place: *const [usize; 1024],
-            weight: *const [u64; 1024],
-            samples: u64,
-            realizations: u64,
-            seed: u64,
-            horizon: f64,
-            mean: *mut f64,
-            means: usize,
-            deviation: *mut f64,
-            deviations: usize,
-            path: *mut f64,
-            paths: usize,
-            told: *mut [u64; 3],
-        );
-        pub fn cild_diffusion(
-            places: usize,
-            transitions: usize,
-            initial: *const [u64; 32],
-            capacity: *const [u64; 32],
-            label: *const [u8; 512],
-            lengths: *const [usize; 32],
-            rate: *const [f64; 64],
-            delay: *const [f64; 64],
-            arcs: *const [usize; 64],
-            kind: *const [u64; 1024],
-            place: *const [usize; 1024],
-            weight: *const [u64; 1024],
-            samples: u64,
-            realizations: u64,
-            seed: u64,
-            horizon: f64,
-            mean: *mut f64,
-            means: usize,
-            deviation: *mut f64,
-            deviations: usize,
-            path: *mut f64,
-            paths: usize,
-            told: *mut [u64; 7],
-        );
-        pub fn cild_reason(
-            places: usize,
-            transitions: usize,
-            initial: *const [u64; 32],
-            capacity: *const [u64; 32],
-            label: *const [u8; 512],
-            lengths: *const [usize; 32],
-            rate: *const [f64; 64],
-            delay: *const [f64; 64],
-            arcs: *const [usize; 64],
-            kind: *const [u64; 1024],
-            place: *const [usize; 1024],
-            weight: *const [u64; 1024],
-            out: *mut u8,
-            bytes: usize,
-            told: *mut [u64; 2],
-        );
-        pub fn cild_game(
-            places: usize,
-            transitions: usize,
-            initial: *const [u64; 32],
-            capacity: *const [u64; 32],
-            label: *const [u8; 512],
-            lengths: *const [usize; 32],
-            rate: *const [f64; 64],
-            delay: *const [f64; 64],
-            arcs: *const [usize; 64],
-            kind: *const [u64; 1024],
-            place: *const [usize; 1024],
-            weight: *const [u64; 1024],
-            sides: *const u64,
-            n: usize,
-            named: u64,
-            count: u64,
-            turns: u64,
-            told: *mut [u64; 3],
-        );
-        pub fn cild_balance(
-            places: usize,
-            transitions: usize,
-            initial: *const [u64; 32],
-            capacity: *const [u64; 32],
-            label: *const [u8; 512],
-            lengths: *const [usize; 32],
-            rate: *const [f64; 64],
-            delay: *const [f64; 64],
-            arcs: *const [usize; 64],
-            kind: *const [u64; 1024],
-            place: *const [usize; 1024],
-            weight: *const [u64; 1024],
-            weights: *const u64,
-            n: usize,
-            told: *mut [u64; 2],
-        );
         pub fn cild_normals(state: *mut [u64; 4], spare: *mut f64, waiting: *mut bool, out: *mut f64, len: usize) -> usize;
         pub fn cild_soak(seed: u64, places: u64, transitions: u64, out: *mut u8, len: usize, told: *mut [u64; 2]);
+    }
+
+    /// Declares functions that are lent the twelve fields of a net in front of their other arguments.
+    macro_rules! lent {
+        ($(fn $name:ident($($argument:ident: $is:ty),*);)*) => {
+            extern "C" {
+                $(pub fn $name(
+                    places: usize,
+                    transitions: usize,
+                    initial: *const [u64; 32],
+                    capacity: *const [u64; 32],
+                    label: *const [u8; 512],
+                    lengths: *const [usize; 32],
+                    rate: *const [f64; 64],
+                    delay: *const [f64; 64],
+                    arcs: *const [usize; 64],
+                    kind: *const [u64; 1024],
+                    place: *const [usize; 1024],
+                    weight: *const [u64; 1024],
+                    $($argument: $is),*
+                );)*
+            }
+        };
+    }
+    lent! {
+        fn cild_path(state: *mut [u64; 4], instants: *const f64, n: usize, limit: u64, table: *mut f64, cells: usize, told: *mut [u64; 5]);
+        fn cild_ensemble(samples: u64, realizations: u64, seed: u64, horizon: f64, mean: *mut f64, means: usize, deviation: *mut f64, deviations: usize, path: *mut f64, paths: usize, told: *mut [u64; 3]);
+        fn cild_diffusion(samples: u64, realizations: u64, seed: u64, horizon: f64, mean: *mut f64, means: usize, deviation: *mut f64, deviations: usize, path: *mut f64, paths: usize, told: *mut [u64; 7]);
+        fn cild_reason(out: *mut u8, bytes: usize, told: *mut [u64; 2]);
+        fn cild_game(sides: *const u64, n: usize, named: u64, count: u64, turns: u64, told: *mut [u64; 3]);
+        fn cild_balance(weights: *const u64, n: usize, told: *mut [u64; 2]);
     }
 }
 
@@ -279,9 +185,9 @@ impl Fields {
 
 /// Calls a function with the fields of a net in front of its other arguments.
 macro_rules! lend {
-    ($function:ident, $f:expr, $($more:expr),*) => {
+    ($function:expr, $f:expr, $($more:expr),*) => {
         unsafe {
-            c::$function($f.places, $f.transitions, &$f.initial, &$f.capacity, &$f.label, &$f.lengths, &$f.rate, &$f.delay, &$f.arcs, &$f.kind, &$f.place, &$f.weight, $($more),*)
+            $function($f.places, $f.transitions, &$f.initial, &$f.capacity, &$f.label, &$f.lengths, &$f.rate, &$f.delay, &$f.arcs, &$f.kind, &$f.place, &$f.weight, $($more),*)
         }
     };
 }
@@ -296,14 +202,27 @@ pub fn read(text: &[u8]) -> [u64; 2] {
 /// The end's number (a refusal's own; 100 quiet, 101 spent, 102 reached), the steps, the settled instants, the peak, the rounded steps.
 pub fn path(f: &Fields, state: &mut [u64; 4], instants: &[f64], limit: u64, table: &mut [f64]) -> [u64; 5] {
     let mut told = [0; 5];
-    lend!(cild_path, f, state, instants.as_ptr(), instants.len(), limit, table.as_mut_ptr(), table.len(), &mut told);
+    lend!(c::cild_path, f, state, instants.as_ptr(), instants.len(), limit, table.as_mut_ptr(), table.len(), &mut told);
+    told
+}
+
+/// `cild_path`, of this library or of another. The answer may have fewer numbers there: `told` has room for more.
+pub type PathFunction = unsafe extern "C" fn(
+    usize, usize, *const [u64; 32], *const [u64; 32], *const [u8; 512], *const [usize; 32], *const [f64; 64], *const [f64; 64], *const [usize; 64], *const [u64; 1024],
+    *const [usize; 1024], *const [u64; 1024], *mut [u64; 4], *const f64, usize, u64, *mut f64, usize, *mut [u64; 8],
+);
+
+/// The same by a function that was loaded.
+pub fn path_by(function: PathFunction, f: &Fields, state: &mut [u64; 4], instants: &[f64], limit: u64, table: &mut [f64]) -> [u64; 8] {
+    let mut told = [0; 8];
+    lend!(function, f, state, instants.as_ptr(), instants.len(), limit, table.as_mut_ptr(), table.len(), &mut told);
     told
 }
 
 /// The number by which it was turned down or stopped, or 0; the stopped path's number, or how many were spent; 1 where there are deviations.
 pub fn ensemble(f: &Fields, samples: u64, realizations: u64, seed: u64, horizon: f64, [mean, deviation, path]: &mut [Vec<f64>; 3]) -> [u64; 3] {
     let mut told = [0; 3];
-    lend!(cild_ensemble, f, samples, realizations, seed, horizon, mean.as_mut_ptr(), mean.len(), deviation.as_mut_ptr(), deviation.len(), path.as_mut_ptr(), path.len(), &mut told);
+    lend!(c::cild_ensemble, f, samples, realizations, seed, horizon, mean.as_mut_ptr(), mean.len(), deviation.as_mut_ptr(), deviation.len(), path.as_mut_ptr(), path.len(), &mut told);
     told
 }
 
@@ -311,28 +230,28 @@ pub fn ensemble(f: &Fields, samples: u64, realizations: u64, seed: u64, horizon:
 /// of a gated net reads, inhibitors, inputs that are not kinetic, the bounded places as bits, and 1 where there is a delay.
 pub fn diffusion(f: &Fields, samples: u64, realizations: u64, seed: u64, horizon: f64, [mean, deviation, path]: &mut [Vec<f64>; 3]) -> [u64; 7] {
     let mut told = [0; 7];
-    lend!(cild_diffusion, f, samples, realizations, seed, horizon, mean.as_mut_ptr(), mean.len(), deviation.as_mut_ptr(), deviation.len(), path.as_mut_ptr(), path.len(), &mut told);
+    lend!(c::cild_diffusion, f, samples, realizations, seed, horizon, mean.as_mut_ptr(), mean.len(), deviation.as_mut_ptr(), deviation.len(), path.as_mut_ptr(), path.len(), &mut told);
     told
 }
 
 /// The refusal's number or 0, and the length of the text in front of the buffer.
 pub fn reason(f: &Fields, out: &mut [u8]) -> [u64; 2] {
     let mut told = [0; 2];
-    lend!(cild_reason, f, out.as_mut_ptr(), out.len(), &mut told);
+    lend!(c::cild_reason, f, out.as_mut_ptr(), out.len(), &mut told);
     told
 }
 
 /// A refusal's number, or 100 no, 101 already there, 102 pass, 103 a transition; the transition's number; the positions.
 pub fn game(f: &Fields, sides: &[u64], place: u64, count: u64, turns: u64) -> [u64; 3] {
     let mut told = [7; 3];
-    lend!(cild_game, f, sides.as_ptr(), sides.len(), place, count, turns, &mut told);
+    lend!(c::cild_game, f, sides.as_ptr(), sides.len(), place, count, turns, &mut told);
     told
 }
 
 /// A refusal's number, or 100 balanced, 101 unbalanced; the lowest unbalanced transition's number.
 pub fn balance(f: &Fields, weights: &[u64]) -> [u64; 2] {
     let mut told = [7; 2];
-    lend!(cild_balance, f, weights.as_ptr(), weights.len(), &mut told);
+    lend!(c::cild_balance, f, weights.as_ptr(), weights.len(), &mut told);
     told
 }
 
