@@ -5,7 +5,7 @@
 // has 2,048 cells of 7.
 use gates::Gates;
 use net::Net;
-use replay_io::float;
+use net_text::float_of;
 use replay_io::next_number;
 use replay_io::number;
 use replay_io::read_net;
@@ -102,7 +102,7 @@ fn play(places: usize) {
     let samples = number();
     let realizations = number();
     let seed = number();
-    let horizon = float(number());
+    let horizon = float_of(number());
     let mut mean = [7.0f64; 2048];
     let mut deviation = [7.0f64; 2048];
     let mut path = [7.0f64; 2048];

@@ -1,4 +1,6 @@
 // Reads a net text. specs/Forms and specs/Reading say what a text means, specs/Filled which record holds its net, specs/Answered what the answer says.
+ghost use mathlib.Core.Path.{_≡_};
+ghost use lib.Ieee.{binary64, ofBits};
 ghost use Rattle.net_text.specs.Answered as Answered;
 
 mod form;
@@ -11,6 +13,16 @@ pub struct RunLine {
     pub realizations: u64,
     pub seed: u64,
     pub horizon: u64,
+}
+
+// The float of 64 bits, as a text has it; all patterns of a NaN are one.
+pub fn float_of(bits: u64) -> f64
+    ensures { λ r. ⌜ r ≡ ofBits binary64 bits ⌝ }
+{
+    if 0x7FF0_0000_0000_0000 < bits % 0x8000_0000_0000_0000 {
+        return 0.0 / 0.0;
+    }
+    f64::from_bits(bits)
 }
 
 // A net is given, or the text is turned down: by which number, at which line.

@@ -2,7 +2,6 @@
 ghost use mathlib.Core.Path.{_≡_};
 ghost use Prim.Native.Nat.{_+_, _*_, _<_, _≤_};
 ghost use lib.ListN.{length};
-ghost use lib.Ieee as Ieee;
 ghost use Rattle.net.specs.Tests as Tests;
 ghost use Rattle.net.specs.Readable as Readable;
 ghost use Rattle.net.specs.Record.{blank};
@@ -10,6 +9,7 @@ ghost use Rattle.text.specs.Text as Text;
 ghost use Rattle.net_text.specs.Position as Spec;
 use super::Judged;
 use super::RunLine;
+use super::float_of;
 use super::form;
 use super::scan;
 
@@ -66,16 +66,6 @@ fn is_word(line: &[u8], w: &[u8]) -> bool
         return false;
     }
     line.len() == w.len()
-}
-
-// The float of 64 bits. A NaN's pattern gives the one NaN.
-fn float_of(bits: u64) -> f64
-    ensures { λ r. ⌜ r ≡ Ieee.ofBits Ieee.binary64 bits ⌝ }
-{
-    if 0x7FF0_0000_0000_0000 < bits % 0x8000_0000_0000_0000 {
-        return 0.0 / 0.0;
-    }
-    f64::from_bits(bits)
 }
 
 // No run line yet.

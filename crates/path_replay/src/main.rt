@@ -3,7 +3,7 @@
 // steps, the generator's words, and the answer's cells by their bits, with the one behind them. The table has 2,048 cells of 7. No more is read than 2,048
 // instants.
 use net::Net;
-use replay_io::float;
+use net_text::float_of;
 use replay_io::next_number;
 use replay_io::number;
 use replay_io::read_net;
@@ -28,7 +28,7 @@ fn read_generator() -> Xoshiro256 {
 fn read_instants(n: usize, instants: &mut [f64; 2048]) {
     for i in 0..2048usize {
         if i < n {
-            instants[i] = float(number());
+            instants[i] = float_of(number());
         }
     }
 }

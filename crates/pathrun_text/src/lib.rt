@@ -3,7 +3,6 @@ ghost use mathlib.Core.Path.{_≡_};
 ghost use mathlib.Core.Option.{none};
 ghost use Prim.Native.Nat.{_≤_};
 ghost use lib.ListN.{length};
-ghost use lib.Ieee.{binary64, ofBits};
 ghost use Rattle.net.specs.Readable.{readable, labels, fault};
 ghost use Rattle.net_text.specs.Position.{runOf};
 ghost use Rattle.pathrun_text.specs.Pathrun as Pathrun;
@@ -25,16 +24,6 @@ fn table() -> [f64; 2048]
     [0.0; 2048]
 }
 
-// The float of these bits, as a run line has its horizon; all patterns of a NaN are one.
-pub fn float_of(bits: u64) -> f64
-    ensures { λ r. ⌜ r ≡ ofBits binary64 bits ⌝ }
-{
-    if 0x7FF0_0000_0000_0000 < bits % 0x8000_0000_0000_0000 {
-        return 0.0 / 0.0;
-    }
-    f64::from_bits(bits)
-}
-
 // Plays the ensemble that a text asks for, and prints its answer.
 fn run(net: Net, asked: RunLine, out: &mut [u8]) -> usize
     requires { ⌜ (Pathrun.longest ≤ length (now out)) × (fault net ≡ none) ⌝ }
@@ -48,7 +37,7 @@ fn run(net: Net, asked: RunLine, out: &mut [u8]) -> usize
     let lengths = net.lengths;
     let samples = asked.samples;
     let realizations = asked.realizations;
-    let horizon = float_of(asked.horizon);
+    let horizon = net_text::float_of(asked.horizon);
     let answer = ssa::ensemble(
         net,
         samples,

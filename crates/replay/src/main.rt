@@ -5,6 +5,7 @@ use combinations::RealWays;
 use combinations::Ways;
 use libc::STDIN_FILENO;
 use libc::STDOUT_FILENO;
+use net_text::float_of;
 use rng::Xoshiro256;
 ghost use Prim.Native.Nat.{_≤_};
 
@@ -97,17 +98,6 @@ fn word(text: &[u8; 36], at: usize) -> u64
     n
 }
 
-// The float whose bits are b.
-fn float(b: u64) -> f64 {
-    if b % 0x8000_0000_0000_0000 / 0x10_0000_0000_0000 != 0x7FF {
-        return f64::from_bits(b);
-    }
-    if b % 0x10_0000_0000_0000 == 0 {
-        return f64::from_bits(b);
-    }
-    0.0 / 0.0
-}
-
 // The whole number that n gives.
 fn signed(n: u64) -> i64 {
     (n % 0x8000_0000_0000_0000) as i64 - 0x4000_0000_0000_0000
@@ -141,11 +131,11 @@ fn answer(letter: u8, a: u64, b: u64, state: &mut [u64; 4]) {
         }
         b'n' => output(state),
         b'u' => uniform(state),
-        b'f' => parts_line(float(a)),
-        b'l' => float_line(portable_log::plog(float(a))),
-        b'q' => float_line(root::sqrt(float(a))),
+        b'f' => parts_line(float_of(a)),
+        b'l' => float_line(portable_log::plog(float_of(a))),
+        b'q' => float_line(root::sqrt(float_of(a))),
         b'c' => ways_line(combinations::combinations(signed(a), signed(b))),
-        b'd' => real_ways_line(combinations::combinations_real(float(a), signed(b))),
+        b'd' => real_ways_line(combinations::combinations_real(float_of(a), signed(b))),
         _ => end(),
     }
 }

@@ -5,11 +5,11 @@
 ghost use mathlib.Core.Path.{_≡_};
 ghost use Prim.Native.Nat.{_+_, _*_, _≤_};
 ghost use lib.Dec.{ltb};
-ghost use lib.Ieee.{binary64, ofBits};
 ghost use Rattle.net.specs.Net.{pick};
 use libc::STDIN_FILENO;
 use libc::STDOUT_FILENO;
 use net::Net;
+use net_text::float_of;
 
 // A number of the input, or that there is none left.
 pub struct Found {
@@ -61,16 +61,6 @@ pub fn number() -> u64 {
 
 pub fn size() -> usize {
     number() as usize
-}
-
-// The float whose bits are b; all patterns of a NaN are one.
-pub fn float(b: u64) -> f64
-    ensures { λ r. ⌜ r ≡ ofBits binary64 b ⌝ }
-{
-    if 0x7FF0_0000_0000_0000 < b % 0x8000_0000_0000_0000 {
-        return 0.0 / 0.0;
-    }
-    f64::from_bits(b)
 }
 
 // The eight bytes of a number from byte `from` on, the highest first.
@@ -134,8 +124,8 @@ fn read_transitions(
 ) {
     for j in 0..64usize {
         if j < n {
-            rate[j] = float(number());
-            delay[j] = float(number());
+            rate[j] = float_of(number());
+            delay[j] = float_of(number());
             let count = size();
             arcs[j] = count;
             read_arcs(count, 16 * j, kind, place, weight);

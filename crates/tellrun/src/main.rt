@@ -68,7 +68,7 @@ fn play_grid(net: Net, samples: u64, seed: u64, horizon: f64)
 }
 
 fn run(net: Net, asked: RunLine) {
-    let horizon = pathrun_text::float_of(asked.horizon);
+    let horizon = net_text::float_of(asked.horizon);
     let samples = asked.samples;
     let seed = asked.seed;
     match request::request_fault(samples, asked.realizations, seed, horizon) {

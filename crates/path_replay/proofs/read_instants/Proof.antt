@@ -16,8 +16,8 @@ loop-holds c = search needs
 number-requires : tie.Need-number-requires Inv-loop μ-loop
 number-requires c κs = search needs
 
-float-requires : tie.Need-float-requires Inv-loop μ-loop
-float-requires c κs = search needs
+float-of-requires : tie.Need-float-of-requires Inv-loop μ-loop
+float-of-requires c κs = search needs
 
 mul-instants : tie.Need-mul-instants Inv-loop μ-loop
 mul-instants c = search needs
@@ -45,7 +45,7 @@ read-instants-spec =
     μ-loop
     loop-holds
     number-requires
-    float-requires
+    float-of-requires
     mul-instants
     element-write-instants
     add-i

@@ -16,8 +16,8 @@ loop-holds c = search needs
 number-requires : tie.Need-number-requires Inv-loop μ-loop
 number-requires c κs = search needs
 
-float-requires : tie.Need-float-requires Inv-loop μ-loop
-float-requires c κs = search needs
+float-of-requires : tie.Need-float-of-requires Inv-loop μ-loop
+float-of-requires c κs = search needs
 
 mul-rate : tie.Need-mul-rate Inv-loop μ-loop
 mul-rate c = search needs
@@ -28,8 +28,8 @@ element-write-rate c = search needs
 number-requires-2 : tie.Need-number-requires-2 Inv-loop μ-loop
 number-requires-2 c κs = search needs
 
-float-requires-2 : tie.Need-float-requires-2 Inv-loop μ-loop
-float-requires-2 c κs = search needs
+float-of-requires-2 : tie.Need-float-of-requires-2 Inv-loop μ-loop
+float-of-requires-2 c κs = search needs
 
 mul-delay : tie.Need-mul-delay Inv-loop μ-loop
 mul-delay c = search needs
@@ -72,11 +72,11 @@ read-transitions-spec =
     μ-loop
     loop-holds
     number-requires
-    float-requires
+    float-of-requires
     mul-rate
     element-write-rate
     number-requires-2
-    float-requires-2
+    float-of-requires-2
     mul-delay
     element-write-delay
     size-requires

@@ -1,8 +1,8 @@
 -- A NaN's pattern is one above the infinity's, its sign bit taken off.
 use borrow.Author.Needs.{needs}
 use Rattle.net_text.proofs.Patterns.{nan-pattern, number-pattern}
-use Rattle.net_text.proofs.order.float_of.Statement.{statement}
-use Rattle.net_text.proofs.order.float_of.Tie as tie
+use Rattle.net_text.proofs.float_of.Statement.{statement}
+use Rattle.net_text.proofs.float_of.Tie as tie
 
 returns : tie.Need-returns
 returns c =
