@@ -12,8 +12,9 @@ use lib.Seq.{drop-cons, drop-length}
 use borrow.Author.Tests.{eq-eqb, ne-eqb, lt-ltb, le-ltb, ltb-false}
 use Rattle.net.specs.declared.Net.{Net as NetRecord}
 use Rattle.net.specs.Net.{pick}
-use Rattle.net.specs.Readable.{readable, fault, placesFrom}
+use Rattle.net.specs.Readable.{readable, fault}
 use Rattle.net.proofs.Slots.{or-stop, or-go, not-first, not-second}
+use Rattle.net.proofs.Lengths.{places-length}
 use Rattle.rules.specs.Step.{refused}
 use Rattle.rules.specs.Balance.{someAbove1000, balance}
 use Rattle.balance.specs.Call.{unlessFault, called, weighed}
@@ -46,10 +47,6 @@ small (w ∷ ws) e (suc p) = small ws (not-second (ltb 1000 w) (someAbove1000 ws
 -- ---- the call
 
 -- a net has as many places as its record says
-places-count : (initial capacity : List ℕ) (p k : ℕ) → length (placesFrom initial capacity p k) ≡ k
-places-count initial capacity p zero = refl
-places-count initial capacity p (suc k) = ap suc (places-count initial capacity (suc p) k)
-
 module _ (n : NetRecord) (ws : List ℕ) where
   abbrev long : ℕ → Bool
   long k = eqb (length ws) k
@@ -66,7 +63,7 @@ module _ (n : NetRecord) (ws : List ℕ) where
         → called n ws ≡ pick l (pick a (refused 4) (weighed (readable n) ws)) (refused 3)
     by-lists {l} {a} d f =
         by-tests e
-        ∙ ap (λ (k : ℕ). pick (long k) (pick (someAbove1000 ws) (refused 4) (weighed (readable n) ws)) (refused 3)) (places-count (n .initial) (n .capacity) 0 (n .places))
+        ∙ ap (λ (k : ℕ). pick (long k) (pick (someAbove1000 ws) (refused 4) (weighed (readable n) ws)) (refused 3)) (places-length n)
         ∙ ap (λ (x : Bool). pick x (pick (someAbove1000 ws) (refused 4) (weighed (readable n) ws)) (refused 3)) d
         ∙ ap (λ (x : Bool). pick l (pick x (refused 4) (weighed (readable n) ws)) (refused 3)) f
 

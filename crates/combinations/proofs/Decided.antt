@@ -5,7 +5,7 @@ use mathlib.Core.Path.{_≡_, refl, sym, ap, _∙_, subst}
 use mathlib.Core.Logic.{inl, inr}
 use mathlib.Core.Bool.{false}
 use Prim.Native.Nat.{ℕ, zero, suc, _+_, _-_, _*_, _/_, _%_, _^_, _≤_, _<_}
-use native.Mathlib.Nat.{mul-one, one-mul, mul-comm, mul-assoc, mul-left-comm, mul-right-comm, mul-le-mul, mul-le-mul-left, le-trans, le-of-eq, lt-of-le-of-lt, eq-of-mul-eq-mul-right, pow-suc, pow-succ'}
+use native.Mathlib.Nat.{mul-one, mul-assoc, mul-left-comm, mul-right-comm, mul-le-mul, mul-le-mul-left, le-trans, le-of-eq, lt-of-le-of-lt, eq-of-mul-eq-mul-right, pow-suc, pow-succ'}
 use native.Mathlib.Omega.{arith}
 use lib.Dec.{leb, eqb, leb→le, eqb→eq, lit<}
 use lib.Pow.{pow-add, pow-pos}

@@ -14,7 +14,7 @@ use borrow.Author.Tests.{leb-false, ltb-false, eqb-true, eqb-false, ne-eqb}
 use Rattle.net.specs.declared.Net.{Net as NetRecord}
 use Rattle.net.specs.Net.{Take, Transition, Net, Marking, zero64, amount, held}
 use Rattle.net.specs.Tests.{any}
-use Rattle.net.specs.Readable.{Slot, slotAt, slots, slotsOf, takesOf, readable, transition, transitionsFrom}
+use Rattle.net.specs.Readable.{Slot, slotAt, slots, takesOf, readable, transition, transitionsFrom}
 use Rattle.net.proofs.Slots.{not-first, not-second}
 use Rattle.rules.specs.Propensity.{propensity, propensities}
 use Rattle.rules.specs.Exact.{exactWays, inexact, someInexact, rounded, addsRounded}

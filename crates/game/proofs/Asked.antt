@@ -14,8 +14,9 @@ use borrow.Author.Tests.{eq-eqb, ne-eqb, eqb-true, le-leb, lt-leb, leb-true, lt-
 use Rattle.refusals.specs as Refusal
 use Rattle.net.specs.declared.Net.{Net as NetRecord}
 use Rattle.net.specs.Net.{Net, pick, zero64}
-use Rattle.net.specs.Readable.{placesFrom, transitionsFrom, readable, fault as netFault}
+use Rattle.net.specs.Readable.{transitionsFrom, readable, fault as netFault}
 use Rattle.net.specs.Sound.{Sound}
+use Rattle.net.proofs.Lengths.{places-length, transitions-length}
 use Rattle.rules.specs.Moves.{initialCounts}
 use Rattle.engine.specs.Engine.{anyTimed}
 use Rattle.engine.proofs.Lists.{aboveFrom, above-all}
@@ -120,22 +121,6 @@ fitting n sides e =
 pub turns-few : (k : ℕ) → turnsFit k ≡ true → (1 ≤ k) × (k ≤ 8)
 turns-few k e = let x = both _ _ e in (leb-true 1 k (x .0), leb-true k 8 (x .1))
 
--- ---- lengths
-
-places-from : (initial capacity : List ℕ) (p k : ℕ) → length (placesFrom initial capacity p k) ≡ k
-places-from initial capacity p zero = refl
-places-from initial capacity p (suc k) = ap suc (places-from initial capacity (suc p) k)
-
-pub places-length : (n : NetRecord) → length (readable n .places) ≡ n .places
-places-length n = places-from (n .initial) (n .capacity) 0 (n .places)
-
-moves-from : (n : NetRecord) (j k : ℕ) → length (transitionsFrom n j k) ≡ k
-moves-from n j zero = refl
-moves-from n j (suc k) = ap suc (moves-from n (suc j) k)
-
-pub moves-length : (n : NetRecord) → length (readable n .transitions) ≡ n .transitions
-moves-length n = moves-from n 0 (n .transitions)
-
 -- ---- delays
 
 delayed-from : (n : NetRecord) (j k : ℕ) → delayed (transitionsFrom n j k) ≡ aboveFrom (n .delay) j k
@@ -151,7 +136,7 @@ delayed-is n =
 
 module _ (r n : NetRecord) (e : readable r ≡ readable n) where
   pub same-moves : r .transitions ≡ n .transitions
-  same-moves = sym (moves-length r) ∙ ap (λ (m : Net). length (m .transitions)) e ∙ moves-length n
+  same-moves = sym (transitions-length r) ∙ ap (λ (m : Net). length (m .transitions)) e ∙ transitions-length n
 
   pub first-small : Sound n → r .places ≡ n .places → r .initial ≡ n .initial → (p : ℕ) → p < r .places → getD (r .initial) p 0 ≤ 2 ^ 53
   first-small s d f p h =
@@ -185,7 +170,7 @@ module _ (n : NetRecord) (sides : List ℕ) (p c turns : ℕ) where
     measured =
         tested
         ∙ ap (λ (b : Bool). answer b (sidesFit (length (readable n .transitions)) sides && turnsFit turns) (ltb p (length (readable n .places)))) (sym (delayed-is n))
-        ∙ ap (λ (k : ℕ). answer (anyTimed (n .transitions) (n .delay)) (sidesFit k sides && turnsFit turns) (ltb p (length (readable n .places)))) (moves-length n)
+        ∙ ap (λ (k : ℕ). answer (anyTimed (n .transitions) (n .delay)) (sidesFit k sides && turnsFit turns) (ltb p (length (readable n .places)))) (transitions-length n)
         ∙ ap (λ (k : ℕ). answer (anyTimed (n .transitions) (n .delay)) (sidesFit (n .transitions) sides && turnsFit turns) (ltb p k)) (places-length n)
 
     pub by-delay : anyTimed (n .transitions) (n .delay) ≡ true → refused Refusal.delayedTransition ≡ called n sides p c turns

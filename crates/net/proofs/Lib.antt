@@ -5,3 +5,4 @@ pub mod Domain
 pub mod Faults
 pub mod Sound
 pub mod Apart
+pub mod Lengths

@@ -122,10 +122,6 @@ module _ (line : Bytes) (at : ℕ) (h : at ≤ length line) (space : Bool) (e : 
 
 -- ---- numbered things
 
-pub numbered-length : {A : Type 0} (f : ℕ → A) (j k : ℕ) → length (numbered f j k) ≡ k
-numbered-length f j zero = refl
-numbered-length f j (suc k) = ap suc (numbered-length f (suc j) k)
-
 pub numbered-same : {A : Type 0} (f g : ℕ → A) (j k : ℕ) → ((i : ℕ) → i < j + k → f i ≡ g i) → numbered f j k ≡ numbered g j k
 numbered-same f g j zero h = refl
 numbered-same f g j (suc k) h =

@@ -21,16 +21,9 @@ use Rattle.text.specs.Text.{Bytes}
 use Rattle.text.specs.Buffer.{placed}
 use Rattle.text.proofs.Places.{length-placed}
 use Rattle.net_text.specs.Position.{tables, netAt, Room}
-use Rattle.net_text.proofs.Labels.{numbered-length, numbered-same, numbered-last, label-other, labels-before, label-judged}
+use Rattle.net_text.proofs.Labels.{numbered-same, numbered-last, label-other, labels-before, label-judged}
 
 -- ---- how many
-
-pub places-length : (i c : List ℕ) (p k : ℕ) → length (placesFrom i c p k) ≡ k
-places-length i c p zero = refl
-places-length i c p (suc k) = ap suc (places-length i c (suc p) k)
-
-pub transitions-length : (n : NetRecord) (j k : ℕ) → length (transitionsFrom n j k) ≡ k
-transitions-length n j k = numbered-length (transition n) j k
 
 pub places-empty : (i c : List ℕ) (p k : ℕ) → empty (placesFrom i c p k) ≡ eqb k 0
 places-empty i c p zero = refl

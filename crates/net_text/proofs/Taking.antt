@@ -35,7 +35,8 @@ use Rattle.net_text.specs.declared.order.Taken.the-variants.{Fault, GoOn
 use Rattle.net_text.proofs.Parts.{found-met, found-wrong, place-whole, place-more, move-whole, move-more, run-whole, run-more}
 use Rattle.net_text.proofs.Clipped.{held-whole, clean, later, place-held, run-held, move-held, move-crowded, move-late}
 use Rattle.net_text.proofs.Labels.{label-long, labels-stored}
-use Rattle.net_text.proofs.Stored.{first-none, second-none, places-length, transitions-length, places-empty, transitions-empty, place-stored, place-room, move-stored, move-room}
+use Rattle.net.proofs.Lengths.{places-from, transitions-from}
+use Rattle.net_text.proofs.Stored.{first-none, second-none, places-empty, transitions-empty, place-stored, place-room, move-stored, move-room}
 
 -- ---- tests
 
@@ -177,7 +178,7 @@ module _ (line : Bytes) (p t : ℕ) (T : Tables) where
           let held-place : Place = record { initial = held (r .initial .value); capacity = held (r .capacity .value) } in
           let same : held-place ≡ q = rw (r .held-initial, r .held-capacity) in
           ap (insideLine n names) (place-whole line (rawPlace (r .initial) (r .capacity) l) (s .next) whole (place-met ok))
-          ∙ place-held n names (r .initial) (r .capacity) l p t (places-length (T .initial) (T .capacity) 0 p) (transitions-empty (netAt p t T) 0 t)
+          ∙ place-held n names (r .initial) (r .capacity) l p t (places-from (T .initial) (T .capacity) 0 p) (transitions-empty (netAt p t T) 0 t)
           ∙ ap (λ (b : Bool). unless (firstOf (placeLineTests p t b held-place names l)) (afterPlace n names held-place l)) (sym (r .strange))
           ∙ ap (λ (x : Place). unless (firstOf (placeLineTests p t (s .strange) x names l)) (afterPlace n names x l)) same
           ∙ ap (λ (o : Option ℕ). unless o (afterPlace n names q l)) (sym (taken .fault))
@@ -303,15 +304,15 @@ module _ (line : Bytes) (p t : ℕ) (T : Tables) where
           → insideLine n names (some (rawMove (s .rate) (s .delay) xs))
           ≡ unless (firstOf (moveTests p t (any badArc xs || strange ls) u)) (afterMove n names u)
       by-slots false over e f =
-          move-late n names p t (s .rate) (s .delay) xs ls (places-length (T .initial) (T .capacity) 0 p) (transitions-length (netAt p t T) 0 t) same-count (ltb-false t 64 e)
+          move-late n names p t (s .rate) (s .delay) xs ls (places-from (T .initial) (T .capacity) 0 p) (transitions-from (netAt p t T) 0 t) same-count (ltb-false t 64 e)
       by-slots true true e f =
-          move-crowded n names p t (s .rate) (s .delay) xs ls (places-length (T .initial) (T .capacity) 0 p) (transitions-length (netAt p t T) 0 t) same-count (ltb-true 16 (length xs) f)
+          move-crowded n names p t (s .rate) (s .delay) xs ls (places-from (T .initial) (T .capacity) 0 p) (transitions-from (netAt p t T) 0 t) same-count (ltb-true 16 (length xs) f)
       by-slots true false e f =
           let there : slots k′ p′ w′ (16 * t) (s .count) ≡ map slotOf xs =
           ap (λ (c : ℕ). slots k′ p′ w′ (16 * t) c) (r .count)
           ∙ ap (λ (b : ℕ). slots k′ p′ w′ b (length xs)) (sym (start (ltb-true t 64 e)))
           ∙ r .stored (ltb-false 16 (length xs) f) in
-          move-held n names p t (s .rate) (s .delay) xs ls (places-length (T .initial) (T .capacity) 0 p) (transitions-length (netAt p t T) 0 t) same-count (room .few-places) there
+          move-held n names p t (s .rate) (s .delay) xs ls (places-from (T .initial) (T .capacity) 0 p) (transitions-from (netAt p t T) 0 t) same-count (room .few-places) there
 
       move-judged : lineRead (inside n names) line ≡ unless (meaning v) (afterMove n names u)
       move-judged =

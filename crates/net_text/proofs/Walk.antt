@@ -2,7 +2,7 @@
 -- stands the arcs so far are all (walk-end). Assumes nothing.
 use Prim.Native.Nat.{ℕ, zero, suc, _+_, _-_, _≤_, _<_}
 use mathlib.Core.Path.{_≡_, refl, sym, ap, _∙_}
-use mathlib.Core.Bool.{Bool, true, false, _||_}
+use mathlib.Core.Bool.{Bool, true, false, _||_, or-assoc}
 use mathlib.Core.List.{List, [], _∷_, _++_, map}
 use native.Mathlib.Omega.{arith}
 use native.Mathlib.Numerals.{add-one}
@@ -99,17 +99,13 @@ filled-last f a (b ∷ ls) l xs =
     let same : suc a + length ls ≡ a + suc (length ls) = omega arith in
     filled-last f (suc a) ls l (set xs a (f b)) ∙ ap (λ (i : ℕ). set (filled f (suc a) ls (set xs a (f b))) i (f l)) same
 
-or-assoc : (x y z : Bool) → (x || (y || z)) ≡ (x || y || z)
-or-assoc true y z = refl
-or-assoc false y z = refl
-
 any-last : (got : List RawArc) (a : RawArc) → any badArc (got ++ (a ∷ [])) ≡ (any badArc got || badArc a)
 any-last [] a = or-false (badArc a)
   where
     or-false : (x : Bool) → (x || false) ≡ x
     or-false true = refl
     or-false false = refl
-any-last (b ∷ got) a = ap (λ (x : Bool). badArc b || x) (any-last got a) ∙ or-assoc (badArc b) (any badArc got) (badArc a)
+any-last (b ∷ got) a = ap (λ (x : Bool). badArc b || x) (any-last got a) ∙ sym (or-assoc (badArc b) (any badArc got) (badArc a))
 
 -- ---- the loop
 

@@ -1,10 +1,10 @@
 -- The ensemble call on a net that a text gives is the one that Pathrun speaks of: the net has no fault, its places are as many as the readable net's,
 -- and the tables are 2,048 cells of +0. What its answer prints, case by case; and a call that is not turned down keeps to the bounds of "Domain".
-use Prim.Native.Nat.{ℕ, zero, suc, _*_, _≤_}
+use Prim.Native.Nat.{ℕ, _*_, _≤_}
 use native.Mathlib.Omega.{arith}
 use mathlib.Core.Path.{_≡_, refl, sym, ap, _∙_}
 use mathlib.Core.Bool.{Bool, true, false, _&&_, not}
-use mathlib.Core.List.{List, [], _∷_}
+use mathlib.Core.List.{List}
 use mathlib.Core.Option.{Option, none, some}
 use lib.Dec.{leb}
 use lib.ListN.{length, length-replicate}
@@ -12,17 +12,18 @@ use lib.Ieee.{Float, binary64, ofBits}
 use borrow.Author.Tests.{leb-true}
 use Rattle.refusals.specs as Refusal
 use Rattle.net.specs.Net.{pick, zero64}
-use Rattle.net.specs.Tests.{orElse, firstOf}
-use Rattle.net.specs.Readable.{readable, labels, fault, placesFrom}
+use Rattle.net.specs.Tests.{orElse}
+use Rattle.net.specs.Readable.{readable, labels, fault}
 use Rattle.net.specs.declared.Net.{Net as NetRecord}
 use Rattle.net.proofs.Sound.{sound}
+use Rattle.net.proofs.Lengths.{places-length}
 use Rattle.text.specs.Text.{Bytes}
 use Rattle.net_text.specs.Position.{runOf}
 use Rattle.net_text.specs.declared.RunLine.{RunLine as RunRecord}
 use Rattle.result_text.specs.Lines.{refusedLine, printed}
-use Rattle.averages.specs.Request.{Request, requestFault, tablesFault, samplesFit, realizationsFit, horizonFits}
+use Rattle.averages.specs.Request.{Request, requestFault, tablesFault, samplesFit}
 use Rattle.averages.specs.Tables.{Tables, callFault}
-use Rattle.ssa.specs.Ensemble.{Outcome, averaged, Call, callOf, called, unlessFault, tabulated, membersFrom}
+use Rattle.ssa.specs.Ensemble.{averaged, Call, callOf, called, unlessFault, tabulated, membersFrom}
 use Rattle.ssa.specs.declared.EnsembleAnswer.{EnsembleAnswer}
 use Rattle.ssa.specs.declared.EnsembleAnswer.the-variants.{Averaged, TurnedDown, Stopped}
 use Rattle.pathrun_text.specs.Printing.{inFront}
@@ -30,17 +31,13 @@ use Rattle.pathrun_text.specs.Pathrun.{tableCells, table, tables, reques
 
 -- ---- the call
 
-places-count : (initial capacity : List ℕ) (p k : ℕ) → length (placesFrom initial capacity p k) ≡ k
-places-count initial capacity p zero = refl
-places-count initial capacity p (suc k) = ap suc (places-count initial capacity (suc p) k)
-
 table-long : length table ≡ tableCells
 unfolding table
 table-long = length-replicate tableCells zero64
 
 module _ (n : NetRecord) (q : Request) (accepted : fault n ≡ none) where
   places-are : n .places ≡ length (readable n .places)
-  places-are = sym (places-count (n .initial) (n .capacity) 0 (n .places))
+  places-are = sym (places-length n)
 
   -- of k places, with tables of so many cells
   with-cells : ℕ → ℕ → Call

@@ -1,12 +1,12 @@
 -- What a net record without a fault gives, as the comparison with Gillespie's rule asks it, and that counts stay at most 2^53 throughout a run.
 use Prim.Native.Nat.{ℕ, zero, suc, _+_, _-_, _^_, _≤_}
-use mathlib.Core.Path.{_≡_, refl, ap, subst}
+use mathlib.Core.Path.{_≡_, refl, subst}
 use mathlib.Core.Bool.{Bool, true, false}
 use mathlib.Core.List.{List, [], _∷_, map}
 use mathlib.Core.Option.{Option, none, some}
 use native.Mathlib.Omega.{arith}
 use lib.Dec.{leb}
-use lib.ListN.{length, getD, set}
+use lib.ListN.{getD, set}
 use lib.Ieee.{Float, binary64, add, mul}
 use borrow.Author.Tests.{leb-true, le-leb}
 use Rattle.net.specs.declared.Net.{Net as NetRecord}
@@ -14,6 +14,7 @@ use Rattle.net.specs.Net.{Place, Take, Net, Marking, pick, amount, held}
 use Rattle.net.specs.Readable.{transitionsFrom, placesFrom, readable, fault}
 use Rattle.net.specs.Sound.{Sound}
 use Rattle.net.proofs.Sound.{sound}
+use Rattle.net.proofs.Lengths.{transitions-length}
 use Rattle.rng.specs.State.{State as Generator}
 use Rattle.rng.specs.Xoshiro.{step as drawn, uniform}
 use Rattle.rules.specs.Propensity.{propensities, total}
@@ -33,10 +34,6 @@ module _ (n : NetRecord) (s : Sound n) where
   tested-from zero j h = tt
   tested-from (suc k) j h = (s .rate j (omega arith), s .kinetic j (omega arith), tested-from k (suc j) (omega arith))
 
-  how-many : (k j : ℕ) → length (transitionsFrom n j k) ≡ k
-  how-many zero j = refl
-  how-many (suc k) j = ap suc (how-many k (suc j))
-
   initial-from : (k p : ℕ) → p + k ≤ n .places → countsFit (map (λ (q : Place). q .initial) (placesFrom (n .initial) (n .capacity) p k)) ≡ true
   initial-from zero p h = refl
   initial-from (suc k) p h = rw (le-leb (getD (n .initial) p 0) (2 ^ 53) (s .initial p (omega arith))) (initial-from k (suc p) (omega arith))
@@ -44,7 +41,7 @@ module _ (n : NetRecord) (s : Sound n) where
   accepted-by : Accepted (readable n)
   accepted-by =
       record {
-        few = omega (arith, how-many (n .transitions) 0, s .transitions);
+        few = omega (arith, transitions-length n, s .transitions);
         tested = tested-from (n .transitions) 0 (omega arith);
         initial = initial-from (n .places) 0 (omega arith);
       }

@@ -13,7 +13,8 @@ use borrow.Author.Tests.{eqb-true, eqb-false}
 use Rattle.refusals.specs as Refusal
 use Rattle.net.specs.declared.Net.{Net as NetRecord}
 use Rattle.net.specs.Net.{Net, pick, zero64}
-use Rattle.net.specs.Readable.{placesFrom, readable}
+use Rattle.net.specs.Readable.{readable}
+use Rattle.net.proofs.Lengths.{places-length}
 use Rattle.rules.specs.Propensity.{float}
 use Rattle.rules.specs.Step.{Answer}
 use Rattle.averages.specs.Request.{Request, seedOf}
@@ -31,14 +32,10 @@ use Rattle.engine.proofs.Arcs.{on-bool}
 
 -- ---- one path
 
-places-long : (initial capacity : List ℕ) (p k : ℕ) → length (placesFrom initial capacity p k) ≡ k
-places-long initial capacity p zero = refl
-places-long initial capacity p (suc k) = ap suc (places-long initial capacity (suc p) k)
-
 pub member-is : (n : NetRecord) (q : Request) (k : ℕ) {dt : Float} {own : ℕ} → dt ≡ stepOf (q .samples) (q .horizon) → own ≡ seedOf (q .seed) k
     → cellsOf (n .places) (walked (readable n) dt (q .samples) own) ≡ member (readable n) q k
 member-is n q k {dt} {own} e d =
-    ap (λ (m : ℕ). cellsOf m (walked (readable n) dt (q .samples) own)) (sym (places-long (n .initial) (n .capacity) 0 (n .places)))
+    ap (λ (m : ℕ). cellsOf m (walked (readable n) dt (q .samples) own)) (sym (places-length n))
     ∙ (λ i. cellsOf (length (readable n .places)) (walked (readable n) (e i) (q .samples) (d i)))
 
 -- ---- the tables

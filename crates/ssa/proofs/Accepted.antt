@@ -1,7 +1,7 @@
 -- The tests of a path call, in their order. The instants are tested one by one: what is left to test from here is the whole. Each answer of the
 -- call is the definition's by the tests that led to it. Assumes nothing.
-use Prim.Native.Nat.{ℕ, zero, suc, _+_, _*_, _^_, _≤_, _<_}
-use mathlib.Core.Path.{_≡_, refl, sym, ap, _∙_, subst}
+use Prim.Native.Nat.{ℕ, _+_, _*_, _^_, _≤_, _<_}
+use mathlib.Core.Path.{_≡_, sym, ap, _∙_, subst}
 use mathlib.Core.Bool.{Bool, true, false, _&&_, and-false}
 use mathlib.Core.List.{List}
 use mathlib.Core.Option.{Option, none, some}
@@ -16,8 +16,9 @@ use borrow.Author.Tests.{le-leb, lt-leb, leb-true}
 use Rattle.refusals.specs as Refusal
 use Rattle.net.specs.declared.Net.{Net as NetRecord}
 use Rattle.net.specs.Net.{Net, pick, zero64}
-use Rattle.net.specs.Readable.{placesFrom, readable, fault}
+use Rattle.net.specs.Readable.{readable, fault}
 use Rattle.net.specs.Sound.{Sound}
+use Rattle.net.proofs.Lengths.{places-length}
 use Rattle.rng.specs.State.{State as Generator}
 use Rattle.rules.specs.Shown.{rising, instantsFit, limitFits, worked}
 use Rattle.rules.proofs.Order.{both}
@@ -75,13 +76,6 @@ fitting xs e =
     record { some-instant = leb-true 1 (length xs) (inner .0); few = leb-true (length xs) 1024 (inner .1); risen = outer .1 }
 
 -- ---- the places
-
-places-from : (initial capacity : List ℕ) (p k : ℕ) → length (placesFrom initial capacity p k) ≡ k
-places-from initial capacity p zero = refl
-places-from initial capacity p (suc k) = ap suc (places-from initial capacity (suc p) k)
-
-pub places-length : (n : NetRecord) → length (readable n .places) ≡ n .places
-places-length n = places-from (n .initial) (n .capacity) 0 (n .places)
 
 -- places times instants
 pub cells-fit : (p n : ℕ) → p ≤ 32 → n ≤ 1024 → p * n < 2 ^ 64

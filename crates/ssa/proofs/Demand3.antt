@@ -1,31 +1,31 @@
 -- Demand 3 holds. A call that is not refused has an accepted net, and its answer and table are those of the rules' path; the rules' demand 3
 -- (crate rules, Demand3Held) then speaks of the counts, and a cell of the table is the count there as a float.
-use Prim.Native.Nat.{ℕ, zero, suc, _+_, _*_, _≤_, _<_}
-use mathlib.Core.Path.{_≡_, refl, sym, ap, _∙_, subst}
+use Prim.Native.Nat.{ℕ, suc, _+_, _*_, _≤_, _<_}
+use mathlib.Core.Path.{_≡_, refl, sym, ap, _∙_}
 use mathlib.Core.Bool.{Bool, true, false}
-use mathlib.Core.List.{List, [], _∷_, _++_}
+use mathlib.Core.List.{List, [], _∷_}
 use mathlib.Core.Option.{Option, none, some}
 use native.Mathlib.Omega.{arith}
 use lib.ListN.{getD, length, drop, length-map, List·getD-append}
-use lib.Ieee.{Float, nan, eq}
+use lib.Ieee.{Float, nan}
 use Rattle.refusals.specs as Refusal
 use Rattle.net.specs.declared.Net.{Net as NetRecord}
-use Rattle.net.specs.Net.{Net, Marking, pick, held}
-use Rattle.net.specs.Readable.{readable, fault, placesFrom}
+use Rattle.net.specs.Net.{pick, held}
+use Rattle.net.specs.Readable.{readable, fault}
+use Rattle.net.proofs.Lengths.{places-length}
 use Rattle.rng.specs.State.{State as Generator}
 use Rattle.rules.specs.Propensity.{float}
-use Rattle.rules.specs.Moves.{Entry, initialCounts, putAt, takenAt}
+use Rattle.rules.specs.Moves.{Entry}
 use Rattle.rules.specs.Step.{Answer, refused, given}
 use Rattle.rules.specs.Run.{End, quiet, spent, reached, trace}
 use Rattle.rules.specs.Shown.{Path, reaches, reachedFrom, settledOf, instantsFit, limitFits, worked, acceptedPath, runOf}
 use Rattle.rules.specs.Demand3 as Rule
-use Rattle.rules.specs.Demand3.{instant, earlier, EachAllowed}
 use Rattle.rules.proofs.Demand3Held as Held
 use Rattle.rules.proofs.TakesOnce.{takes-once}
 use Rattle.rules.proofs.Shows.{shown-fits}
 use Rattle.ssa.specs.Cells.{rowsFrom, tableOf}
-use Rattle.ssa.specs.Path.{Call, turnedDown, played, tableFits, afterNet, unlessFault, called}
-use Rattle.ssa.specs.Demand3.{Answered, cell, Balanced, Demand3}
+use Rattle.ssa.specs.Path.{Call, turnedDown, played, tableFits, unlessFault, called}
+use Rattle.ssa.specs.Demand3.{Answered, cell, Demand3}
 use Rattle.ssa.proofs.Cells.{cell-in, rows-at, rows-long}
 
 -- what a call that is not refused is
@@ -71,10 +71,6 @@ module _ (n : NetRecord) (g : Generator) (xs : List Float) (k : ℕ) (t : List F
 
 -- ---- cells
 
-places-long : (initial capacity : List ℕ) (p k : ℕ) → length (placesFrom initial capacity p k) ≡ k
-places-long initial capacity p zero = refl
-places-long initial capacity p (suc k) = ap suc (places-long initial capacity (suc p) k)
-
 few : (es : List Entry) (xs : List Float) → reachedFrom es xs ≤ length xs
 few es [] = omega arith
 few es (x ∷ xs) = go (reaches x es) (few es xs)
@@ -99,7 +95,7 @@ module _ (n : NetRecord) (g : Generator) (xs : List Float) (k : ℕ) (t : List F
   cell-is p i h l =
       let shown = w .answer .shown in
       let places = length (readable n .places) in
-      let many : places ≡ n .places = places-long (n .initial) (n .capacity) 0 (n .places) in
+      let many : places ≡ n .places = places-length n in
       let inside : p < places = omega arith in
       let at : p * length shown + i < places * length shown = cell-in p i places (length shown) inside (omega (arith, shown-long)) in
       ap (λ (c : List Float). getD c (p * length xs + i) nan) (w .table)
@@ -135,7 +131,7 @@ demand3 n g =
           ∙ sym (cell-is n g xs l u w p i q (s .1));
       counts = λ xs k t a i h p q.
           let v = whole n g xs k t a in
-          let many = places-long (n .initial) (n .capacity) 0 (n .places) in
+          let many = places-length n in
           record {
             count = Rule.count (v .answer) i p;
             exact = shown-fits n (v .sound) g xs k (v .answer) (v .works) i p;

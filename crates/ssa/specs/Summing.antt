@@ -1,7 +1,7 @@
 -- What the loop over an ensemble's paths leaves, in the words of Ensemble. Nothing here adds to the rules.
 use Prim.Native.Nat.{ℕ, _+_, _*_, _^_, _≤_, _<_}
 use mathlib.Core.Path.{_≡_}
-use mathlib.Core.Bool.{Bool, true}
+use mathlib.Core.Bool.{true}
 use mathlib.Core.List.{List, map}
 use lib.ListN.{length, getD, drop}
 use lib.Ieee.{Float}

@@ -4,7 +4,7 @@ use Rattle.combinations.specs.Binomial.{falling}
 use Rattle.combinations.specs.Parts.{Holds}
 use native.Mathlib.Omega.{arith}
 use mathlib.Core.Path.{_≡_, refl, sym, subst}
-use Prim.Native.Nat.{ℕ, _+_, _-_, _*_, _≤_}
+use Prim.Native.Nat.{ℕ, _-_, _*_, _≤_}
 use native.Mathlib.Numerals.{add-one}
 use Rattle.combinations.proofs.Parts.{word}
 use Rattle.combinations.proofs.whole.falling_parts.Statement.{statement}

@@ -1,5 +1,5 @@
 -- Up to the bound of its weight a take's ways are exact (`exact-to`), so up to any lower count too. Assumes nothing.
-use mathlib.Core.Path.{sym, subst}
+use mathlib.Core.Path.{subst}
 use Prim.Native.Nat.{ℕ, _≤_}
 use native.Mathlib.Nat.{le-trans, le-refl}
 use native.Mathlib.Omega.{arith}

@@ -1,5 +1,4 @@
 -- What the two tests and the table say. Assumes nothing.
-use Prim.Native.Nat.{ℕ, _<_}
 use native.Mathlib.Omega.{arith}
 use borrow.Author.Needs.{needs}
 use Rattle.engine.proofs.traits.traits_of.Statement.{statement}
