@@ -152,11 +152,12 @@ fn inexact(counts: &[i64], m: &Move) -> bool {
     takes(m).any(|(p, w, kinetic)| kinetic && !exact(ways(counts[p], w), counts[p], w))
 }
 
-/// A running timer: when it completes, how many were started before it, and whose it is.
+/// A running timer: when it completes, how many were started before it, whose it is, and the weight that its start took.
 struct Timer {
     at: f64,
     number: u64,
     who: usize,
+    taken: i64,
 }
 
 fn fits(xs: &[f64]) -> bool {
@@ -187,6 +188,11 @@ pub fn play(case: &Case) -> Answer {
     run(case).unwrap_or_else(|number| turned_down(case, number, Some(vec![0.0; cells])))
 }
 
+/// At a moment, all place counts and the weights taken by each running timer, worked anew: the peak is the largest of these.
+fn moment(counts: &[i64], timers: &[Timer], peak: &mut i64) {
+    *peak = (*peak).max(counts.iter().sum::<i64>() + timers.iter().map(|timer| timer.taken).sum::<i64>());
+}
+
 /// An accepted case, or by which of 14 and 15 it is turned down.
 fn run(case: &Case) -> Result<Answer, u64> {
     let (net, xs) = (&case.net, &case.instants);
@@ -202,6 +208,8 @@ fn run(case: &Case) -> Result<Answer, u64> {
         }
     };
     read(clock, &counts, &mut shown);
+    let mut peak = 0;
+    moment(&counts, &timers, &mut peak);
     let end = loop {
         if clock >= last {
             break End::Reached;
@@ -218,8 +226,9 @@ fn run(case: &Case) -> Result<Answer, u64> {
                         return Err(15);
                     }
                     takes(m).for_each(|(p, w, _)| counts[p] -= w);
-                    timers.push(Timer { at: clock + m.delay, number: started, who });
+                    timers.push(Timer { at: clock + m.delay, number: started, who, taken: takes(m).map(|(_, w, _)| w).sum() });
                     started += 1;
+                    moment(&counts, &timers, &mut peak);
                 }
             }
             if started == before {
@@ -260,6 +269,7 @@ fn run(case: &Case) -> Result<Answer, u64> {
         if counts.iter().any(|&c| c > MOST_TOKENS) {
             return Err(14);
         }
+        moment(&counts, &timers, &mut peak);
     };
     let settled = if end == End::Spent { shown.len() } else { xs.len() };
     shown.resize(xs.len(), counts);
@@ -267,7 +277,7 @@ fn run(case: &Case) -> Result<Answer, u64> {
         end,
         steps,
         settled,
-        peak: shown.iter().map(|c| c.iter().sum()).max().unwrap(),
+        peak,
         rounded,
         state: rng.state(),
         cells: Some((0..net.places.len()).flat_map(|p| shown.iter().map(move |c| c[p] as f64)).collect()),
@@ -361,6 +371,15 @@ impl Answer {
             table[..cells.len()].copy_from_slice(cells);
         }
         line(case, [self.end.number(), self.steps, self.settled as u64, self.peak as u64, self.rounded], self.state, &table)
+    }
+}
+
+impl Answer {
+    /// Does the peak show at no instant: is it above the sum of the counts at each?
+    pub fn peak_unseen(&self, case: &Case) -> bool {
+        let instants = case.instants.len();
+        let sum = |cells: &[f64], i: usize| cells.iter().skip(i).step_by(instants).map(|&c| c as i64).sum::<i64>();
+        self.cells.as_ref().is_some_and(|cells| (0..instants).all(|i| sum(cells, i) < self.peak))
     }
 }
 
@@ -598,6 +617,49 @@ pub fn edges() -> Vec<Case> {
     v.push(behind.clone());
     behind.net.places[0].initial = MOST_TOKENS + 1;
     v.push(behind);
+    v.extend(peaks().into_iter().map(|(case, _)| case));
+    v
+}
+
+/// Cases whose peak document 02's order 2 gives by pencil, whatever is drawn.
+pub fn peaks() -> Vec<(Case, i64)> {
+    let most = MOST_STEPS;
+    let mut v = vec![];
+    // document 01's net: at 1 both subscribers are in timers; a limit, and a last instant before the completions
+    for (limit, xs) in [(most, &[0.0, 1.0, 2.0][..]), (2, &[0.0, 1.0, 2.0]), (1, &[0.0, 1.0, 2.0]), (most, &[0.5])] {
+        v.push((case(example(), limit, xs), 2));
+    }
+    // five are put at 1 and start again before the clock moves on: no instant shows them; the completion at 2 puts one
+    let brief = || net(&[1, 0, 0], vec![(0.0, 1.0, vec![take(0, 1), put(1, 5)]), (0.0, 1.0, vec![take(1, 5), put(2, 1)])]);
+    for (xs, peak) in [(&[0.0, 1.0, 2.0][..], 5), (&[0.0, 3.0], 5), (&[1.0], 5), (&[0.5], 1), (&[0.0, f64::from_bits(1.0f64.to_bits() - 1)], 1)] {
+        v.push((case(brief(), most, xs), peak));
+    }
+    // the step that stops past the last instant starts the five: they wait, and are counted once
+    v.push((case(brief(), most, &[0.0, 1.5]), 5));
+    v.push((case(brief(), 1, &[0.0, 1.5]), 5));
+    // the peak is at the start, which is a moment though it is no instant; less is put than taken, by firings and by completions
+    v.push((case(net(&[9, 0], vec![(1.0, 0.0, vec![take(0, 3), put(1, 1)])]), most, &[50.0]), 9));
+    v.push((case(net(&[9, 0], vec![(0.0, 1.0, vec![take(0, 3), put(1, 1)])]), most, &[50.0]), 9));
+    v.push((case(net(&[9, 0], vec![]), most, &[50.0]), 9));
+    // the same transition by a timer and by races: what is put more is counted when it is put
+    v.push((case(net(&[4, 0], vec![(0.0, 1.0, vec![take(0, 1), put(1, 3)])]), most, &[0.5, 2.0]), 12));
+    v.push((case(net(&[4, 0], vec![(1.0, 0.0, vec![take(0, 1), put(1, 3)])]), most, &[5000.0]), 12));
+    // inputs that are not kinetic wait too, and a weight of 0 as 1; reads and inhibitors hold nothing
+    v.push((case(net(&[30, 4, 2, 0], vec![(0.0, 1.0, vec![plain(0, 30), take(1, 0), read(2, 2), block(3, 1)])]), most, &[0.5, 2.0]), 36));
+    // 256 timers, each for a weight of its own; two equal ones that take different weights
+    v.push((case(net(&[256, 512, 0], vec![(0.0, 1.0, vec![take(0, 1), plain(1, 2), put(2, 3)])]), most, &[0.5, 2.0]), 768));
+    v.push((case(net(&[3, 0], vec![(0.0, 1.0, vec![take(0, 2), put(1, 1)]), (0.0, 1.0, vec![take(0, 1), put(1, 4)])]), most, &[0.0, 5.0]), 5));
+    // as many tokens as there can be: 31 full places, and what 256 timers took from 15 of them put there again
+    let full = MOST_TOKENS;
+    let heavy: Vec<Arc> = (0..15).map(|p| plain(p, 1_000_000)).chain([take(31, 1)]).collect();
+    let again: Vec<Arc> = (0..15).map(|p| put(p, 1_000_000)).collect();
+    let mut initial = [full; 32];
+    initial[31] = 256;
+    for firings in [0, 1, 256] {
+        let moves = vec![(0.0, 2f64.powi(20), heavy.clone()), (1.0, 0.0, again.clone())];
+        let end = if firings == 0 { 0.0 } else { 2f64.powi(19) };
+        v.push((case(net(&initial, moves), firings.max(1), &[end]), 31 * full + 256 + firings as i64 * 15_000_000));
+    }
     v
 }
 

@@ -21,8 +21,19 @@ pub fn compare(report: &mut Report, seed: u64, count: u64) {
     report.compare("paths by the library, edges and drawn", |case| {
         let mut draw = Draw::new(1);
         let edges = paths::edges().into_iter().map(|c| (paths::play(&c), c));
+        let mut unseen = 0;
         for (answer, c) in edges.chain((0..200).map(|_| paths::drawn(&mut draw)).map(|(c, a)| (a, c))) {
             let ours = paths::by_library(&c);
+            case(ours == answer.line(&c), &|| format!("{ours}harness {}", answer.line(&c)));
+            unseen += answer.peak_unseen(&c) as u64;
+        }
+        // among them are enough whose peak shows at no instant
+        case(unseen > 80, &|| format!("{unseen} cases tell the peak from the sums at the instants"));
+    });
+    report.compare("peaks worked by pencil", |case| {
+        for (c, peak) in paths::peaks() {
+            let (answer, ours) = (paths::play(&c), paths::by_library(&c));
+            case(answer.peak == peak, &|| format!("{}by pencil {peak}", answer.line(&c)));
             case(ours == answer.line(&c), &|| format!("{ours}harness {}", answer.line(&c)));
         }
     });

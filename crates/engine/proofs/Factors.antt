@@ -11,7 +11,7 @@ use lib.Ieee.{Float, nan, binary64, ofBits, mul, div}
 use mir.Syntax.{w64}
 use mir.Val.{toZ}
 use mir.Facts.{toZ-pos}
-use borrow.Author.Tests.{leb-false, ne-eqb}
+use borrow.Author.Tests.{leb-false, eqb-true, ne-eqb}
 use Rattle.net.specs.declared.Net.{Net as NetRecord}
 use Rattle.net.specs.Net.{Marking, pick, zero64, amount, held, rateOf}
 use Rattle.net.specs.Readable.{Slot, slotAt, slots, slotsOf, takesOf, readable, transition}
@@ -24,7 +24,8 @@ use Rattle.combinations.specs.Real.{unflagged}
 use Rattle.rules.specs.Propensity.{asFloat, ways, factored, propensity}
 use Rattle.rules.specs.Exact.{asFlag, exactWays}
 use Rattle.engine.specs.Engine.{Below, marking}
-use Rattle.engine.proofs.Arcs.{ap-pick, on-bool, slots-step, span, slots-of}
+use Rattle.engine.specs.Limits.{atLeast}
+use Rattle.engine.proofs.Arcs.{ap-pick, on-bool, amount-most, slots-step, span, slots-of}
 use Rattle.engine.proofs.Marks.{held-marking}
 
 pub pick-true : {A : Type 0} (b : Bool) (x y : A) → b ≡ true → pick b x y ≡ x
@@ -67,6 +68,16 @@ no-number = refl
 -- x times the ways of one slot
 abbrev pub times : Float → ℕ → ℕ → ℕ → Float
 times x kind weight count = pick (eqb kind 0) (mul binary64 x (ways count (amount weight))) x
+
+-- the same, by the limit of a kinetic take
+pub times-limit : (x : Float) (kind weight limit count : ℕ) → weight ≤ 1_000_000 → (kind ≡ 0 → limit ≡ atLeast (amount weight))
+    → pick (eqb kind 0) (mul binary64 x (ways count (atLeast limit))) x ≡ times x kind weight count
+times-limit x kind weight limit count h l =
+    on-bool (eqb kind 0)
+    (λ e.
+    let same : atLeast limit ≡ amount weight = omega (arith, l (eqb-true kind 0 e), amount-most weight h) in
+    ap (λ (w : ℕ). pick (eqb kind 0) (mul binary64 x (ways count w)) x) same)
+    (λ e. pick-false (eqb kind 0) _ x e ∙ sym (pick-false (eqb kind 0) _ x e))
 
 factored-slot : (m : Marking) (x : Float) (l : Slot) (ls : List Slot)
     → factored m x (takesOf (l ∷ ls)) ≡ factored m (times x (l .kind) (l .weight) (held m (l .place))) (takesOf ls)

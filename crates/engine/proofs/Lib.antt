@@ -6,6 +6,7 @@ pub mod Lists
 pub mod Copying
 pub mod Tidying
 pub mod Marks
+pub mod Firing
 pub mod OneWay
 pub mod Factors
 pub mod Totals

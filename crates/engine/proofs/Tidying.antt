@@ -1,11 +1,12 @@
 -- A net whose used slots are copied, the puts of each transition behind its other arcs, and whose other slots are 0 reads as the net: each list of
 -- arcs takes its slots from one group, in their order. Every slot keeps the bounds of an accepted net: a used one by proofs/Sound of the crate net, any
--- other since 0 keeps them. Assumes nothing.
+-- other since 0 keeps them; that no transition takes from one place twice is a fact of what is read. Assumes nothing.
 use Prim.Native.Nat.{ℕ, zero, suc, _+_, _-_, _*_, _≤_, _<_}
 use mathlib.Core.Path.{_≡_, refl, sym, ap, _∙_, subst, subst⁻¹}
-use mathlib.Core.Bool.{Bool, true, false}
+use mathlib.Core.Bool.{Bool, true, false, true≢false}
 use mathlib.Core.List.{List, [], _∷_, _++_, append-nil}
 use mathlib.Core.Logic.{inl, inr, ⊎-elim}
+use mathlib.Core.Option.{none as no-fault}
 use native.Mathlib.Omega.{arith}
 use native.Mathlib.Nat.{ne-of-lt, eq-or-lt-of-le}
 use lib.Dec.{eqb, leb, ltb}
@@ -16,10 +17,13 @@ use borrow.Author.Count.{below-none, below-more}
 use borrow.Author.Tests.{eqb-true, ne-eqb, ltb-true, ltb-false, leb-true}
 use Rattle.net.specs.Net.{Arc, Take, Transition, Net, pick}
 use Rattle.net.specs.declared.Net.{Net as NetRecord}
-use Rattle.net.specs.Readable.{Slot, slotAt, slots, slotsOf, takesOf, arcsOf, isPut, isRead, isBlock, transition, transitionOf, transitionsFrom, placesFrom, readable}
+use Rattle.net.specs.Readable.{Slot, slotAt, slots, slotsOf, takesOf, arcsOf, isPut, isRead, isBlock, transition, transitionOf, transitionsFrom, placesFrom, readable, fault}
 use Rattle.net.specs.Sound.{Sound}
 use Rattle.net.specs.Record.{lent, labelled}
-use Rattle.engine.specs.Engine.{AtMost, Below, Tidy}
+use Rattle.net.proofs.Sound.{sound}
+use Rattle.rules.specs.Demand3.{takesOnce}
+use Rattle.rules.proofs.TakesOnce.{takes-once}
+use Rattle.engine.specs.Engine.{AtMost, Below, PutsLast, Tidy}
 use Rattle.engine.specs.Arcs.{group, ofGroup, Copied}
 use Rattle.engine.proofs.Arcs.{on-bool}
 use Rattle.engine.proofs.Lists.{each-zero, each-set}
@@ -142,11 +146,11 @@ module _ {A : Type 0} (f : ℕ → Bool) (g : Slot → A) where
       ∙ ap (λ (rest : List A). rest ++ picked f g (ofGroup 1 ls)) (not-from-group 0 (λ k e. first-test k true (h k e)) ls)
       ∙ from-group 1 (λ k e. second-test k true (h k e)) ls
 
+take-not-put : (k : ℕ) → leb k 1 ≡ true → isPut k ≡ false
+take-not-put k e = let h = leb-true k 1 e in ne-eqb k 2 (λ d. omega arith)
+
 takes-order : (ls : List Slot) → takesOf (inOrder ls) ≡ takesOf ls
-takes-order ls =
-    takes-picked (inOrder ls)
-    ∙ first-only (λ (k : ℕ). leb k 1) takeOf (λ k e. let h = leb-true k 1 e in ne-eqb k 2 (λ d. omega arith)) ls
-    ∙ sym (takes-picked ls)
+takes-order ls = takes-picked (inOrder ls) ∙ first-only (λ (k : ℕ). leb k 1) takeOf take-not-put ls ∙ sym (takes-picked ls)
 
 arcs-order : (f : ℕ → Bool) → ((k : ℕ) → f k ≡ true → isPut k ≡ false) → (ls : List Slot) → arcsOf f (inOrder ls) ≡ arcsOf f ls
 arcs-order f h ls = arcs-picked f (inOrder ls) ∙ first-only f arcOf h ls ∙ sym (arcs-picked f ls)
@@ -162,6 +166,27 @@ order-reads r d ls =
     let v = arcs-order isRead (λ k e. let h = eqb-true k 3 e in ne-eqb k 2 (λ d. omega arith)) ls in
     let x = arcs-order isBlock (λ k e. let h = leb-true 4 k e in ne-eqb k 2 (λ d. omega arith)) ls in
     λ i. record { rate = r; delay = d; takes = t i; puts = u i; reads = v i; blocks = x i }
+
+-- and its puts stand last: of the second group nothing is taken, and in the first no slot is a put
+takes-second : (ls : List Slot) → takesOf (ofGroup 1 ls) ≡ []
+takes-second ls = takes-picked (ofGroup 1 ls) ∙ not-from-group (λ (k : ℕ). leb k 1) takeOf 1 (λ k e. second-test k false (take-not-put k e)) ls
+
+second-last : (ls : List Slot) → PutsLast (ofGroup 1 ls)
+second-last [] = tt
+second-last (l ∷ ls) =
+    on-bool (eqb (group (l .kind)) 1)
+    (λ d. simp d (λ y. takes-second ls, second-last ls))
+    (λ d. simp d (second-last ls))
+
+first-last : (ls rest : List Slot) → PutsLast rest → PutsLast (ofGroup 0 ls ++ rest)
+first-last [] rest h = h
+first-last (l ∷ ls) rest h =
+    on-bool (isPut (l .kind))
+    (λ e. simp (first-test (l .kind) true e) (first-last ls rest h))
+    (λ e. simp (first-test (l .kind) false e) (λ y. absurd (true≢false (sym y ∙ e)), first-last ls rest h))
+
+puts-last : (ls : List Slot) → PutsLast (inOrder ls)
+puts-last ls = first-last ls (ofGroup 1 ls) (second-last ls)
 
 -- ---- the first j transitions are done
 
@@ -292,9 +317,12 @@ module _ (n : NetRecord) (arcs kind place weight : List ℕ) (j : ℕ) (d : Done
   abbrev with-transitions : List Transition → Net
   with-transitions ts = record { places = placesFrom (n .initial) (n .capacity) 0 (n .places); transitions = ts }
 
+  slots-made : (i : ℕ) → i < j → slotsOf made i ≡ inOrder (slotsOf n i)
+  slots-made i h = ap (slots kind place weight (16 * i)) (d .same-arcs i h) ∙ d .sorted i h
+
   transition-made : (i : ℕ) → i < j → transition made i ≡ transition n i
   transition-made i h =
-      ap (transitionOf (getD (n .rate) i nan) (getD (n .delay) i nan)) (ap (slots kind place weight (16 * i)) (d .same-arcs i h) ∙ d .sorted i h)
+      ap (transitionOf (getD (n .rate) i nan) (getD (n .delay) i nan)) (slots-made i h)
       ∙ order-reads (getD (n .rate) i nan) (getD (n .delay) i nan) (slotsOf n i)
 
   transitions-made : (k i : ℕ) → i + k ≤ j → transitionsFrom made i k ≡ transitionsFrom n i k
@@ -307,12 +335,23 @@ module _ (n : NetRecord) (arcs kind place weight : List ℕ) (j : ℕ) (d : Done
   made-reads h =
       ap with-transitions (transitions-made (n .transitions) 0 (omega arith))
 
-  pub made-tidy : Sound n → Tidy made
-  made-tidy s = record { places = s .places; transitions = s .transitions; arcs = d .few; place = d .low; weight = d .light; capacity = s .capacity }
+  pub made-tidy : n .transitions ≤ j → fault n ≡ no-fault → Tidy made
+  made-tidy h f =
+      let s = sound n f in
+      record {
+        places = s .places;
+        transitions = s .transitions;
+        arcs = d .few;
+        place = d .low;
+        weight = d .light;
+        capacity = s .capacity;
+        once = ap (λ (z : Net). takesOnce (z .transitions)) (made-reads h) ∙ takes-once n f;
+        order = λ i k. subst⁻¹ PutsLast (slots-made i (omega arith)) (puts-last (slotsOf n i));
+      }
 
 -- ---- the same net without its labels
 
 pub tidy-unlabelled : (n : NetRecord) → Tidy n
     → Tidy (lent (n .places) (n .transitions) (n .initial) (n .capacity) (n .rate) (n .delay) (n .arcs) (n .kind) (n .place) (n .weight))
 tidy-unlabelled n t =
-    record { places = t .places; transitions = t .transitions; arcs = t .arcs; place = t .place; weight = t .weight; capacity = t .capacity }
+    record { places = t .places; transitions = t .transitions; arcs = t .arcs; place = t .place; weight = t .weight; capacity = t .capacity; once = t .once; order = t .order }

@@ -9,8 +9,10 @@ use lib.Ieee.{Float, lt}
 use Rattle.net.specs.declared.Net.{Net as NetRecord}
 use Rattle.net.specs.Net.{Marking, zero64}
 use Rattle.net.specs.Readable as Record
+use Rattle.net.specs.Readable.{Slot, isPut, takesOf}
 use Rattle.rules.specs.Propensity.{propensities, total}
 use Rattle.rules.specs.Step.{countsFit}
+use Rattle.rules.specs.Demand3.{takesOnce}
 
 -- ---- the net
 
@@ -20,7 +22,12 @@ AtMost b xs = (a : ℕ) → getD xs a 0 ≤ b
 abbrev pub Below : ℕ → List ℕ → Type 0
 Below b xs = (a : ℕ) → getD xs a 0 < b
 
--- the bounds of an accepted net; those of slots hold in every slot, used or not, once the unused ones are cleared
+-- behind a put nothing is taken
+abbrev pub PutsLast : List Slot → Type 0
+PutsLast [] = Unit {0}
+PutsLast (l ∷ ls) = (isPut (l .kind) ≡ true → takesOf ls ≡ []) × PutsLast ls
+
+-- the bounds of an accepted net, once its slots are in order and the unused ones cleared: those of slots hold in every slot, used or not
 pub record Tidy (n : NetRecord) : Type 0 where
   pub places : n .places ≤ 32
   pub transitions : n .transitions ≤ 64
@@ -28,6 +35,8 @@ pub record Tidy (n : NetRecord) : Type 0 where
   pub place : Below (n .places) (n .place)
   pub weight : AtMost 1_000_000 (n .weight)
   pub capacity : (p : ℕ) → p < n .places → getD (n .capacity) p 0 ≤ 2 ^ 53
+  pub once : takesOnce (Record.readable n .transitions) ≡ true
+  pub order : (j : ℕ) → j < n .transitions → PutsLast (Record.slotsOf n j)
 
 -- whether one of the first k delays is above 0
 abbrev pub someAbove : List Float → Bool

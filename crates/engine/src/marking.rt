@@ -1,6 +1,7 @@
 // The counts: which transitions they enable, with what propensity, and what a transition does to them.
 ghost use mathlib.Core.Path.{_≡_};
-ghost use Prim.Native.Nat.{_+_, _-_, _*_, _^_, _<_, _≤_};
+ghost use mathlib.Core.Bool.{true};
+ghost use Prim.Native.Nat.{_+_, _-_, _*_, _^_, _<_, _≤_, min};
 ghost use lib.Dec.{eqb, leb};
 ghost use lib.Ieee.{binary64, mul, lt, eq};
 ghost use lib.ListN.{length, getD};
@@ -10,6 +11,7 @@ ghost use Rattle.net.specs.Record.{lent};
 ghost use Rattle.net.specs.declared.Net.{Net as NetRecord};
 ghost use Rattle.rules.specs.Enabled as Enabled;
 ghost use Rattle.rules.specs.Propensity as Propensity;
+ghost use Rattle.rules.specs.Moments as Moments;
 ghost use Rattle.rules.specs.Moves as Moves;
 ghost use Rattle.engine.specs.Engine as Engine;
 ghost use Rattle.engine.specs.Limits as Limits;
@@ -87,16 +89,17 @@ pub fn rate_of(rate: f64, delay: f64) -> f64
     rate
 }
 
-// x times the ways of one slot, at the count of its place: only a kinetic take has them. A single token is taken in as many ways as there are tokens.
-fn times(x: f64, kind: u64, weight: u64, count: u64) -> f64
-    requires { ⌜ (count ≤ 2 ^ 53) × (weight ≤ 1_000_000) ⌝ }
-    ensures { λ r. ⌜ r ≡ Reader.pick (eqb kind 0) (mul binary64 x (Propensity.ways count (Reader.amount weight))) x ⌝ }
+// x times the ways of one slot, at the count of its place: only a kinetic take has them. Its limit is 2^64 less what it takes (specs/Limits); a single token is
+// taken in as many ways as there are tokens.
+fn times(x: f64, kind: u64, limit: u64, count: u64) -> f64
+    requires { ⌜ (count ≤ 2 ^ 53) × (kind ≡ 0 → Limits.atLeast 1_000_000 ≤ limit) ⌝ }
+    ensures { λ r. ⌜ r ≡ Reader.pick (eqb kind 0) (mul binary64 x (Propensity.ways count (Limits.atLeast limit))) x ⌝ }
 {
     if kind == 0 {
-        if weight <= 1 {
+        if limit == 0xFFFF_FFFF_FFFF_FFFF {
             return x * (count as i64 as f64);
         }
-        return x * ways(count, weight);
+        return x * ways(count, 0xFFFF_FFFF_FFFF_FFFF - limit + 1);
     }
     x
 }
@@ -136,7 +139,7 @@ fn propensity<'a>(
             }
             return 0.0;
         }
-        x = times(x, kind[a], weight[a], c);
+        x = times(x, kind[a], l, c);
         a += 1;
     }
     x
@@ -189,21 +192,21 @@ pub fn propensities<'a>(
     sum
 }
 
-// What is left of a count once a slot has taken. Like a difference of the rules it stops at 0.
-fn left(count: u64, kind: u64, weight: u64) -> u64
-    ensures { λ r. ⌜ r ≡ count - Reader.pick (leb kind 1) (Reader.amount weight) 0 ⌝ }
+// What a slot takes from a count: all of it where that is less than it wants, as a difference of the rules stops at 0.
+fn taken(count: u64, kind: u64, weight: u64) -> u64
+    ensures { λ r. ⌜ r ≡ min count (Reader.pick (leb kind 1) (Reader.amount weight) 0) ⌝ }
 {
     if kind <= 1 {
         let a = slots::amount(weight);
         if count < a {
-            return 0;
+            return count;
         }
-        return count - a;
+        return a;
     }
-    count
+    0
 }
 
-// Takes what transition j takes.
+// Takes what transition j takes, and answers how much less the places hold.
 pub fn take<'a>(
     places: usize,
     arcs: &'a [usize; 64],
@@ -212,35 +215,45 @@ pub fn take<'a>(
     weight: &'a [u64; 1024],
     counts: &mut [u64; 32],
     j: usize,
-)
-    requires { ⌜ (j < 64) × (places ≤ 32) × Engine.AtMost 16 (now arcs) × Engine.Below places (now place) × Engine.Counts (now counts) ⌝ }
-    ensures { λ _. ⌜ (Engine.marking places (now (counts .exit)) ≡ Moves.taking (Engine.marking places (now (counts .entry)))
+) -> u64
+    requires { ⌜ (j < 64) × (places ≤ 32) × Engine.AtMost 16 (now arcs) × Engine.Below places (now place) × Engine.AtMost 1_000_000 (now weight) × Engine.Counts (now counts) ⌝ }
+    ensures { λ r. ⌜ (Engine.marking places (now (counts .exit)) ≡ Moves.taking (Engine.marking places (now (counts .entry)))
         (Record.takesOf (Record.slots (now (kind .entry)) (now (place .entry)) (now (weight .entry)) (16 * j) (getD (now (arcs .entry)) j 0))))
-        × Engine.Counts (now (counts .exit)) ⌝ }
+        × Engine.Counts (now (counts .exit)) × (r ≤ 16_000_000)
+        × (Moments.sumOf (Engine.marking places (now (counts .entry))) ≡ Moments.sumOf (Engine.marking places (now (counts .exit))) + r) ⌝ }
 {
     let from = 16 * j;
     let end = from + arcs[j];
+    let mut less: u64 = 0;
     let mut a = from;
     while a < end {
         let p = place[a];
-        let c = left(counts[p], kind[a], weight[a]);
-        counts[p] = c;
+        let c = counts[p];
+        let x = taken(c, kind[a], weight[a]);
+        counts[p] = c - x;
+        less = less + x;
         a += 1;
     }
+    less
 }
 
-// A count once a slot has put.
-fn more(count: u64, kind: u64, weight: u64) -> u64
-    requires { ⌜ (count ≤ 2 ^ 53) × (weight ≤ 1_000_000) ⌝ }
-    ensures { λ r. ⌜ r ≡ count + Reader.pick (Record.isPut kind) (Reader.amount weight) 0 ⌝ }
+// What a slot puts.
+fn given(kind: u64, weight: u64) -> u64
+    ensures { λ r. ⌜ r ≡ Reader.pick (Record.isPut kind) (Reader.amount weight) 0 ⌝ }
 {
     if kind == 2 {
-        return count + slots::amount(weight);
+        return slots::amount(weight);
     }
-    count
+    0
 }
 
-// Puts what transition j puts. False where a count would pass 2^53; then the counts are of no use.
+// Whether all counts stay at or below 2^53, and how much more the places hold.
+pub struct Added {
+    pub fits: bool,
+    pub more: u64,
+}
+
+// Puts what transition j puts. Where a count would pass 2^53 the counts are of no use.
 pub fn put<'a>(
     places: usize,
     arcs: &'a [usize; 64],
@@ -249,24 +262,98 @@ pub fn put<'a>(
     weight: &'a [u64; 1024],
     counts: &mut [u64; 32],
     j: usize,
-) -> bool
+) -> Added
     requires { ⌜ (j < 64) × (places ≤ 32) × Engine.AtMost 16 (now arcs) × Engine.Below places (now place) × Engine.AtMost 1_000_000 (now weight) × Engine.Counts (now counts) ⌝ }
-    ensures { λ r. ⌜ Engine.PutBy r (Moves.putting (Engine.marking places (now (counts .entry)))
+    ensures { λ r. ⌜ Engine.PutBy (r .fits) (Moves.putting (Engine.marking places (now (counts .entry)))
         (Record.arcsOf Record.isPut (Record.slots (now (kind .entry)) (now (place .entry)) (now (weight .entry)) (16 * j) (getD (now (arcs .entry)) j 0))))
         (Engine.marking places (now (counts .exit)))
-        × Engine.Counts (now (counts .exit)) ⌝ }
+        × Engine.Counts (now (counts .exit))
+        × (r .fits ≡ true → Moments.sumOf (Engine.marking places (now (counts .exit))) ≡ Moments.sumOf (Engine.marking places (now (counts .entry))) + r .more)
+        × (r .more ≤ 16_000_000) ⌝ }
 {
     let from = 16 * j;
     let end = from + arcs[j];
+    let mut many: u64 = 0;
     let mut a = from;
     while a < end {
         let p = place[a];
-        let c = more(counts[p], kind[a], weight[a]);
+        let x = given(kind[a], weight[a]);
+        let c = counts[p] + x;
         if 9_007_199_254_740_992 < c {
-            return false;
+            return Added {
+                fits: false,
+                more: 0,
+            };
         }
         counts[p] = c;
+        many = many + x;
         a += 1;
     }
-    true
+    Added {
+        fits: true,
+        more: many,
+    }
+}
+
+// Whether all counts stay at or below 2^53, how much the places have lost, and how much they have got.
+pub struct Fired {
+    pub fits: bool,
+    pub less: u64,
+    pub more: u64,
+}
+
+// Transition j fires: it takes, and then it puts. One way through its slots does both, since its puts stand behind all others. Where a count would pass 2^53
+// the counts are of no use.
+pub fn fire<'a>(
+    places: usize,
+    arcs: &'a [usize; 64],
+    kind: &'a [u64; 1024],
+    place: &'a [usize; 1024],
+    weight: &'a [u64; 1024],
+    counts: &mut [u64; 32],
+    j: usize,
+) -> Fired
+    requires { ⌜ (j < 64) × (places ≤ 32) × Engine.AtMost 16 (now arcs) × Engine.Below places (now place) × Engine.AtMost 1_000_000 (now weight) × Engine.Counts (now counts)
+        × Engine.PutsLast (Record.slots (now kind) (now place) (now weight) (16 * j) (getD (now arcs) j 0)) ⌝ }
+    ensures { λ r. ⌜ Engine.PutBy (r .fits) (Moves.putting (Moves.taking (Engine.marking places (now (counts .entry)))
+        (Record.takesOf (Record.slots (now (kind .entry)) (now (place .entry)) (now (weight .entry)) (16 * j) (getD (now (arcs .entry)) j 0))))
+        (Record.arcsOf Record.isPut (Record.slots (now (kind .entry)) (now (place .entry)) (now (weight .entry)) (16 * j) (getD (now (arcs .entry)) j 0))))
+        (Engine.marking places (now (counts .exit)))
+        × Engine.Counts (now (counts .exit))
+        × (r .fits ≡ true → Moments.sumOf (Engine.marking places (now (counts .exit))) + r .less ≡ Moments.sumOf (Engine.marking places (now (counts .entry))) + r .more)
+        × (r .more ≤ 16_000_000) ⌝ }
+{
+    let from = 16 * j;
+    let end = from + arcs[j];
+    let mut less: u64 = 0;
+    let mut more: u64 = 0;
+    let mut a = from;
+    while a < end {
+        let p = place[a];
+        let k = kind[a];
+        let c = counts[p];
+        if k == 2 {
+            let x = slots::amount(weight[a]);
+            let d = c + x;
+            if 9_007_199_254_740_992 < d {
+                return Fired {
+                    fits: false,
+                    less: 0,
+                    more: 0,
+                };
+            }
+            counts[p] = d;
+            more = more + x;
+        } else {
+            let y = taken(c, k, weight[a]);
+            counts[p] = c - y;
+            less = less + y;
+        }
+        a += 1;
+    }
+    Fired {
+        fits: true,
+        less: less,
+        more: more,
+    }
 }

@@ -76,9 +76,9 @@ fn fired<'a>(
         };
     }
     marking::take(places, arcs, kind, place, weight, &mut after, j);
-    let fits = marking::put(places, arcs, kind, place, weight, &mut after, j);
+    let p = marking::put(places, arcs, kind, place, weight, &mut after, j);
     Outcome {
-        may: fits,
+        may: p.fits,
         counts: after,
     }
 }

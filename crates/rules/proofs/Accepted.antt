@@ -75,8 +75,8 @@ fit-started n (j ∷ js) m h = fit-started n js _ (fit-taking (transitionOf n j 
 
 -- ---- a step
 
-pub starts-fit : (n : Net) (s : State) (b : Starts) → starts n s ≡ given b → countsFit (s .counts) ≡ true → countsFit (b .counts) ≡ true
-starts-fit n s b p h = rw (← leads-counts (starts-lead n (s .clock) (s .counts) (s .timers) b p)) (fit-started n (b .who) (s .counts) h)
+pub starts-fit : (room : ℕ) (n : Net) (s : State) (b : Starts) → starts room n s ≡ given b → countsFit (s .counts) ≡ true → countsFit (b .counts) ≡ true
+starts-fit room n s b p h = rw (← leads-counts (starts-lead room n (s .clock) (s .counts) (s .timers) b p)) (fit-started n (b .who) (s .counts) h)
 
 abbrev EventFits : Answer Event → Type 0
 EventFits (refused c) = Unit
@@ -107,8 +107,8 @@ go-on-fits n b js v a0 xs (completion at) h =
     let u : State = setClock at v in
     event-fits n u (completed (first (u .timers) .who)) (others (u .timers)) (u .generator)
 
-step-fits : (n : Net) (s : State) → countsFit (s .counts) ≡ true → StepFits (step n s)
-step-fits n s h = go (starts n s) (λ b p. starts-fit n s b p h)
+step-fits : (room : ℕ) (n : Net) (s : State) → countsFit (s .counts) ≡ true → StepFits (step room n s)
+step-fits room n s h = go (starts room n s) (λ b p. starts-fit room n s b p h)
   where
     go : (r : Answer Starts) → ((b : Starts) → r ≡ given b → countsFit (b .counts) ≡ true) → StepFits (afterStarts n s r)
     go (refused c) k = tt
@@ -119,6 +119,6 @@ step-fits n s h = go (starts n s) (λ b p. starts-fit n s b p h)
 
 -- ---- a run
 
-pub reached-fit : (n : Net) → Accepted n → (g : Generator) {s : State} → Reached n g s → countsFit (s .counts) ≡ true
-reached-fit n a g at-first = a .initial
-reached-fit n a g (after-step {s = s} r p) = subst StepFits p (step-fits n s (reached-fit n a g r))
+pub reached-fit : (room : ℕ) (n : Net) → Accepted n → (g : Generator) {s : State} → Reached room n g s → countsFit (s .counts) ≡ true
+reached-fit room n a g at-first = a .initial
+reached-fit room n a g (after-step {s = s} r p) = subst StepFits p (step-fits room n s (reached-fit room n a g r))

@@ -1,9 +1,9 @@
 -- Theory for demand 3: until an instant is reached, two runs of one net and generator state that go on at least that far are the same;
 -- and a larger step limit only continues a run that the smaller one left spent. No hypothesis about the net.
-use Prim.Native.Nat.{ℕ, zero, suc, _+_, _≤_, _<_}
+use Prim.Native.Nat.{ℕ, zero, suc, _+_, _≤_}
 use native.Mathlib.Nat.{le-of-suc-le-suc}
-use mathlib.Core.Path.{_≡_, refl, sym, ap, _∙_, subst}
-use mathlib.Core.Bool.{Bool, true, false, _&&_, _||_}
+use mathlib.Core.Path.{_≡_, refl, sym, ap, _∙_}
+use mathlib.Core.Bool.{Bool, true, false, _||_}
 use mathlib.Core.Logic.{_⊎_, inl, inr}
 use mathlib.Core.List.{List, [], _∷_, _++_, map, append-assoc}
 use native.Mathlib.Omega.{arith}
@@ -11,7 +11,7 @@ use lib.Ieee.{Float, lt, le, isNan}
 use Rattle.net.specs.Net.{Net, pick}
 use Rattle.rules.specs.Moves.{Entry, reading, started, completed, fired}
 use Rattle.rules.specs.Step.{State, Answer, refused, given, Event, Step, still, sets, step}
-use Rattle.rules.specs.Run.{End, quiet, spent, reached, Run, ends, refuses, steps, concluded, stepped, run, Outcome, outcome, entries}
+use Rattle.rules.specs.Run.{spent, reached, Run, ends, steps, concluded, stepped, run, Outcome, outcome, entries}
 use Rattle.rules.specs.Shown.{before, reaches}
 use Rattle.rules.proofs.Order.{never, before as equally-before, after as not-after}
 use Rattle.rules.proofs.Allowing.{EventGood, StepGood, step-good, given-same}
@@ -68,7 +68,7 @@ reaches-clock x (j ∷ js) t h = reaches-clock x js t h
 abbrev Same : Float → Run → Run → Type 0
 Same x r r′ = before x (entries r) ≡ before x (entries r′)
 
-module _ (n : Net) (x a b : Float) (z : isNan x ≡ false) (ha : le x a ≡ true) (hb : le x b ≡ true) where
+module _ (room : ℕ) (n : Net) (x a b : Float) (z : isNan x ≡ false) (ha : le x a ≡ true) (hb : le x b ≡ true) where
   -- a step that sets the clock to x or later: the rest does not matter
   reached-same : (w : Bool) (js : List ℕ) (t : Float) (e : Answer Event) (u : State) (f h : State → Run) → le x t ≡ true → (c d : Bool)
       → Same x (pick c (steps w (map started js ++ reading t ∷ []) (ends reached u)) (concluded w (map started js ++ reading t ∷ []) e f))
@@ -103,15 +103,15 @@ module _ (n : Net) (x a b : Float) (z : isNan x ≡ false) (ha : le x a ≡ true
       go false q = rw (not-after x a (u .clock) z ha q, not-after x b (u .clock) z hb q) (unreached-same w js (u .clock) u f h refl q ih e (g .event))
 
   -- until x is reached the runs with the last instants a and b are the same
-  pub same : (k : ℕ) (s : State) → le x (s .clock) ≡ false → before x (entries (run n a k s)) ≡ before x (entries (run n b k s))
+  pub same : (k : ℕ) (s : State) → le x (s .clock) ≡ false → before x (entries (run room n a k s)) ≡ before x (entries (run room n b k s))
   same zero s h = refl
   same (suc k) s h =
       rw (equally-before x a b (s .clock) z ha hb h)
-      (go (lt (s .clock) b) (one-step-same s (run n a k) (run n b k) (λ v q. same k v q) (step n s) (step-good n s)))
+      (go (lt (s .clock) b) (one-step-same s (run room n a k) (run room n b k) (λ v q. same k v q) (step room n s) (step-good room n s)))
     where
-      go : (c : Bool) → before x (entries (stepped a s (step n s) (run n a k))) ≡ before x (entries (stepped b s (step n s) (run n b k)))
-          → before x (entries (pick c (stepped a s (step n s) (run n a k)) (ends reached s)))
-          ≡ before x (entries (pick c (stepped b s (step n s) (run n b k)) (ends reached s)))
+      go : (c : Bool) → before x (entries (stepped a s (step room n s) (run room n a k))) ≡ before x (entries (stepped b s (step room n s) (run room n b k)))
+          → before x (entries (pick c (stepped a s (step room n s) (run room n a k)) (ends reached s)))
+          ≡ before x (entries (pick c (stepped b s (step room n s) (run room n b k)) (ends reached s)))
       go true e = e
       go false e = refl
 
@@ -131,20 +131,20 @@ longer-step {r} w es (inr h) = inr (record {
   left-spent = h .left-spent;
 })
 
-module _ (n : Net) (last : Float) where
-  pub grows : (k l : ℕ) → k ≤ l → (s : State) → (run n last l s ≡ run n last k s) ⊎ Longer (run n last k s) (run n last l s)
+module _ (room : ℕ) (n : Net) (last : Float) where
+  pub grows : (k l : ℕ) → k ≤ l → (s : State) → (run room n last l s ≡ run room n last k s) ⊎ Longer (run room n last k s) (run room n last l s)
   grows zero zero le s = inl refl
   grows zero (suc l) le s = go (lt (s .clock) last)
     where
-      go : (c : Bool) → (pick c (stepped last s (step n s) (run n last l)) (ends reached s) ≡ ends (pick c spent reached) s)
-          ⊎ Longer (ends (pick c spent reached) s) (pick c (stepped last s (step n s) (run n last l)) (ends reached s))
+      go : (c : Bool) → (pick c (stepped last s (step room n s) (run room n last l)) (ends reached s) ≡ ends (pick c spent reached) s)
+          ⊎ Longer (ends (pick c spent reached) s) (pick c (stepped last s (step room n s) (run room n last l)) (ends reached s))
       go false = inl refl
-      go true = inr (record { more = entries (stepped last s (step n s) (run n last l)); joined = refl; left-spent = λ o p. ap (λ (o : Outcome). o .end) (sym (given-same p)) })
+      go true = inr (record { more = entries (stepped last s (step room n s) (run room n last l)); joined = refl; left-spent = λ o p. ap (λ (o : Outcome). o .end) (sym (given-same p)) })
   grows (suc k) zero le s = absurd (omega arith)
-  grows (suc k) (suc l) le s = go (lt (s .clock) last) (one (step n s) (λ v. grows k l (le-of-suc-le-suc le) v))
+  grows (suc k) (suc l) le s = go (lt (s .clock) last) (one (step room n s) (λ v. grows k l (le-of-suc-le-suc le) v))
     where
-      one : (r : Answer Step) → ((v : State) → (run n last l v ≡ run n last k v) ⊎ Longer (run n last k v) (run n last l v))
-          → (stepped last s r (run n last l) ≡ stepped last s r (run n last k)) ⊎ Longer (stepped last s r (run n last k)) (stepped last s r (run n last l))
+      one : (r : Answer Step) → ((v : State) → (run room n last l v ≡ run room n last k v) ⊎ Longer (run room n last k v) (run room n last l v))
+          → (stepped last s r (run room n last l) ≡ stepped last s r (run room n last k)) ⊎ Longer (stepped last s r (run room n last k)) (stepped last s r (run room n last l))
       one (refused c) ih = inl refl
       one (given (still w)) ih = inl refl
       one (given (sets w js u e)) ih = past (lt last (u .clock)) e
@@ -153,16 +153,16 @@ module _ (n : Net) (last : Float) where
           es = map started js ++ reading (u .clock) ∷ []
 
           past : (c : Bool) (e : Answer Event)
-              → (pick c (steps w es (ends reached u)) (concluded w es e (run n last l)) ≡ pick c (steps w es (ends reached u)) (concluded w es e (run n last k)))
-              ⊎ Longer (pick c (steps w es (ends reached u)) (concluded w es e (run n last k))) (pick c (steps w es (ends reached u)) (concluded w es e (run n last l)))
+              → (pick c (steps w es (ends reached u)) (concluded w es e (run room n last l)) ≡ pick c (steps w es (ends reached u)) (concluded w es e (run room n last k)))
+              ⊎ Longer (pick c (steps w es (ends reached u)) (concluded w es e (run room n last k))) (pick c (steps w es (ends reached u)) (concluded w es e (run room n last l)))
           past true e = inl refl
           past false (refused c) = inl refl
           past false (given ev) = longer-step w (es ++ ev .what) (ih (ev .leaves))
 
       go : (c : Bool)
-          → (stepped last s (step n s) (run n last l) ≡ stepped last s (step n s) (run n last k))
-          ⊎ Longer (stepped last s (step n s) (run n last k)) (stepped last s (step n s) (run n last l))
-          → (pick c (stepped last s (step n s) (run n last l)) (ends reached s) ≡ pick c (stepped last s (step n s) (run n last k)) (ends reached s))
-          ⊎ Longer (pick c (stepped last s (step n s) (run n last k)) (ends reached s)) (pick c (stepped last s (step n s) (run n last l)) (ends reached s))
+          → (stepped last s (step room n s) (run room n last l) ≡ stepped last s (step room n s) (run room n last k))
+          ⊎ Longer (stepped last s (step room n s) (run room n last k)) (stepped last s (step room n s) (run room n last l))
+          → (pick c (stepped last s (step room n s) (run room n last l)) (ends reached s) ≡ pick c (stepped last s (step room n s) (run room n last k)) (ends reached s))
+          ⊎ Longer (pick c (stepped last s (step room n s) (run room n last k)) (ends reached s)) (pick c (stepped last s (step room n s) (run room n last l)) (ends reached s))
       go true e = e
       go false e = inl refl

@@ -1,10 +1,10 @@
--- Theory for demand 3 and order 7: in every run each transition that starts or fires is enabled just then, each completion is that of the first
+-- Theory for demand 3 and orders 2 and 7: in every run each transition that starts or fires is enabled just then, each completion is that of the first
 -- running timer, and the clock, counts and timers of each state are what the entries so far replay. No hypothesis about the net.
-use Prim.Native.Nat.{ℕ, zero, suc, _+_, _≤_, _<_}
+use Prim.Native.Nat.{ℕ, zero, suc, _+_, _<_}
 use mathlib.Core.Path.{_≡_, refl, sym, ap, _∙_, subst}
-use mathlib.Core.Bool.{Bool, true, false, _&&_, _||_}
+use mathlib.Core.Bool.{Bool, true, false, _&&_}
 use mathlib.Core.Logic.{_⊎_, inl, inr}
-use mathlib.Core.List.{List, [], _∷_, _++_, map, append-assoc}
+use mathlib.Core.List.{List, [], _∷_, _++_, map}
 use mathlib.Core.Option.{Option, none, some}
 use native.Mathlib.Omega.{arith}
 use lib.Dec.{ltb}
@@ -21,8 +21,8 @@ use Rattle.rules.specs.Timers.{Timer, timerOf, insert, first, others}
 use Rattle.rules.specs.Moves.{Entry, reading, started, completed, fired, withoutArcs, transition, taking, move, after}
 use Rattle.rules.specs.Step.{State, state, Answer, refused, given, Starts, preceded, pass, nobody, unlessNone, passes, starts, waiting, drawnFor, Next, nothingLeft, race, completion, next, Event, countsFit, event, complete, fire, raced, Step, still, sets, setClock, goOn, afterStarts, step}
 use Rattle.rules.specs.Moments.{Moment, moment, happen, momentAfter}
-use Rattle.rules.specs.Run.{End, quiet, spent, reached, Run, ends, refuses, steps, concluded, stepped, run, Outcome, outcome, entries}
-use Rattle.rules.proofs.Order.{never, both, either}
+use Rattle.rules.specs.Run.{End, quiet, reached, Run, ends, refuses, steps, concluded, stepped, run, Outcome, outcome, entries}
+use Rattle.rules.proofs.Order.{never, both}
 use Rattle.rules.specs.Demand3.{Ready, Allowed, EachAllowed}
 
 -- ---- answers
@@ -104,7 +104,7 @@ started-append : (is js : List ℕ) → map started (is ++ js) ≡ map started i
 started-append [] js = refl
 started-append (i ∷ is) js = ap (λ (l : List Entry). started i ∷ l) (started-append is js)
 
-module _ (n : Net) (t : Float) where
+module _ (room : ℕ) (n : Net) (t : Float) where
   abbrev at-clock : Marking → List Timer → Moment
   at-clock m q = record { clock = t; counts = m; timers = q }
 
@@ -127,10 +127,10 @@ module _ (n : Net) (t : Float) where
   led-preceded m m′ q q′ js (given s) h k =
       led-given m q _ (rw (started-append js (s .who)) (leads-on h (unfold Led in k s refl)))
 
-  pass-leads : (rest : List Transition) (j : ℕ) (m : Marking) (q : List Timer) → drop j (n .transitions) ≡ rest → Led m q (pass n t j rest m q)
+  pass-leads : (rest : List Transition) (j : ℕ) (m : Marking) (q : List Timer) → drop j (n .transitions) ≡ rest → Led m q (pass room n t j rest m q)
   pass-leads [] j m q d = led-given m q _ (leads-none n _)
   pass-leads (this ∷ rest) j m q d =
-      go (timed this && enabled n m this) refl (ltb (length q) 256) (pass-leads rest (suc j) m q (w .2))
+      go (timed this && enabled n m this) refl (ltb (length q) room) (pass-leads rest (suc j) m q (w .2))
       (pass-leads rest (suc j) (taking m (this .takes)) (insert timer q) (w .2))
     where
       timer : Timer
@@ -143,29 +143,29 @@ module _ (n : Net) (t : Float) where
       one e = record { allowed = ((w .0, rw (w .1) e), tt); due = (tt, tt); to = rw (w .1) }
 
       go : (c : Bool) → timed this && enabled n m this ≡ c → (d : Bool)
-          → Led m q (pass n t (suc j) rest m q)
-          → Led (taking m (this .takes)) (insert timer q) (pass n t (suc j) rest (taking m (this .takes)) (insert timer q))
-          → Led m q (pick c (pick d (preceded (j ∷ []) (pass n t (suc j) rest (taking m (this .takes)) (insert timer q))) (refused 15)) (pass n t (suc j) rest m q))
+          → Led m q (pass room n t (suc j) rest m q)
+          → Led (taking m (this .takes)) (insert timer q) (pass room n t (suc j) rest (taking m (this .takes)) (insert timer q))
+          → Led m q (pick c (pick d (preceded (j ∷ []) (pass room n t (suc j) rest (taking m (this .takes)) (insert timer q))) (refused 15)) (pass room n t (suc j) rest m q))
       go false e d a b = a
       go true e false a b = led-refused m q 15
       go true e true a b = led-preceded m (taking m (this .takes)) q (insert timer q) (j ∷ []) _ (one (both (timed this) (enabled n m this) e .1)) b
 
-  passes-lead : (k : ℕ) (m : Marking) (q : List Timer) → Led m q (passes k n t m q)
+  passes-lead : (k : ℕ) (m : Marking) (q : List Timer) → Led m q (passes k room n t m q)
   passes-lead zero m q = led-given m q _ (leads-none n _)
-  passes-lead (suc k) m q = go (pass n t 0 (n .transitions) m q) (pass-leads (n .transitions) 0 m q refl) (λ m′ q′. passes-lead k m′ q′)
+  passes-lead (suc k) m q = go (pass room n t 0 (n .transitions) m q) (pass-leads (n .transitions) 0 m q refl) (λ m′ q′. passes-lead k m′ q′)
     where
-      go : (r : Answer Starts) → Led m q r → ((m′ : Marking) (q′ : List Timer) → Led m′ q′ (passes k n t m′ q′)) → Led m q (unlessNone (passes k n t) r)
+      go : (r : Answer Starts) → Led m q r → ((m′ : Marking) (q′ : List Timer) → Led m′ q′ (passes k room n t m′ q′)) → Led m q (unlessNone (passes k room n t) r)
       go (refused c) h ih = led-refused m q c
       go (given s) h ih = last (nobody (s .who))
         where
-          last : (c : Bool) → Led m q (pick c (given s) (preceded (s .who) (passes k n t (s .counts) (s .timers))))
+          last : (c : Bool) → Led m q (pick c (given s) (preceded (s .who) (passes k room n t (s .counts) (s .timers))))
           last true = h
           last false = led-preceded m (s .counts) q (s .timers) (s .who) _ (unfold Led in h s refl) (ih (s .counts) (s .timers))
 
-  pub starts-lead : (m : Marking) (q : List Timer) (b : Starts) → passes 257 n t m q ≡ given b
+  pub starts-lead : (m : Marking) (q : List Timer) (b : Starts) → passes (suc room) room n t m q ≡ given b
       → Leads n (record { clock = t; counts = m; timers = q }) (map started (b .who)) (record { clock = t; counts = b .counts; timers = b .timers })
   unfolding Led
-  starts-lead m q = passes-lead 257 m q
+  starts-lead m q = passes-lead (suc room) m q
 
 -- ---- the jump: what is chosen is enabled
 
@@ -283,8 +283,8 @@ module _ (n : Net) (s : State) (b : Bool) (js : List ℕ) (v : State) (a0 : Floa
   go-on-good (race dt) f = record { starts = h; event = raced-good n (setClock (add binary64 (v .clock) dt) v) a0 }
   go-on-good (completion at) f = record { starts = h; event = complete-good n (setClock at v) (f at refl) }
 
-pub step-good : (n : Net) (s : State) → StepGood n s (step n s)
-step-good n s = go (starts n s) (λ b p. starts-lead n (s .clock) (s .counts) (s .timers) b p)
+pub step-good : (room : ℕ) (n : Net) (s : State) → StepGood n s (step room n s)
+step-good room n s = go (starts room n s) (λ b p. starts-lead room n (s .clock) (s .counts) (s .timers) b p)
   where
     go : (r : Answer Starts)
         → ((b : Starts) → r ≡ given b → Leads n (moment s) (map started (b .who)) (record { clock = s .clock; counts = b .counts; timers = b .timers }))
@@ -323,12 +323,12 @@ goes-step {n} {x} {y} {w} {es} {r} a b =
     let c : Leads n x (es ++ entries r) (momentAfter n y (entries r)) = leads-on a (record { allowed = b .allowed; due = b .due; to = refl }) in
     record { allowed = c .allowed; due = c .due; left = λ o p. c .to ∙ b .left o p }
 
-pub run-goes : (n : Net) (last : Float) (k : ℕ) (s : State) → Goes n (moment s) (run n last k s)
-run-goes n last zero s = goes-end n _ s
-run-goes n last (suc k) s = below (lt (s .clock) last) (one (step n s) (step-good n s) (λ u. run-goes n last k u))
+pub run-goes : (room : ℕ) (n : Net) (last : Float) (k : ℕ) (s : State) → Goes n (moment s) (run room n last k s)
+run-goes room n last zero s = goes-end n _ s
+run-goes room n last (suc k) s = below (lt (s .clock) last) (one (step room n s) (step-good room n s) (λ u. run-goes room n last k u))
   where
-    one : (r : Answer Step) → StepGood n s r → ((u : State) → Goes n (moment u) (run n last k u))
-        → Goes n (moment s) (stepped last s r (run n last k))
+    one : (r : Answer Step) → StepGood n s r → ((u : State) → Goes n (moment u) (run room n last k u))
+        → Goes n (moment s) (stepped last s r (run room n last k))
     one (refused c) g ih = goes-refused n (moment s) c
     one (given (still b)) g ih = goes-step (leads-none n (moment s)) (goes-end n quiet s)
     one (given (sets b js u e)) g ih = past (lt last (u .clock)) e (g .event)
@@ -337,15 +337,15 @@ run-goes n last (suc k) s = below (lt (s .clock) last) (one (step n s) (step-goo
         es = map started js ++ reading (u .clock) ∷ []
 
         past : (c : Bool) (e : Answer Event) → EventGood n u e
-            → Goes n (moment s) (pick c (steps b es (ends reached u)) (concluded b es e (run n last k)))
+            → Goes n (moment s) (pick c (steps b es (ends reached u)) (concluded b es e (run room n last k)))
         past true e h = goes-step (up-to-reading g) (goes-end n reached u)
         past false (refused c) h = goes-step (up-to-reading g) (goes-refused n (moment u) c)
         past false (given ev) h = goes-step (leads-on (up-to-reading g) (h .leads)) (ih (ev .leaves))
 
-    below : (c : Bool) → Goes n (moment s) (stepped last s (step n s) (run n last k))
-        → Goes n (moment s) (pick c (stepped last s (step n s) (run n last k)) (ends reached s))
+    below : (c : Bool) → Goes n (moment s) (stepped last s (step room n s) (run room n last k))
+        → Goes n (moment s) (pick c (stepped last s (step room n s) (run room n last k)) (ends reached s))
     below true h = h
     below false h = goes-end n reached s
 
-pub run-allowed : (n : Net) (last : Float) (k : ℕ) (s : State) → EachAllowed n (s .counts) (entries (run n last k s))
-run-allowed n last k s = run-goes n last k s .allowed
+pub run-allowed : (room : ℕ) (n : Net) (last : Float) (k : ℕ) (s : State) → EachAllowed n (s .counts) (entries (run room n last k s))
+run-allowed room n last k s = run-goes room n last k s .allowed

@@ -20,7 +20,7 @@ use Rattle.rules.specs.Moves.{Entry, reading, started, completed, fired,
 use Rattle.rules.specs.Step.{State, refused, given}
 use Rattle.rules.specs.Moments.{Moment, moment, start, happen, momentAfter}
 use Rattle.rules.specs.Run.{run, beginning, entries, trace}
-use Rattle.rules.specs.Shown.{before, shownAt, lastOf, runOf}
+use Rattle.rules.specs.Shown.{before, lastOf, runOf}
 use Rattle.rules.specs.Demand3.{placesOnce, takesOnce, Allowed, EachAllowed}
 use Rattle.rules.specs.Balance.{weightAt, takesWeigh, putsWeigh, even, allEven, balanced, firstUneven, unbalanced, someAbove1000, balance, countsWeigh, timersWeigh, weightOf, startsOf, completionsOf, runningOf, AllCompleted, Conserved}
 use Rattle.rules.proofs.Order.{both}
@@ -219,12 +219,12 @@ none-runs (z ∷ q) h =
     absurd (omega (arith, h (z .who)))
 
 -- from any state on, so also from one that was carried: the weight stays, whatever it is
-pub run-weight : (n : Net) (ws : List ℕ) → takesOnce (n .transitions) ≡ true → balanced n ws ≡ true
+pub run-weight : (room : ℕ) (n : Net) (ws : List ℕ) → takesOnce (n .transitions) ≡ true → balanced n ws ≡ true
     → (last : Float) (k : ℕ) (s : State) → length ws ≡ length (s .counts)
-    → (past later : List Entry) → entries (run n last k s) ≡ past ++ later
+    → (past later : List Entry) → entries (run room n last k s) ≡ past ++ later
     → weightOf n ws (momentAfter n (moment s) past) ≡ weightOf n ws (moment s)
-run-weight n ws once b last k s l past later p =
-    let g : Goes n (moment s) (run n last k s) = run-goes n last k s in
+run-weight room n ws once b last k s l past later p =
+    let g : Goes n (moment s) (run room n last k s) = run-goes room n last k s in
     entries-weight n ws (once-each n once) b past (moment s) l (allowed-past n past later (s .counts) (rw p at (g .allowed)))
     (due-past n past later (moment s) (rw p at (g .due)))
 
@@ -244,7 +244,7 @@ conserving n ws p = long (eqb (length ws) (length (n .places))) refl p
 
 module _ (n : Net) (once : takesOnce (n .transitions) ≡ true) (g : Generator) (xs : List Float) (k : ℕ) where
   goes : Goes n (start n) (runOf n g xs k)
-  goes = run-goes n (lastOf xs) k (beginning n g)
+  goes = run-goes 256 n (lastOf xs) k (beginning n g)
 
   module _ (past later : List Entry) (p : trace (runOf n g xs k) ≡ past ++ later) where
     due : EachDue n (start n) past

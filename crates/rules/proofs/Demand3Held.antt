@@ -2,21 +2,21 @@
 use Prim.Native.Nat.{ℕ, zero, suc, _+_, _≤_, _<_}
 use native.Mathlib.Nat.{le-of-suc-le-suc}
 use mathlib.Core.Path.{_≡_, refl, sym, ap, _∙_, subst}
-use mathlib.Core.Bool.{Bool, true, false, _&&_, _||_}
+use mathlib.Core.Bool.{Bool, true, false, _&&_}
 use mathlib.Core.Logic.{_⊎_, inl, inr}
-use mathlib.Core.List.{List, [], _∷_, _++_, map}
+use mathlib.Core.List.{List, [], _∷_, map}
 use native.Mathlib.Omega.{arith}
 use lib.Dec.{leb}
 use lib.ListN.{getD, length, length-map}
 use lib.Ieee.{Float, binary64, ofBits, le, eq, isNan}
 use Rattle.net.specs.Net.{Place, Net, Marking, pick, zero64, held}
 use Rattle.rng.specs.State.{State as Generator}
-use Rattle.rules.specs.Moves.{Entry, reading, after, initialCounts, takenAt, putAt, transition}
+use Rattle.rules.specs.Moves.{Entry, reading, after, initialCounts, takenAt, putAt}
 use Rattle.rules.specs.Step.{Answer, refused, given}
-use Rattle.rules.specs.Run.{End, quiet, spent, reached, Run, beginning, run, Outcome, outcome, entries, trace}
+use Rattle.rules.specs.Run.{End, quiet, spent, reached, Run, beginning, Outcome, outcome, entries, trace}
 use Rattle.rules.specs.Shown.{before, reaches, shownAt, reachedFrom, settledOf, rising, instantsFit, limitFits, lastOf, Path, reported, runOf, acceptedPath}
-use Rattle.rules.proofs.Order.{never, both, le-refl, le-trans, le-nan-r, eq-le}
-use Rattle.rules.specs.Demand3.{takesOnce, placesOnce, EachAllowed, instant, count, earlier, Demand3}
+use Rattle.rules.proofs.Order.{both, le-refl, le-trans, le-nan-r, eq-le}
+use Rattle.rules.specs.Demand3.{takesOnce, EachAllowed, instant, count, earlier, Demand3}
 use Rattle.rules.proofs.Counts.{counted, once-each, allowed-before}
 use Rattle.rules.proofs.Allowing.{given-same, refused-given, run-allowed}
 use Rattle.rules.proofs.Agree.{before-equal, before-reached, same, Longer, grows}
@@ -144,14 +144,14 @@ module _ (n : Net) (g : Generator) where
           go true q = refl
           go false q =
               ap (λ (es : List Entry). reading zero64 ∷ es)
-              (same n (instant xs i) (lastOf xs) (lastOf ys) (fx .0) (fx .1) (eq-le (instant xs i) (instant ys j) (lastOf ys) e ∙ fy .1) k (beginning n g) q)
+              (same 256 n (instant xs i) (lastOf xs) (lastOf ys) (fx .0) (fx .1) (eq-le (instant xs i) (instant ys j) (lastOf ys) e ∙ fy .1) k (beginning n g) q)
 
   limits : (xs : List Float) (k l : ℕ) (a b : Path) → acceptedPath n g xs k ≡ given a → acceptedPath n g xs l ≡ given b → k ≤ l
       → (i : ℕ) → i < a .settled
       → (p : ℕ) → count a i p ≡ count b i p
   limits xs k l a b ha hb le i s p =
       shown xs k a ha i inside p
-      ∙ ap (λ (es : List Entry). held (after n (initialCounts n) es) p) (go (grows n (lastOf xs) k l le (beginning n g)))
+      ∙ ap (λ (es : List Entry). held (after n (initialCounts n) es) p) (go (grows 256 n (lastOf xs) k l le (beginning n g)))
       ∙ sym (shown xs l b hb i inside p)
     where
       inside : i < length xs
@@ -169,7 +169,7 @@ module _ (n : Net) (g : Generator) where
           ∙ before-reached (instant xs i) (trace (runOf n g xs k)) (m .more) r)
 
   all-allowed : (xs : List Float) (k : ℕ) → EachAllowed n (initialCounts n) (trace (runOf n g xs k))
-  all-allowed xs k = (tt, run-allowed n (lastOf xs) k (beginning n g))
+  all-allowed xs k = (tt, run-allowed 256 n (lastOf xs) k (beginning n g))
 
   pub demand3 : takesOnce (n .transitions) ≡ true → Demand3 n g
   demand3 once = record {

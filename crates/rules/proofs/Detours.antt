@@ -1,18 +1,18 @@
--- Theory: rules of document 01 that the definitions state by a detour. A race with a0 > 0 always has a chosen transition; the 257 passes
+-- Theory: rules of document 01 that the definitions state by a detour. A race with a0 > 0 always has a chosen transition; the passes
 -- of a step do end with one in which none starts; a step that finds nothing left has changed nothing; a run takes at most its limit of
 -- steps, and exactly so many if spent.
 use Prim.Native.Nat.{ℕ, zero, suc, _+_, _-_, _*_, _^_, _≤_, _<_}
 use mathlib.Core.Path.{_≡_, refl, sym, ap, _∙_, subst}
-use mathlib.Core.Bool.{Bool, true, false, _&&_, _||_, cond, true≢false}
+use mathlib.Core.Bool.{Bool, true, false, _&&_, cond, true≢false}
 use mathlib.Core.Logic.{_⊎_, inl, inr, _≢_}
 use mathlib.Core.List.{List, [], _∷_, _++_, map, List·Memᴰ, List·Memᴰ·head, List·Memᴰ·tail, List·Memᴰ·not-nil, List·Memᴰ·cases-cons}
 use mathlib.Core.Option.{Option, none, some}
 use native.Mathlib.Nat.{mul-pos, zero-mul}
 use native.Mathlib.Omega.{arith}
 use lib.Dec.{ltb}
-use lib.IntN.{ℤ, pos, negsuc}
+use lib.IntN.{ℤ}
 use lib.ListN.{length, length-append}
-use borrow.Author.Tests.{ltb-true, ltb-false, lt-ltb, le-ltb}
+use borrow.Author.Tests.{ltb-true, ltb-false, le-ltb}
 use lib.Ieee.{Float, nan, inf, fin, binary64, up, down, round, units, odd, sum, add, mul, ofBits, lt, le}
 use lib.Ieee.Fits.{up-pos, down-pos, round-is}
 use lib.Ieee.Scale.{round-same}
@@ -23,9 +23,9 @@ use Rattle.rules.specs.Exact.{addsRounded}
 use Rattle.rng.specs.State.{State as Generator}
 use Rattle.rng.specs.Xoshiro.{step as drawn, uniform}
 use Rattle.rules.specs.Jump.{chosenFrom, chosen}
-use Rattle.rules.specs.Timers.{Timer, insert, first, others}
+use Rattle.rules.specs.Timers.{Timer, timerOf, insert, first, others}
 use Rattle.rules.specs.Moves.{Entry, reading, started, completed, fired, taking, move}
-use Rattle.rules.specs.Step.{State, state, Answer, refused, given, Starts, preceded, pass, nobody, unlessNone, passes, starts, waiting, drawnFor, Next, nothingLeft, race, completion, next, Event, countsFit, event, complete, fire, raced, Step, still, sets, setClock, goOn, afterStarts, step}
+use Rattle.rules.specs.Step.{State, state, Answer, refused, given, Starts, preceded, pass, nobody, unlessNone, passes, starts, waiting, drawnFor, Next, nothingLeft, race, completion, next, Event, countsFit, event, fire, Step, still, sets, setClock, goOn, afterStarts, step}
 use Rattle.rules.specs.Run.{End, quiet, spent, reached, Run, ends, refuses, steps, concluded, stepped, run, Outcome, outcome, stepsOf, roundedOf}
 use Rattle.rules.proofs.Order.{never, lt-le}
 use Rattle.rules.proofs.Allowing.{given-same, refused-given}
@@ -162,51 +162,51 @@ insert-length x (y ∷ ys) = go (lt (x .at) (y .at)) (insert-length x ys)
     go true h = refl
     go false h = ap suc h
 
--- what starts do to counts m and timers q: each sets a timer, none beyond 256; without one nothing changes
-pub record Timed (m : Marking) (q : List Timer) (b : Starts) : Type 0 where
+-- what starts do to counts m and timers q: each sets a timer, none beyond the room; without one nothing changes
+pub record Timed (room : ℕ) (m : Marking) (q : List Timer) (b : Starts) : Type 0 where
   pub more : length (b .timers) ≡ length q + length (b .who)
-  pub room : length (b .timers) ≤ 256
+  pub few : length (b .timers) ≤ room
   pub nothing : nobody (b .who) ≡ true → (b .counts ≡ m) × (b .timers ≡ q)
 
-abbrev TimedBy : Marking → List Timer → Answer Starts → Type 0
-TimedBy m q (refused c) = Unit
-TimedBy m q (given b) = Timed m q b
+abbrev TimedBy : ℕ → Marking → List Timer → Answer Starts → Type 0
+TimedBy room m q (refused c) = Unit
+TimedBy room m q (given b) = Timed room m q b
 
-timed-one : (m m′ : Marking) (q q′ : List Timer) (j : ℕ) → length q′ ≡ suc (length q) → (r : Answer Starts) → TimedBy m′ q′ r → TimedBy m q (preceded (j ∷ []) r)
-timed-one m m′ q q′ j e (refused c) h = tt
-timed-one m m′ q q′ j e (given b) h =
+timed-one : (room : ℕ) (m m′ : Marking) (q q′ : List Timer) (j : ℕ) → length q′ ≡ suc (length q) → (r : Answer Starts) → TimedBy room m′ q′ r → TimedBy room m q (preceded (j ∷ []) r)
+timed-one room m m′ q q′ j e (refused c) h = tt
+timed-one room m m′ q q′ j e (given b) h =
     let a : length (b .timers) ≡ length q′ + length (b .who) = h .more in
-    record { more = omega arith; room = h .room; nothing = λ p. never p }
+    record { more = omega arith; few = h .few; nothing = λ p. never p }
 
-timed-none : (m : Marking) (q : List Timer) → length q ≤ 256 → Timed m q (record { who = []; counts = m; timers = q })
-timed-none m q h = record { more = omega arith; room = h; nothing = λ p. (refl, refl) }
+timed-none : (room : ℕ) (m : Marking) (q : List Timer) → length q ≤ room → Timed room m q (record { who = []; counts = m; timers = q })
+timed-none room m q h = record { more = omega arith; few = h; nothing = λ p. (refl, refl) }
 
 none-started : (b : Starts) (m : Marking) (q : List Timer) → b .who ≡ [] → b .counts ≡ m → b .timers ≡ q
     → _≡_ {A = Answer Starts} (given b) (given (record { who = []; counts = m; timers = q }))
 none-started b m q z c t = rw (← z, ← c, ← t)
 
-module _ (n : Net) (t : Float) where
-  pass-timed : (j : ℕ) (rest : List Transition) (m : Marking) (q : List Timer) → length q ≤ 256 → TimedBy m q (pass n t j rest m q)
-  pass-timed j [] m q h = timed-none m q h
+module _ (room : ℕ) (n : Net) (t : Float) where
+  pass-timed : (j : ℕ) (rest : List Transition) (m : Marking) (q : List Timer) → length q ≤ room → TimedBy room m q (pass room n t j rest m q)
+  pass-timed j [] m q h = timed-none room m q h
   pass-timed j (this ∷ rest) m q h =
-      go (timed this && enabled n m this) (ltb (length q) 256) refl (pass-timed (suc j) rest m q h)
-      (pass-timed (suc j) rest (taking m (this .takes)) (insert (record { at = add binary64 t (this .delay); who = j }) q))
+      go (timed this && enabled n m this) (ltb (length q) room) refl (pass-timed (suc j) rest m q h)
+      (pass-timed (suc j) rest (taking m (this .takes)) (insert (timerOf t j this) q))
     where
       x : Timer
-      x = record { at = add binary64 t (this .delay); who = j }
+      x = timerOf t j this
 
-      go : (c d : Bool) → ltb (length q) 256 ≡ d → TimedBy m q (pass n t (suc j) rest m q)
-          → (length (insert x q) ≤ 256 → TimedBy (taking m (this .takes)) (insert x q) (pass n t (suc j) rest (taking m (this .takes)) (insert x q)))
-          → TimedBy m q (pick c (pick d (preceded (j ∷ []) (pass n t (suc j) rest (taking m (this .takes)) (insert x q))) (refused 15)) (pass n t (suc j) rest m q))
+      go : (c d : Bool) → ltb (length q) room ≡ d → TimedBy room m q (pass room n t (suc j) rest m q)
+          → (length (insert x q) ≤ room → TimedBy room (taking m (this .takes)) (insert x q) (pass room n t (suc j) rest (taking m (this .takes)) (insert x q)))
+          → TimedBy room m q (pick c (pick d (preceded (j ∷ []) (pass room n t (suc j) rest (taking m (this .takes)) (insert x q))) (refused 15)) (pass room n t (suc j) rest m q))
       go false d e a b = a
       go true false e a b = tt
       go true true e a b =
-          timed-one m (taking m (this .takes)) q (insert x q) j (insert-length x q) (pass n t (suc j) rest (taking m (this .takes)) (insert x q))
-          (b (omega (arith, insert-length x q, ltb-true (length q) 256 e)))
+          timed-one room m (taking m (this .takes)) q (insert x q) j (insert-length x q) (pass room n t (suc j) rest (taking m (this .takes)) (insert x q))
+          (b (omega (arith, insert-length x q, ltb-true (length q) room e)))
 
   -- a further pass on these counts and timers starts none
   abbrev pub Done : Marking → List Timer → Type 0
-  Done m q = pass n t 0 (n .transitions) m q ≡ given (record { who = []; counts = m; timers = q })
+  Done m q = pass room n t 0 (n .transitions) m q ≡ given (record { who = []; counts = m; timers = q })
 
   abbrev DoneBy : Answer Starts → Type 0
   DoneBy (refused c) = Unit
@@ -224,108 +224,108 @@ module _ (n : Net) (t : Float) where
   no-one [] p = refl
   no-one (j ∷ js) p = never p
 
-  passes-done : (k : ℕ) (m : Marking) (q : List Timer) → length q ≤ 256 → 257 ≤ k + length q → DoneBy (passes k n t m q)
+  passes-done : (k : ℕ) (m : Marking) (q : List Timer) → length q ≤ room → suc room ≤ k + length q → DoneBy (passes k room n t m q)
   passes-done zero m q h f = absurd (omega arith)
-  passes-done (suc k) m q h f = go (pass n t 0 (n .transitions) m q) refl (pass-timed 0 (n .transitions) m q h) (λ m′ q′ h′ f′. passes-done k m′ q′ h′ f′)
+  passes-done (suc k) m q h f = go (pass room n t 0 (n .transitions) m q) refl (pass-timed 0 (n .transitions) m q h) (λ m′ q′ h′ f′. passes-done k m′ q′ h′ f′)
     where
-      go : (r : Answer Starts) → pass n t 0 (n .transitions) m q ≡ r → TimedBy m q r
-          → ((m′ : Marking) (q′ : List Timer) → length q′ ≤ 256 → 257 ≤ k + length q′ → DoneBy (passes k n t m′ q′))
-          → DoneBy (unlessNone (passes k n t) r)
+      go : (r : Answer Starts) → pass room n t 0 (n .transitions) m q ≡ r → TimedBy room m q r
+          → ((m′ : Marking) (q′ : List Timer) → length q′ ≤ room → suc room ≤ k + length q′ → DoneBy (passes k room n t m′ q′))
+          → DoneBy (unlessNone (passes k room n t) r)
       go (refused c) e w ih = tt
       go (given b) e w ih = last (nobody (b .who)) refl
         where
-          last : (c : Bool) → nobody (b .who) ≡ c → DoneBy (pick c (given b) (preceded (b .who) (passes k n t (b .counts) (b .timers))))
+          last : (c : Bool) → nobody (b .who) ≡ c → DoneBy (pick c (given b) (preceded (b .who) (passes k room n t (b .counts) (b .timers))))
           last true p =
               let u : (b .counts ≡ m) × (b .timers ≡ q) = w .nothing p in
               let z : b .who ≡ [] = no-one (b .who) p in
               rw (u .0, u .1) (e ∙ none-started b m q z (u .0) (u .1))
           last false p =
-              done-preceded (b .who) (passes k n t (b .counts) (b .timers)) (ih (b .counts) (b .timers) (w .room) (omega (arith, w .more, somebody (b .who) p)))
+              done-preceded (b .who) (passes k room n t (b .counts) (b .timers)) (ih (b .counts) (b .timers) (w .few) (omega (arith, w .more, somebody (b .who) p)))
 
 -- "in passes … until none starts": after a step's starts no further pass starts anything
-pub starts-done : (n : Net) (s : State) → length (s .timers) ≤ 256 → (b : Starts) → starts n s ≡ given b → Done n (s .clock) (b .counts) (b .timers)
-starts-done n s h b p = subst (λ (r : Answer Starts). DoneBy n (s .clock) r) p (passes-done n (s .clock) 257 (s .counts) (s .timers) h (omega arith))
+pub starts-done : (room : ℕ) (n : Net) (s : State) → length (s .timers) ≤ room → (b : Starts) → starts room n s ≡ given b → Done room n (s .clock) (b .counts) (b .timers)
+starts-done room n s h b p = subst (λ (r : Answer Starts). DoneBy room n (s .clock) r) p (passes-done room n (s .clock) (suc room) (s .counts) (s .timers) h (omega arith))
 
--- ---- timers: at most 256 throughout, and a step that finds nothing left has changed nothing
+-- ---- timers: at most so many as there is room for, throughout, and a step that finds nothing left has changed nothing
 
 nobody-append : (js is : List ℕ) → nobody js ≡ false → nobody (js ++ is) ≡ false
 nobody-append [] is p = never (sym p)
 nobody-append (j ∷ js) is p = refl
 
-timed-more : (m : Marking) (q : List Timer) (b : Starts) → Timed m q b → nobody (b .who) ≡ false
-    → (r : Answer Starts) → TimedBy (b .counts) (b .timers) r → TimedBy m q (preceded (b .who) r)
-timed-more m q b w p (refused c) h = tt
-timed-more m q b w p (given b′) h =
+timed-more : (room : ℕ) (m : Marking) (q : List Timer) (b : Starts) → Timed room m q b → nobody (b .who) ≡ false
+    → (r : Answer Starts) → TimedBy room (b .counts) (b .timers) r → TimedBy room m q (preceded (b .who) r)
+timed-more room m q b w p (refused c) h = tt
+timed-more room m q b w p (given b′) h =
     let x : length (b .timers) ≡ length q + length (b .who) = w .more in
     let y : length (b′ .timers) ≡ length (b .timers) + length (b′ .who) = h .more in
     record {
       more = omega (arith, length-append (b .who) (b′ .who));
-      room = h .room;
+      few = h .few;
       nothing = λ e. absurd (true≢false (sym e ∙ nobody-append (b .who) (b′ .who) p));
     }
 
-passes-timed : (n : Net) (t : Float) (k : ℕ) (m : Marking) (q : List Timer) → length q ≤ 256 → TimedBy m q (passes k n t m q)
-passes-timed n t zero m q h = timed-none m q h
-passes-timed n t (suc k) m q h = go (pass n t 0 (n .transitions) m q) (pass-timed n t 0 (n .transitions) m q h) (λ m′ q′ h′. passes-timed n t k m′ q′ h′)
+passes-timed : (room : ℕ) (n : Net) (t : Float) (k : ℕ) (m : Marking) (q : List Timer) → length q ≤ room → TimedBy room m q (passes k room n t m q)
+passes-timed room n t zero m q h = timed-none room m q h
+passes-timed room n t (suc k) m q h = go (pass room n t 0 (n .transitions) m q) (pass-timed room n t 0 (n .transitions) m q h) (λ m′ q′ h′. passes-timed room n t k m′ q′ h′)
   where
-    go : (r : Answer Starts) → TimedBy m q r → ((m′ : Marking) (q′ : List Timer) → length q′ ≤ 256 → TimedBy m′ q′ (passes k n t m′ q′))
-        → TimedBy m q (unlessNone (passes k n t) r)
+    go : (r : Answer Starts) → TimedBy room m q r → ((m′ : Marking) (q′ : List Timer) → length q′ ≤ room → TimedBy room m′ q′ (passes k room n t m′ q′))
+        → TimedBy room m q (unlessNone (passes k room n t) r)
     go (refused c) w ih = tt
     go (given b) w ih = last (nobody (b .who)) refl
       where
-        last : (c : Bool) → nobody (b .who) ≡ c → TimedBy m q (pick c (given b) (preceded (b .who) (passes k n t (b .counts) (b .timers))))
+        last : (c : Bool) → nobody (b .who) ≡ c → TimedBy room m q (pick c (given b) (preceded (b .who) (passes k room n t (b .counts) (b .timers))))
         last true p = w
-        last false p = timed-more m q b w p (passes k n t (b .counts) (b .timers)) (ih (b .counts) (b .timers) (w .room))
+        last false p = timed-more room m q b w p (passes k room n t (b .counts) (b .timers)) (ih (b .counts) (b .timers) (w .few))
 
--- a step keeps the timers at most 256
-abbrev EventRoom : Answer Event → Type 0
-EventRoom (refused c) = Unit
-EventRoom (given ev) = length (ev .leaves .timers) ≤ 256
+-- a step leaves no more timers than there is room for
+abbrev EventRoom : ℕ → Answer Event → Type 0
+EventRoom room (refused c) = Unit
+EventRoom room (given ev) = length (ev .leaves .timers) ≤ room
 
-abbrev pub StepRoom : Answer Step → Type 0
-StepRoom (refused c) = Unit
-StepRoom (given (still b)) = Unit
-StepRoom (given (sets b js u e)) = (length (u .timers) ≤ 256) × EventRoom e
+abbrev pub StepRoom : ℕ → Answer Step → Type 0
+StepRoom room (refused c) = Unit
+StepRoom room (given (still b)) = Unit
+StepRoom room (given (sets b js u e)) = (length (u .timers) ≤ room) × EventRoom room e
 
-event-room : (n : Net) (u : State) (e : Entry) (q : List Timer) (g : Generator) → length q ≤ 256 → EventRoom (event n u e q g)
-event-room n u e q g h = go (countsFit (move n (u .counts) e))
+event-room : (room : ℕ) (n : Net) (u : State) (e : Entry) (q : List Timer) (g : Generator) → length q ≤ room → EventRoom room (event n u e q g)
+event-room room n u e q g h = go (countsFit (move n (u .counts) e))
   where
-    go : (c : Bool) → EventRoom (pick c (given (record { what = e ∷ []; leaves = state (u .clock) (move n (u .counts) e) q g })) (refused 14))
+    go : (c : Bool) → EventRoom room (pick c (given (record { what = e ∷ []; leaves = state (u .clock) (move n (u .counts) e) q g })) (refused 14))
     go true = h
     go false = tt
 
-others-room : (q : List Timer) → length q ≤ 256 → length (others q) ≤ 256
-others-room [] h = h
-others-room (x ∷ xs) h = omega arith
+others-room : (room : ℕ) (q : List Timer) → length q ≤ room → length (others q) ≤ room
+others-room room [] h = h
+others-room room (x ∷ xs) h = omega arith
 
-fire-room : (n : Net) (u : State) (o : Option ℕ) → length (u .timers) ≤ 256 → EventRoom (fire n u o)
-fire-room n u none h = h
-fire-room n u (some j) h = event-room n u (fired j) (u .timers) (u .generator) h
+fire-room : (room : ℕ) (n : Net) (u : State) (o : Option ℕ) → length (u .timers) ≤ room → EventRoom room (fire n u o)
+fire-room room n u none h = h
+fire-room room n u (some j) h = event-room room n u (fired j) (u .timers) (u .generator) h
 
-go-on-room : (n : Net) (b : Bool) (js : List ℕ) (v : State) (a0 : Float) (xs : List Float) (x : Next) → length (v .timers) ≤ 256 → StepRoom (given (goOn n b js v a0 xs x))
-go-on-room n b js v a0 xs nothingLeft h = tt
-go-on-room n b js v a0 xs (race dt) h =
+go-on-room : (room : ℕ) (n : Net) (b : Bool) (js : List ℕ) (v : State) (a0 : Float) (xs : List Float) (x : Next) → length (v .timers) ≤ room → StepRoom room (given (goOn n b js v a0 xs x))
+go-on-room room n b js v a0 xs nothingLeft h = tt
+go-on-room room n b js v a0 xs (race dt) h =
     let u : State = setClock (add binary64 (v .clock) dt) v in
-    (h, fire-room n (state (u .clock) (u .counts) (u .timers) (drawn (u .generator))) (chosen (mul binary64 (uniform (u .generator)) a0) xs) h)
-go-on-room n b js v a0 xs (completion at) h =
+    (h, fire-room room n (state (u .clock) (u .counts) (u .timers) (drawn (u .generator))) (chosen (mul binary64 (uniform (u .generator)) a0) xs) h)
+go-on-room room n b js v a0 xs (completion at) h =
     let u : State = setClock at v in
-    (h, event-room n u (completed (first (u .timers) .who)) (others (u .timers)) (u .generator) (others-room (v .timers) h))
+    (h, event-room room n u (completed (first (u .timers) .who)) (others (u .timers)) (u .generator) (others-room room (v .timers) h))
 
-pub step-room : (n : Net) (s : State) → length (s .timers) ≤ 256 → StepRoom (step n s)
-step-room n s h = go (starts n s) (passes-timed n (s .clock) 257 (s .counts) (s .timers) h)
+pub step-room : (room : ℕ) (n : Net) (s : State) → length (s .timers) ≤ room → StepRoom room (step room n s)
+step-room room n s h = go (starts room n s) (passes-timed room n (s .clock) (suc room) (s .counts) (s .timers) h)
   where
-    go : (r : Answer Starts) → TimedBy (s .counts) (s .timers) r → StepRoom (afterStarts n s r)
+    go : (r : Answer Starts) → TimedBy room (s .counts) (s .timers) r → StepRoom room (afterStarts n s r)
     go (refused c) w = tt
     go (given b) w =
         let a0 : Float = total (propensities n (b .counts)) in
         let v : State = state (s .clock) (b .counts) (b .timers) (drawnFor a0 (s .generator)) in
-        go-on-room n (addsRounded n (b .counts)) (b .who) v a0 (propensities n (b .counts)) (next a0 (s .clock) (waiting a0 (s .generator)) (b .timers)) (w .room)
+        go-on-room room n (addsRounded n (b .counts)) (b .who) v a0 (propensities n (b .counts)) (next a0 (s .clock) (waiting a0 (s .generator)) (b .timers)) (w .few)
 
 -- where no timer runs after the starts, none started and the counts are as they were
-pub still-same : (n : Net) (s : State) → length (s .timers) ≤ 256 → (b : Starts) → starts n s ≡ given b → b .timers ≡ []
+pub still-same : (room : ℕ) (n : Net) (s : State) → length (s .timers) ≤ room → (b : Starts) → starts room n s ≡ given b → b .timers ≡ []
     → (b .counts ≡ s .counts) × (s .timers ≡ [])
-still-same n s h b p z =
-    let w : Timed (s .counts) (s .timers) b = subst (λ (r : Answer Starts). TimedBy (s .counts) (s .timers) r) p (passes-timed n (s .clock) 257 (s .counts) (s .timers) h) in
+still-same room n s h b p z =
+    let w : Timed room (s .counts) (s .timers) b = subst (λ (r : Answer Starts). TimedBy room (s .counts) (s .timers) r) p (passes-timed room n (s .clock) (suc room) (s .counts) (s .timers) h) in
     let e : length (b .timers) ≡ 0 = ap length z in
     let u : (b .counts ≡ s .counts) × (b .timers ≡ s .timers) = w .nothing (empty (b .who) (omega (arith, w .more))) in
     (u .0, sym (u .1) ∙ z)
@@ -354,12 +354,12 @@ rounded-most (steps b es r) = go b (rounded-most r)
     go true h = omega arith
     go false h = omega arith
 
-module _ (n : Net) (last : Float) where
-  pub steps-most : (k : ℕ) (s : State) → stepsOf (run n last k s) ≤ k
+module _ (room : ℕ) (n : Net) (last : Float) where
+  pub steps-most : (k : ℕ) (s : State) → stepsOf (run room n last k s) ≤ k
   steps-most zero s = omega arith
-  steps-most (suc k) s = below (lt (s .clock) last) (one (step n s) (λ v. steps-most k v))
+  steps-most (suc k) s = below (lt (s .clock) last) (one (step room n s) (λ v. steps-most k v))
     where
-      one : (r : Answer Step) → ((v : State) → stepsOf (run n last k v) ≤ k) → stepsOf (stepped last s r (run n last k)) ≤ suc k
+      one : (r : Answer Step) → ((v : State) → stepsOf (run room n last k v) ≤ k) → stepsOf (stepped last s r (run room n last k)) ≤ suc k
       one (refused c) ih = omega arith
       one (given (still b)) ih = omega arith
       one (given (sets b js u e)) ih = past (lt last (u .clock)) e
@@ -367,13 +367,13 @@ module _ (n : Net) (last : Float) where
           es : List Entry
           es = map started js ++ reading (u .clock) ∷ []
 
-          past : (c : Bool) (e : Answer Event) → stepsOf (pick c (steps b es (ends reached u)) (concluded b es e (run n last k))) ≤ suc k
+          past : (c : Bool) (e : Answer Event) → stepsOf (pick c (steps b es (ends reached u)) (concluded b es e (run room n last k))) ≤ suc k
           past true e = omega arith
           past false (refused c) = omega arith
           past false (given ev) = omega (arith, ih (ev .leaves))
 
-      below : (c : Bool) → stepsOf (stepped last s (step n s) (run n last k)) ≤ suc k
-          → stepsOf (pick c (stepped last s (step n s) (run n last k)) (ends reached s)) ≤ suc k
+      below : (c : Bool) → stepsOf (stepped last s (step room n s) (run room n last k)) ≤ suc k
+          → stepsOf (pick c (stepped last s (step room n s) (run room n last k)) (ends reached s)) ≤ suc k
       below true h = h
       below false h = omega arith
 
@@ -399,14 +399,14 @@ module _ (n : Net) (last : Float) where
   unfolding Full
   full-refused k c r p o q z = refused-given (sym p ∙ q)
 
-  run-full : (k : ℕ) (s : State) → Full k (run n last k s)
+  run-full : (k : ℕ) (s : State) → Full k (run room n last k s)
   run-full zero s = go (lt (s .clock) last)
     where
       go : (c : Bool) → Full 0 (ends (pick c spent reached) s)
       go c = unfold Full in λ o q z. refl
-  run-full (suc k) s = below (lt (s .clock) last) (one (step n s) (λ v. run-full k v))
+  run-full (suc k) s = below (lt (s .clock) last) (one (step room n s) (λ v. run-full k v))
     where
-      one : (r : Answer Step) → ((v : State) → Full k (run n last k v)) → Full (suc k) (stepped last s r (run n last k))
+      one : (r : Answer Step) → ((v : State) → Full k (run room n last k v)) → Full (suc k) (stepped last s r (run room n last k))
       one (refused c) ih = full-refused (suc k) c _ refl
       one (given (still b)) ih = other-end quiet s (suc k) quiet-spent _ refl
       one (given (sets b js u e)) ih = past (lt last (u .clock)) e
@@ -414,16 +414,16 @@ module _ (n : Net) (last : Float) where
           es : List Entry
           es = map started js ++ reading (u .clock) ∷ []
 
-          past : (c : Bool) (e : Answer Event) → Full (suc k) (pick c (steps b es (ends reached u)) (concluded b es e (run n last k)))
+          past : (c : Bool) (e : Answer Event) → Full (suc k) (pick c (steps b es (ends reached u)) (concluded b es e (run room n last k)))
           past true e = other-end reached u (suc k) reached-spent _ refl
           past false (refused c) = full-refused (suc k) c _ refl
           past false (given ev) = full-step k b (es ++ ev .what) _ (ih (ev .leaves))
 
-      below : (c : Bool) → Full (suc k) (stepped last s (step n s) (run n last k))
-          → Full (suc k) (pick c (stepped last s (step n s) (run n last k)) (ends reached s))
+      below : (c : Bool) → Full (suc k) (stepped last s (step room n s) (run room n last k))
+          → Full (suc k) (pick c (stepped last s (step room n s) (run room n last k)) (ends reached s))
       below true h = h
       below false h = other-end reached s (suc k) reached-spent _ refl
 
-  pub spent-steps : (k : ℕ) (s : State) (o : Outcome) → outcome (run n last k s) ≡ given o → o .end ≡ spent → stepsOf (run n last k s) ≡ k
+  pub spent-steps : (k : ℕ) (s : State) (o : Outcome) → outcome (run room n last k s) ≡ given o → o .end ≡ spent → stepsOf (run room n last k s) ≡ k
   unfolding Full
   spent-steps k s = run-full k s

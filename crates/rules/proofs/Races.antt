@@ -156,8 +156,8 @@ module _ (n : Net) (a : Accepted n) where
       (chosen-fires n a (u .counts) h (u .generator))
   go-on-fires b js v (completion at) h = complete-fires n (setClock at v)
 
-  step-fires : (s : State) → countsFit (s .counts) ≡ true → StepFires n (step n s)
-  step-fires s h = go (starts n s) (λ b p. starts-fit n s b p h)
+  step-fires : (room : ℕ) (s : State) → countsFit (s .counts) ≡ true → StepFires n (step room n s)
+  step-fires room s h = go (starts room n s) (λ b p. starts-fit room n s b p h)
     where
       go : (r : Answer Starts) → ((b : Starts) → r ≡ given b → countsFit (b .counts) ≡ true) → StepFires n (afterStarts n s r)
       go (refused c) k = tt
@@ -168,6 +168,6 @@ module _ (n : Net) (a : Accepted n) where
 -- ---- a run
 
 pub run-is-gillespie : RunIsGillespie
-run-is-gillespie n a g j f =
-    let h = reached-fit (readable n) (accepted n a) g (f .reached) in
-    subst (StepFires (readable n)) (f .steps) (step-fires (readable n) (accepted n a) (f .begins) h) j (f .fires)
+run-is-gillespie n a room g j f =
+    let h = reached-fit room (readable n) (accepted n a) g (f .reached) in
+    subst (StepFires (readable n)) (f .steps) (step-fires (readable n) (accepted n a) room (f .begins) h) j (f .fires)

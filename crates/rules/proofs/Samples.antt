@@ -1,12 +1,15 @@
--- Small nets worked by the definitions.
+-- Small nets worked by the definitions, at any generator state: nothing races in them, so nothing is drawn.
 use Prim.Native.Nat.{ℕ}
 use mathlib.Core.Path.{_≡_, refl}
 use mathlib.Core.Bool.{true, false}
 use mathlib.Core.List.{[], _∷_}
 use mathlib.Core.Option.{none, some}
-use lib.Ieee.{Float, ofBits, ofInt, mul, div, lt, eq}
+use lib.Ieee.{Float, binary64, ofBits, ofInt, add, mul, div, lt, le, eq}
 use Rattle.net.specs.Net.{Transition, Net, zero64, one64}
+use Rattle.rng.specs.State.{State as Generator}
 use Rattle.rules.specs.Step.{refused, given}
+use Rattle.rules.specs.Run.{quiet, spent, reached, refuses, beginning, run}
+use Rattle.rules.specs.Shown.{acceptedPath}
 use Rattle.rules.specs.Exact.{exactWays, addsRounded}
 use Rattle.rules.specs.Balance.{balance}
 
@@ -21,11 +24,79 @@ delayed p takes q puts = record {
   blocks = [];
 }
 
+abbrev two : Float
+two = ofBits binary64 0x4000_0000_0000_0000
+
+-- ---- the sample of document 01: at instant 1 both subscribers are in timers, which the peak counts
+
+abbrev sample : Net
+sample = record {
+  places = record { initial = 2; capacity = 0 } ∷ record { initial = 0; capacity = 0 } ∷ [];
+  transitions = delayed 0 1 1 1 ∷ [];
+}
+
+sampled : (g : Generator) → acceptedPath sample g (zero64 ∷ one64 ∷ two ∷ []) 1000 ≡ given (record {
+  shown = (2 ∷ 0 ∷ []) ∷ (0 ∷ 0 ∷ []) ∷ (0 ∷ 2 ∷ []) ∷ [];
+  end = quiet;
+  steps = 3;
+  settled = 3;
+  peak = 2;
+  rounded = 0;
+  generator = g;
+})
+unfolding ofBits ofInt add mul div lt le eq
+sampled g = refl
+
+-- "or with limit 2 is spent"
+limited : (g : Generator) → acceptedPath sample g (zero64 ∷ one64 ∷ two ∷ []) 2 ≡ given (record {
+  shown = (2 ∷ 0 ∷ []) ∷ (0 ∷ 0 ∷ []) ∷ (0 ∷ 2 ∷ []) ∷ [];
+  end = spent;
+  steps = 2;
+  settled = 2;
+  peak = 2;
+  rounded = 0;
+  generator = g;
+})
+unfolding ofBits ofInt add mul div lt le eq
+limited g = refl
+
+-- a second timer does not start where there is room for one
+no-room : (g : Generator) → run 1 sample two 1000 (beginning sample g) ≡ refuses 15
+unfolding ofBits ofInt add mul div lt le eq
+no-room g = refl
+
+-- ---- a peak that no instant shows: five are put at 1, and start again before the clock moves on
+
 abbrev brief : Net
 brief = record {
   places = record { initial = 1; capacity = 0 } ∷ record { initial = 0; capacity = 0 } ∷ record { initial = 0; capacity = 0 } ∷ [];
   transitions = delayed 0 1 1 5 ∷ delayed 1 5 2 1 ∷ [];
 }
+
+peaked : (g : Generator) → acceptedPath brief g (zero64 ∷ one64 ∷ two ∷ []) 1000 ≡ given (record {
+  shown = (1 ∷ 0 ∷ 0 ∷ []) ∷ (0 ∷ 0 ∷ 0 ∷ []) ∷ (0 ∷ 0 ∷ 0 ∷ []) ∷ [];
+  end = reached;
+  steps = 2;
+  settled = 3;
+  peak = 5;
+  rounded = 0;
+  generator = g;
+})
+unfolding ofBits ofInt add mul div lt le eq
+peaked g = refl
+
+-- the completion at the last instant is a moment, and the last of this run; no reading is as high
+peaked-at-last : (g : Generator) → acceptedPath brief g (zero64 ∷ one64 ∷ []) 1000 ≡ given (record {
+  shown = (1 ∷ 0 ∷ 0 ∷ []) ∷ (0 ∷ 0 ∷ 0 ∷ []) ∷ [];
+  end = reached;
+  steps = 1;
+  settled = 2;
+  peak = 5;
+  rounded = 0;
+  generator = g;
+})
+unfolding ofBits ofInt add mul div lt le eq
+peaked-at-last g = refl
 
 -- ---- order 7's answers
 

@@ -102,8 +102,8 @@ module _ (n : Net) (s : State) (b : Bool) (js : List ℕ) (v : State) (a0 : Floa
       let u : State = setClock at v in
       record { to = to; fit = h; event = completed-reads n u (first (u .timers) .who) (others (u .timers)) (u .generator) }
 
-step-reads : (n : Net) (s : State) → countsFit (s .counts) ≡ true → StepReads n s (step n s)
-step-reads n s h = go (starts n s) (λ b p. starts-fit n s b p h) (λ b p. leads-counts (starts-lead n (s .clock) (s .counts) (s .timers) b p))
+step-reads : (room : ℕ) (n : Net) (s : State) → countsFit (s .counts) ≡ true → StepReads n s (step room n s)
+step-reads room n s h = go (starts room n s) (λ b p. starts-fit room n s b p h) (λ b p. leads-counts (starts-lead room n (s .clock) (s .counts) (s .timers) b p))
   where
     go : (r : Answer Starts) → ((b : Starts) → r ≡ given b → countsFit (b .counts) ≡ true)
         → ((b : Starts) → r ≡ given b → after n (s .counts) (map started (b .who)) ≡ b .counts) → StepReads n s (afterStarts n s r)
@@ -115,12 +115,12 @@ step-reads n s h = go (starts n s) (λ b p. starts-fit n s b p h) (λ b p. leads
 
 -- ---- a run
 
-run-reads : (n : Net) (last : Float) (k : ℕ) (s : State) → countsFit (s .counts) ≡ true → ReadFit n (s .counts) (entries (run n last k s))
-run-reads n last zero s h = h
-run-reads n last (suc k) s h = below (lt (s .clock) last) (one (step n s) (step-reads n s h) (λ u f. run-reads n last k u f))
+run-reads : (room : ℕ) (n : Net) (last : Float) (k : ℕ) (s : State) → countsFit (s .counts) ≡ true → ReadFit n (s .counts) (entries (run room n last k s))
+run-reads room n last zero s h = h
+run-reads room n last (suc k) s h = below (lt (s .clock) last) (one (step room n s) (step-reads room n s h) (λ u f. run-reads room n last k u f))
   where
-    one : (r : Answer Step) → StepReads n s r → ((u : State) → countsFit (u .counts) ≡ true → ReadFit n (u .counts) (entries (run n last k u)))
-        → ReadFit n (s .counts) (entries (stepped last s r (run n last k)))
+    one : (r : Answer Step) → StepReads n s r → ((u : State) → countsFit (u .counts) ≡ true → ReadFit n (u .counts) (entries (run room n last k u)))
+        → ReadFit n (s .counts) (entries (stepped last s r (run room n last k)))
     one (refused c) w ih = h
     one (given (still b)) w ih = h
     one (given (sets b js u e)) w ih = past (lt last (u .clock)) e (w .event)
@@ -135,15 +135,15 @@ run-reads n last (suc k) s h = below (lt (s .clock) last) (one (step n s) (step-
             (started-on n js (reading (u .clock) ∷ fs) (s .counts) (subst (λ (m : Marking). ReadFit n m (reading (u .clock) ∷ fs)) (sym (w .to)) (w .fit, k)))
 
         past : (c : Bool) (e : Answer Event) → EventReads n u e
-            → ReadFit n (s .counts) (entries (pick c (steps b es (ends reached u)) (concluded b es e (run n last k))))
+            → ReadFit n (s .counts) (entries (pick c (steps b es (ends reached u)) (concluded b es e (run room n last k))))
         past true e v = up-to [] (w .fit)
         past false (refused c) v = up-to [] (w .fit)
         past false (given ev) v =
-            rw (append-assoc es (ev .what) (entries (run n last k (ev .leaves))))
-            (up-to (ev .what ++ entries (run n last k (ev .leaves))) (v .on _ (ih (ev .leaves) (v .fit))))
+            rw (append-assoc es (ev .what) (entries (run room n last k (ev .leaves))))
+            (up-to (ev .what ++ entries (run room n last k (ev .leaves))) (v .on _ (ih (ev .leaves) (v .fit))))
 
-    below : (c : Bool) → ReadFit n (s .counts) (entries (stepped last s (step n s) (run n last k)))
-        → ReadFit n (s .counts) (entries (pick c (stepped last s (step n s) (run n last k)) (ends reached s)))
+    below : (c : Bool) → ReadFit n (s .counts) (entries (stepped last s (step room n s) (run room n last k)))
+        → ReadFit n (s .counts) (entries (pick c (stepped last s (step room n s) (run room n last k)) (ends reached s)))
     below true k = k
     below false k = h
 
@@ -166,4 +166,4 @@ shown-fits n e g xs k a q i p =
     at : (x : Float) → countsFit (shownAt (readable n) (trace (runOf (readable n) g xs k)) x) ≡ true
     at x =
         fit-before (readable n) x (trace (runOf (readable n) g xs k)) (initialCounts (readable n))
-        (first-fit, run-reads (readable n) (lastOf xs) k (beginning (readable n) g) first-fit)
+        (first-fit, run-reads 256 (readable n) (lastOf xs) k (beginning (readable n) g) first-fit)

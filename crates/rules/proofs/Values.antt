@@ -47,5 +47,5 @@ pub nothing-refused : NothingRefused
 nothing-refused n e m h = all-valued m (fit-held m h) (readable n .transitions) (accepted n e .tested)
 
 pub nothing-refused-in-runs : NothingRefusedInRuns
-nothing-refused-in-runs n e g s r b p =
-    nothing-refused n e (b .counts) (starts-fit (readable n) s b p (reached-fit (readable n) (accepted n e) g r))
+nothing-refused-in-runs n e room g s r b p =
+    nothing-refused n e (b .counts) (starts-fit room (readable n) s b p (reached-fit room (readable n) (accepted n e) g r))

@@ -81,10 +81,10 @@ pub record Accepted (n : Net) : Type 0 where
   pub tested : Tested (n .transitions)
   pub initial : countsFit (initialCounts n) ≡ true
 
--- the states in which steps begin, from the beginning of a run on
-pub data Reached (n : Net) (g : Generator) : State → Type 0 where
-  at-first : Reached n g (beginning n g)
-  after-step : {s u : State} {b : Bool} {js : List ℕ} {e : Event} → Reached n g s → step n s ≡ given (sets b js u (given e)) → Reached n g (e .leaves)
+-- the states in which steps begin, from the beginning of a run on, with room for so many timers
+pub data Reached (room : ℕ) (n : Net) (g : Generator) : State → Type 0 where
+  at-first : Reached room n g (beginning n g)
+  after-step : {s u : State} {b : Bool} {js : List ℕ} {e : Event} → Reached room n g s → step room n s ≡ given (sets b js u (given e)) → Reached room n g (e .leaves)
 
 -- x2 is this number over 2 ^ 53, so that it is below 1
 abbrev pub draw : Generator → ℕ
@@ -119,21 +119,21 @@ NeverFailing = (n : Net) → Accepted n → (m : Marking) → countsFit m ≡ tr
 
 -- A step in which j fires, among the steps of the runs from g. In the step `now` is the state when the clock has been set: it has the counts after the
 -- step's starts, and the generator from which x2 is drawn.
-pub record FiredIn (n : Net) (g : Generator) (j : ℕ) : Type 0 where
+pub record FiredIn (room : ℕ) (n : Net) (g : Generator) (j : ℕ) : Type 0 where
   pub begins : State
-  pub reached : Reached n g begins
+  pub reached : Reached room n g begins
   pub rounds : Bool
   pub starters : List ℕ
   pub now : State
   pub event : Event
-  pub steps : step n begins ≡ given (sets rounds starters now (given event))
+  pub steps : step room n begins ≡ given (sets rounds starters now (given event))
   pub fires : event .what ≡ fired j ∷ []
 
 -- each firing in a run's trace is in such a step
 abbrev pub TraceSteps : Type 0
-TraceSteps = (n : Net) (g : Generator) (last : Float) (k j : ℕ) → List·Memᴰ (fired j) (trace (run n last k (beginning n g))) → FiredIn n g j
+TraceSteps = (room : ℕ) (n : Net) (g : Generator) (last : Float) (k j : ℕ) → List·Memᴰ (fired j) (trace (run room n last k (beginning n g))) → FiredIn room n g j
 
 -- And so in a run on any net record without a fault: in every step in which j fires, the rule above holds of j.
 abbrev pub RunIsGillespie : Type 0
-RunIsGillespie = (n : NetRecord) → fault n ≡ none → (g : Generator) (j : ℕ) (f : FiredIn (readable n) g j)
+RunIsGillespie = (n : NetRecord) → fault n ≡ none → (room : ℕ) (g : Generator) (j : ℕ) (f : FiredIn room (readable n) g j)
     → Fires (f .now .generator) (propensities (readable n) (f .now .counts)) j

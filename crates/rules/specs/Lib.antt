@@ -2,8 +2,8 @@ pub mod Enabled
 pub mod Propensity
 pub mod Exact
 pub mod Jump
-pub mod Timers
 pub mod Moves
+pub mod Timers
 pub mod Step
 pub mod Moments
 pub mod Run
@@ -12,3 +12,4 @@ pub mod Values
 pub mod Shown
 pub mod Balance
 pub mod Demand3
+pub mod Tokens

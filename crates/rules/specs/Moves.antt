@@ -1,7 +1,6 @@
 -- What happens in a run, entry by entry, and what each entry does to the counts. Document 01, "The run of demand 3": a start takes
 -- the weight of every input, a completion puts that of every output, a firing does both; "Reads and inhibitors move nothing".
-use Prim.Native.Nat.{ℕ, zero, suc, _+_, _-_}
-use mathlib.Core.Bool.{Bool, true, false}
+use Prim.Native.Nat.{ℕ, _+_, _-_}
 use mathlib.Core.List.{List, [], _∷_, map}
 use lib.ListN.{getD, set}
 use lib.Ieee.{Float}
@@ -26,6 +25,15 @@ taking m (k ∷ ks) = taking (set m (k .place) (held m (k .place) - amount (k .w
 abbrev pub putting : Marking → List Arc → Marking
 putting m [] = m
 putting m (a ∷ rest) = putting (set m (a .place) (held m (a .place) + amount (a .weight))) rest
+
+-- the weight that takes take, and that arcs put, at whatever places
+abbrev pub weightTaken : List Take → ℕ
+weightTaken [] = 0
+weightTaken (k ∷ ks) = amount (k .weight) + weightTaken ks
+
+abbrev pub weightPut : List Arc → ℕ
+weightPut [] = 0
+weightPut (a ∷ rest) = amount (a .weight) + weightPut rest
 
 -- the counts m after an entry, and after several
 abbrev pub move : Net → Marking → Entry → Marking

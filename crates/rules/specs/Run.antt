@@ -1,6 +1,6 @@
--- A whole run, from net, generator state, last instant and step limit. Document 01, "000", "The run of demand 3" and "Added".
+-- A whole run, from net, generator state, last instant and step limit, with room for so many timers. Document 01, "000", "The run of demand 3" and "Added".
 use Prim.Native.Nat.{ℕ, zero, suc, _+_}
-use mathlib.Core.Bool.{Bool, true, false}
+use mathlib.Core.Bool.{Bool}
 use mathlib.Core.List.{List, [], _∷_, _++_, map}
 use lib.Ieee.{Float, lt}
 use Rattle.net.specs.Net.{Net, pick, zero64}
@@ -37,11 +37,11 @@ stepped last s (given (sets b js u e)) onward =
     pick (lt last (u .clock)) (steps b es (ends reached u)) further
 
 -- "steps follow while t is below the last instant and the limit allows": at most k steps from the state s
-abbrev pub run : Net → Float → ℕ → State → Run
-run n last zero s = ends (pick (lt (s .clock) last) spent reached) s
-run n last (suc k) s =
-    let onward = run n last k in
-    let further = stepped last s (step n s) onward in
+abbrev pub run : ℕ → Net → Float → ℕ → State → Run
+run room n last zero s = ends (pick (lt (s .clock) last) spent reached) s
+run room n last (suc k) s =
+    let onward = run room n last k in
+    let further = stepped last s (step room n s) onward in
     pick (lt (s .clock) last) further (ends reached s)
 
 -- ---- what a run shows

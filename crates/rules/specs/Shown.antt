@@ -1,8 +1,8 @@
 -- What a path call shows of its run: counts at the instants, end, steps, settled instants, peak, rounded steps. Document 01, "The run of demand 3",
--- "Added", and refusals 12 and 13 of "Path".
-use Prim.Native.Nat.{ℕ, zero, suc, _+_, max}
+-- "Added" (the peak by document 02, order 2), and refusals 12 and 13 of "Path".
+use Prim.Native.Nat.{ℕ, suc}
 use mathlib.Core.Bool.{Bool, true, false, _&&_, _||_}
-use mathlib.Core.List.{List, [], _∷_, _++_, map}
+use mathlib.Core.List.{List, [], _∷_, map}
 use lib.Dec.{leb}
 use lib.ListN.{length}
 use lib.Ieee.{Float, binary64, ofBits, le}
@@ -11,6 +11,7 @@ use Rattle.net.specs.Net.{Net, Marking, pick, zero64}
 use Rattle.rng.specs.State.{State as Generator}
 use Rattle.rules.specs.Moves.{Entry, reading, started, completed, fired, after, initialCounts}
 use Rattle.rules.specs.Step.{State, Answer, refused, given}
+use Rattle.rules.specs.Moments.{peakOf}
 use Rattle.rules.specs.Run.{End, quiet, spent, reached, Run, Outcome, beginning, run, outcome, stepsOf, roundedOf, trace}
 
 -- ---- the clock first reaches x at the first reading not below it
@@ -46,15 +47,6 @@ settledOf quiet es xs = length xs
 settledOf spent es xs = reachedFrom es xs
 settledOf reached es xs = length xs
 
-abbrev pub sumOf : Marking → ℕ
-sumOf [] = 0
-sumOf (c ∷ cs) = c + sumOf cs
-
--- "the largest sum of the place counts at an instant"
-abbrev pub peakOf : List Marking → ℕ
-peakOf [] = 0
-peakOf (m ∷ ms) = max (sumOf m) (peakOf ms)
-
 -- ---- the path call
 
 -- "12 instants not 1..1,024, not finite, below 0, above 2^31 or falling": each from low on and at most 2^31
@@ -89,20 +81,19 @@ abbrev pub reported : Net → List Float → Run → Answer Outcome → Answer P
 reported n xs r (refused c) = refused c
 reported n xs r (given o) =
     let es = trace r in
-    let ms = map (shownAt n es) xs in
     given (record {
-      shown = ms;
+      shown = map (shownAt n es) xs;
       end = o .end;
       steps = stepsOf r;
       settled = settledOf (o .end) es xs;
-      peak = peakOf ms;
+      peak = peakOf n es;
       rounded = roundedOf r;
       generator = o .left .generator;
     })
 
--- the run of a path call
+-- the run of a path call: "15 a 257th timer would start"
 abbrev pub runOf : Net → Generator → List Float → ℕ → Run
-runOf n g xs k = run n (lastOf xs) k (beginning n g)
+runOf n g xs k = run 256 n (lastOf xs) k (beginning n g)
 
 -- the answer of that run
 abbrev pub worked : Net → Generator → List Float → ℕ → Answer Path

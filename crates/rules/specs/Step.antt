@@ -1,4 +1,5 @@
--- One step of a run. Document 01, "000" ("A step: …") and "The run of demand 3"; refusals 14 and 15 of "Path".
+-- One step of a run. Document 01, "000" ("A step: …") and "The run of demand 3"; refusals 14 and 15 of "Path". `room` is how many timers may run at a
+-- time: 256 in a path call, whose 257th timer is refusal 15.
 use Prim.Native.Nat.{ℕ, zero, suc, _+_, _^_}
 use mathlib.Core.Bool.{Bool, true, false, _&&_}
 use mathlib.Core.List.{List, [], _∷_, _++_}
@@ -16,7 +17,7 @@ use Rattle.rng.specs.Xoshiro.{step as drawn, uniform}
 use Rattle.portable_log.specs.Log.{plog}
 use Rattle.rules.specs.Jump.{chosen}
 use Rattle.rules.specs.Timers.{Timer, timerOf, insert, first, others}
-use Rattle.rules.specs.Moves.{Entry, reading, started, completed, fired, move, taking}
+use Rattle.rules.specs.Moves.{Entry, completed, fired, move, taking}
 
 -- what a step begins with, and what it leaves
 pub record State : Type 0 where
@@ -47,13 +48,13 @@ preceded js (refused c) = refused c
 preceded js (given s) = given (record { who = js ++ s .who; counts = s .counts; timers = s .timers })
 
 -- "A pass goes through the transitions in order and starts each delayed one that is enabled at its turn": those from number j on.
--- 15 if 256 run already.
-abbrev pub pass : Net → Float → ℕ → List Transition → Marking → List Timer → Answer Starts
-pass n t j [] m q = given (record { who = []; counts = m; timers = q })
-pass n t j (this ∷ rest) m q =
-    let skipped = pass n t (suc j) rest m q in
-    let starts = preceded (j ∷ []) (pass n t (suc j) rest (taking m (this .takes)) (insert (timerOf t j this) q)) in
-    let tried = pick (ltb (length q) 256) starts (refused Refusal.tooManyTimers) in
+-- A start sets a timer to t + delay; 15 if the timers that run already leave no room.
+abbrev pub pass : ℕ → Net → Float → ℕ → List Transition → Marking → List Timer → Answer Starts
+pass room n t j [] m q = given (record { who = []; counts = m; timers = q })
+pass room n t j (this ∷ rest) m q =
+    let skipped = pass room n t (suc j) rest m q in
+    let starts = preceded (j ∷ []) (pass room n t (suc j) rest (taking m (this .takes)) (insert (timerOf t j this) q)) in
+    let tried = pick (ltb (length q) room) starts (refused Refusal.tooManyTimers) in
     pick (timed this && enabled n m this) tried skipped
 
 abbrev pub nobody : List ℕ → Bool
@@ -67,15 +68,16 @@ unlessNone again (given s) =
     let more = preceded (s .who) (again (s .counts) (s .timers)) in
     pick (nobody (s .who)) (given s) more
 
-abbrev pub passes : ℕ → Net → Float → Marking → List Timer → Answer Starts
-passes zero n t m q = given (record { who = []; counts = m; timers = q })
-passes (suc k) n t m q =
-    let again = passes k n t in
-    unlessNone again (pass n t 0 (n .transitions) m q)
+-- at most k passes
+abbrev pub passes : ℕ → ℕ → Net → Float → Marking → List Timer → Answer Starts
+passes zero room n t m q = given (record { who = []; counts = m; timers = q })
+passes (suc k) room n t m q =
+    let again = passes k room n t in
+    unlessNone again (pass room n t 0 (n .transitions) m q)
 
--- 257 passes are enough: each but the last starts a timer, and at most 256 run (proofs/Detours, starts-done)
-abbrev pub starts : Net → State → Answer Starts
-starts n s = passes 257 n (s .clock) (s .counts) (s .timers)
+-- room + 1 passes are enough: each but the last starts a timer, and at most room run (proofs/Detours, starts-done)
+abbrev pub starts : ℕ → Net → State → Answer Starts
+starts room n s = passes (suc room) room n (s .clock) (s .counts) (s .timers)
 
 -- ---- what comes next
 
@@ -160,5 +162,5 @@ afterStarts n s (given b) =
     let u = state (s .clock) (b .counts) (b .timers) (drawnFor a0 (s .generator)) in
     given (goOn n (addsRounded n (b .counts)) (b .who) u a0 xs (next a0 (s .clock) (waiting a0 (s .generator)) (b .timers)))
 
-abbrev pub step : Net → State → Answer Step
-step n s = afterStarts n s (starts n s)
+abbrev pub step : ℕ → Net → State → Answer Step
+step room n s = afterStarts n s (starts room n s)

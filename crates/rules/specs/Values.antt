@@ -38,5 +38,5 @@ NothingRefused = (n : NetRecord) → fault n ≡ none → (m : Marking) → coun
 
 -- 4 keeps an initial count at 2^53 or less, and 14 every later one: b has the counts after a step's starts
 abbrev pub NothingRefusedInRuns : Type 0
-NothingRefusedInRuns = (n : NetRecord) → fault n ≡ none → (g : Generator) (s : State) → Reached (readable n) g s → (b : Starts) → starts (readable n) s ≡ given b
+NothingRefusedInRuns = (n : NetRecord) → fault n ≡ none → (room : ℕ) (g : Generator) (s : State) → Reached room (readable n) g s → (b : Starts) → starts room (readable n) s ≡ given b
     → AllValued (b .counts) (readable n .transitions)

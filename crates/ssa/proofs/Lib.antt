@@ -1,4 +1,6 @@
 pub mod TimerList
+pub mod Light
+pub mod Tokens
 pub mod Passes
 pub mod Cells
 pub mod Playing

@@ -9,13 +9,13 @@ use native.Mathlib.Numerals.{add-one}
 use borrow.Author.Tests.{lt-ltb, le-ltb}
 use lib.Dec.{ltb}
 use lib.ListN.{length, getD, take}
-use lib.Ieee.{Float, nan, binary64, ofBits, add, lt}
+use lib.Ieee.{Float, nan, ofBits, lt}
 use Rattle.refusals.specs as Refusal
 use Rattle.net.specs.declared.Net.{Net as NetRecord}
 use Rattle.net.specs.Net.{Transition, Net, Marking, pick, zero64, timed}
 use Rattle.net.specs.Readable.{readable, transition, transitionsFrom}
 use Rattle.rules.specs.Enabled.{enabled}
-use Rattle.rules.specs.Timers.{Timer, insert}
+use Rattle.rules.specs.Timers.{Timer, timerOf, insert}
 use Rattle.rules.specs.Moves.{taking}
 use Rattle.rules.specs.Step.{Answer, refused, given, Starts, preceded, pass, nobody, unlessNone, passes}
 use Rattle.ssa.specs.declared.starts.Started.{Started}
@@ -81,7 +81,7 @@ module _ {whole rest : Answer Starts} {any : Bool} (s : SoFar whole rest any) wh
       (nobody-append (s .who) who ∙ neither (nobody (s .who)) (nobody who) any false (s .none) quiet ∙ ap not (or-false any))
 
   module _ {one : Answer Starts} {m : Marking} {q : List Timer} {r : Started} where
-    -- 256 timers run already
+    -- there is no room for another timer
     so-full : (again : Answer Starts → Answer Starts) (m′ : Marking) (q′ : List Timer) → StartsAre one m q r → rest ≡ again one
         → again (refused Refusal.tooManyTimers) ≡ refused Refusal.tooManyTimers → r .full ≡ true → StartsAre whole m′ q′ r
     so-full again m′ q′ (full f p) e id y = full y (s .so ∙ ap (preceded (s .who)) (e ∙ ap again p ∙ id))
@@ -128,74 +128,74 @@ module _ {whole rest : Answer Starts} {any : Bool} (s : SoFar whole rest any) wh
 
 -- these timers with that of transition j, which starts at t
 abbrev pub withTimer : Float → ℕ → Transition → List Timer → List Timer
-withTimer t j x q = insert (record { at = add binary64 t (x .delay); who = j }) q
+withTimer t j x q = insert (timerOf t j x) q
 
-module _ (n : Net) (t : Float) (j : ℕ) (x : Transition) (m : Marking) (q : List Timer) where
+module _ (room : ℕ) (n : Net) (t : Float) (j : ℕ) (x : Transition) (m : Marking) (q : List Timer) where
   -- what it does at its turn, by the tests that it is timed and enabled, and that there is room for a timer
   abbrev tried : Bool → Bool → Answer Starts
-  tried on room = pick on (pick room (left (j ∷ []) (taking m (x .takes)) (withTimer t j x q)) (refused Refusal.tooManyTimers)) (left [] m q)
+  tried on free = pick on (pick free (left (j ∷ []) (taking m (x .takes)) (withTimer t j x q)) (refused Refusal.tooManyTimers)) (left [] m q)
 
-  try-is : (on room : Bool) → (timed x && enabled n m x) ≡ on → ltb (length q) 256 ≡ room → pass n t j (x ∷ []) m q ≡ tried on room
-  try-is on room e f = rw (e, f)
+  try-is : (on free : Bool) → (timed x && enabled n m x) ≡ on → ltb (length q) room ≡ free → pass room n t j (x ∷ []) m q ≡ tried on free
+  try-is on free e f = rw (e, f)
 
-  pub try-untimed : timed x ≡ false → pass n t j (x ∷ []) m q ≡ left [] m q
-  try-untimed d = try-is false (ltb (length q) 256) (rw d) refl
+  pub try-untimed : timed x ≡ false → pass room n t j (x ∷ []) m q ≡ left [] m q
+  try-untimed d = try-is false (ltb (length q) room) (rw d) refl
 
-  pub try-disabled : enabled n m x ≡ false → pass n t j (x ∷ []) m q ≡ left [] m q
-  try-disabled e = try-is false (ltb (length q) 256) (and-off (timed x) (enabled n m x) e) refl
+  pub try-disabled : enabled n m x ≡ false → pass room n t j (x ∷ []) m q ≡ left [] m q
+  try-disabled e = try-is false (ltb (length q) room) (and-off (timed x) (enabled n m x) e) refl
 
-  pub try-full : timed x ≡ true → enabled n m x ≡ true → 256 ≤ length q → pass n t j (x ∷ []) m q ≡ refused Refusal.tooManyTimers
-  try-full d e h = try-is true false (rw (d, e)) (le-ltb (length q) 256 h)
+  pub try-full : timed x ≡ true → enabled n m x ≡ true → room ≤ length q → pass room n t j (x ∷ []) m q ≡ refused Refusal.tooManyTimers
+  try-full d e h = try-is true false (rw (d, e)) (le-ltb (length q) room h)
 
-  pub try-on : (m′ : Marking) (q′ : List Timer) → timed x ≡ true → enabled n m x ≡ true → length q < 256
-      → m′ ≡ taking m (x .takes) → q′ ≡ withTimer t j x q → pass n t j (x ∷ []) m q ≡ left (j ∷ []) m′ q′
-  try-on m′ q′ d e h f g = rw (f, g) (try-is true true (rw (d, e)) (lt-ltb (length q) 256 h))
+  pub try-on : (m′ : Marking) (q′ : List Timer) → timed x ≡ true → enabled n m x ≡ true → length q < room
+      → m′ ≡ taking m (x .takes) → q′ ≡ withTimer t j x q → pass room n t j (x ∷ []) m q ≡ left (j ∷ []) m′ q′
+  try-on m′ q′ d e h f g = rw (f, g) (try-is true true (rw (d, e)) (lt-ltb (length q) room h))
 
   -- a pass that begins with it
-  pass-next : (xs : List Transition) → pass n t j (x ∷ xs) m q ≡ onward (pass n t (suc j) xs) (pass n t j (x ∷ []) m q)
-  pass-next xs = go (timed x && enabled n m x) (ltb (length q) 256)
+  pass-next : (xs : List Transition) → pass room n t j (x ∷ xs) m q ≡ onward (pass room n t (suc j) xs) (pass room n t j (x ∷ []) m q)
+  pass-next xs = go (timed x && enabled n m x) (ltb (length q) room)
     where
-      go : (on room : Bool)
-          → pick on (pick room (preceded (j ∷ []) (pass n t (suc j) xs (taking m (x .takes)) (withTimer t j x q))) (refused Refusal.tooManyTimers))
-          (pass n t (suc j) xs m q)
-          ≡ onward (pass n t (suc j) xs) (tried on room)
+      go : (on free : Bool)
+          → pick on (pick free (preceded (j ∷ []) (pass room n t (suc j) xs (taking m (x .takes)) (withTimer t j x q))) (refused Refusal.tooManyTimers))
+          (pass room n t (suc j) xs m q)
+          ≡ onward (pass room n t (suc j) xs) (tried on free)
       go true true = refl
       go true false = refl
-      go false room = sym (preceded-none (pass n t (suc j) xs m q))
+      go false free = sym (preceded-none (pass room n t (suc j) xs m q))
 
 -- ---- a pass
 
 -- the part of a pass from transition j on
-pub passFrom : NetRecord → Float → ℕ → Marking → List Timer → Answer Starts
-passFrom n t j m q = pass (readable n) t j (transitionsFrom n j (n .transitions - j)) m q
+pub passFrom : ℕ → NetRecord → Float → ℕ → Marking → List Timer → Answer Starts
+passFrom room n t j m q = pass room (readable n) t j (transitionsFrom n j (n .transitions - j)) m q
 
-module _ (n : NetRecord) (t : Float) (m : Marking) (q : List Timer) where
-  pub from-first : passFrom n t 0 m q ≡ pass (readable n) t 0 (readable n .transitions) m q
+module _ (room : ℕ) (n : NetRecord) (t : Float) (m : Marking) (q : List Timer) where
+  pub from-first : passFrom room n t 0 m q ≡ pass room (readable n) t 0 (readable n .transitions) m q
   unfolding passFrom
-  from-first = let e : n .transitions - 0 ≡ n .transitions = omega arith in ap (λ (k : ℕ). pass (readable n) t 0 (transitionsFrom n 0 k) m q) e
+  from-first = let e : n .transitions - 0 ≡ n .transitions = omega arith in ap (λ (k : ℕ). pass room (readable n) t 0 (transitionsFrom n 0 k) m q) e
 
   pub from-next : (j : ℕ) → j < n .transitions
-      → passFrom n t j m q ≡ onward (passFrom n t (j + 1)) (pass (readable n) t j (transition n j ∷ []) m q)
+      → passFrom room n t j m q ≡ onward (passFrom room n t (j + 1)) (pass room (readable n) t j (transition n j ∷ []) m q)
   unfolding passFrom
   from-next j h =
       let e : n .transitions - j ≡ suc (n .transitions - (j + 1)) = omega arith in
-      ap (λ (k : ℕ). pass (readable n) t j (transitionsFrom n j k) m q) e
-      ∙ pass-next (readable n) t j (transition n j) m q (transitionsFrom n (suc j) (n .transitions - (j + 1)))
-      ∙ ap (λ (i : ℕ). onward (λ m q. pass (readable n) t i (transitionsFrom n i (n .transitions - (j + 1))) m q) (pass (readable n) t j (transition n j ∷ []) m q))
+      ap (λ (k : ℕ). pass room (readable n) t j (transitionsFrom n j k) m q) e
+      ∙ pass-next room (readable n) t j (transition n j) m q (transitionsFrom n (suc j) (n .transitions - (j + 1)))
+      ∙ ap (λ (i : ℕ). onward (λ m q. pass room (readable n) t i (transitionsFrom n i (n .transitions - (j + 1))) m q) (pass room (readable n) t j (transition n j ∷ []) m q))
       (sym (add-one j))
 
-  pub from-end : (j : ℕ) → n .transitions ≤ j → passFrom n t j m q ≡ left [] m q
+  pub from-end : (j : ℕ) → n .transitions ≤ j → passFrom room n t j m q ≡ left [] m q
   unfolding passFrom
-  from-end j h = let e : n .transitions - j ≡ 0 = omega arith in ap (λ (k : ℕ). pass (readable n) t j (transitionsFrom n j k) m q) e
+  from-end j h = let e : n .transitions - j ≡ 0 = omega arith in ap (λ (k : ℕ). pass room (readable n) t j (transitionsFrom n j k) m q) e
 
 -- ---- passes
 
-pub passes-next : (n : Net) (t : Float) (m : Marking) (q : List Timer) (all i : ℕ) → i < all
-    → passes (all - i) n t m q ≡ unlessNone (passes (all - (i + 1)) n t) (pass n t 0 (n .transitions) m q)
-passes-next n t m q all i h = let e : all - i ≡ suc (all - (i + 1)) = omega arith in ap (λ (k : ℕ). passes k n t m q) e
+pub passes-next : (room : ℕ) (n : Net) (t : Float) (m : Marking) (q : List Timer) (all i : ℕ) → i < all
+    → passes (all - i) room n t m q ≡ unlessNone (passes (all - (i + 1)) room n t) (pass room n t 0 (n .transitions) m q)
+passes-next room n t m q all i h = let e : all - i ≡ suc (all - (i + 1)) = omega arith in ap (λ (k : ℕ). passes k room n t m q) e
 
-pub passes-end : (n : Net) (t : Float) (m : Marking) (q : List Timer) (all i : ℕ) → all ≤ i → passes (all - i) n t m q ≡ left [] m q
-passes-end n t m q all i h = let e : all - i ≡ 0 = omega arith in ap (λ (k : ℕ). passes k n t m q) e
+pub passes-end : (room : ℕ) (n : Net) (t : Float) (m : Marking) (q : List Timer) (all i : ℕ) → all ≤ i → passes (all - i) room n t m q ≡ left [] m q
+passes-end room n t m q all i h = let e : all - i ≡ 0 = omega arith in ap (λ (k : ℕ). passes k room n t m q) e
 
 -- ---- where no transition is delayed
 
@@ -220,14 +220,14 @@ none-above (suc k) [] e j h = not-above
 none-above (suc k) (d ∷ ds) e zero h = or-left (lt zero64 d) (someAbove (take k ds)) e
 none-above (suc k) (d ∷ ds) e (suc j) h = none-above k ds (or-right (lt zero64 d) (someAbove (take k ds)) e) j (omega arith)
 
-module _ (n : NetRecord) (t : Float) (m : Marking) (q : List Timer) where
-  quiet-from : (k j : ℕ) → ((i : ℕ) → i < j + k → lt zero64 (getD (n .delay) i nan) ≡ false) → pass (readable n) t j (transitionsFrom n j k) m q ≡ left [] m q
+module _ (room : ℕ) (n : NetRecord) (t : Float) (m : Marking) (q : List Timer) where
+  quiet-from : (k j : ℕ) → ((i : ℕ) → i < j + k → lt zero64 (getD (n .delay) i nan) ≡ false) → pass room (readable n) t j (transitionsFrom n j k) m q ≡ left [] m q
   quiet-from zero j h = refl
   quiet-from (suc k) j h =
       let off : lt zero64 (getD (n .delay) j nan) ≡ false = h j (omega arith) in
       rw off (quiet-from k (suc j) (λ i l. h i (omega arith)))
 
-  pub passes-quiet : (k : ℕ) → someAbove (take (n .transitions) (n .delay)) ≡ false → passes (suc k) (readable n) t m q ≡ left [] m q
+  pub passes-quiet : (k : ℕ) → someAbove (take (n .transitions) (n .delay)) ≡ false → passes (suc k) room (readable n) t m q ≡ left [] m q
   passes-quiet k e =
-      ap (unlessNone (passes k (readable n) t))
+      ap (unlessNone (passes k room (readable n) t))
       (quiet-from (n .transitions) 0 (λ i l. none-above (n .transitions) (n .delay) e i (omega arith)))

@@ -1,72 +1,50 @@
 -- What the parts of a step leave, in the rules' words: a completion, a race, and the starts up to the new clock reading. The transition that a number
 -- names is that of the record, or one without arcs. Assumes nothing.
-use Prim.Native.Nat.{ℕ, zero, suc, _+_, _-_, _≤_, _<_}
+use Prim.Native.Nat.{ℕ, _+_, _-_, _≤_, _<_, max}
 use mathlib.Core.Path.{_≡_, refl, sym, ap, _∙_, subst}
 use mathlib.Core.Bool.{Bool, true, false, true≢false}
 use mathlib.Core.List.{List, [], _∷_}
 use mathlib.Core.Option.{Option, none, some}
-use native.Mathlib.Nat.{not-suc-le-zero, le-of-suc-le-suc}
 use native.Mathlib.Omega.{arith}
-use lib.ListN.{length, getD, take}
+use lib.ListN.{length, take}
 use lib.Ieee.{Float, binary64, add, mul, lt, le}
 use Rattle.refusals.specs as Refusal
 use Rattle.net.specs.declared.Net.{Net as NetRecord}
 use Rattle.net.specs.Net.{Transition, Net, Marking, pick, zero64}
-use Rattle.net.specs.Readable as Record
-use Rattle.net.specs.Readable.{readable, transitionsFrom, slotsOf, takesOf, arcsOf, isPut}
+use Rattle.net.specs.Readable.{readable, slotsOf, takesOf, arcsOf, isPut}
 use Rattle.rng.specs.State.{State as Generator, words}
 use Rattle.rng.specs.Xoshiro.{step as drawn, uniform}
 use Rattle.rules.specs.Jump.{chosen}
-use Rattle.rules.specs.Moves.{Entry, completed, fired, withoutArcs, transition, taking, putting, move}
+use Rattle.rules.specs.Moves.{Entry, completed, fired, transition, taking, putting, move}
 use Rattle.rules.specs.Propensity.{propensities, total}
+use Rattle.rules.specs.Moments.{takenByTimers}
 use Rattle.rules.specs.Exact.{addsRounded}
 use Rattle.rules.specs.Timers.{Timer, first, others}
 use Rattle.rules.specs.Step.{State, state, Answer, refused, given, starts, waiting, drawnFor, Next, nothingLeft, race, completion, next, Event, countsFit, event, complete, fire, raced, Step, still, sets, goOn, afterStarts, step}
+use Rattle.rules.proofs.Counts.{once-each}
+use Rattle.rules.proofs.Allowing.{StepGood, step-good}
+use Rattle.rules.proofs.Peaks.{sets-tokens}
 use Rattle.rules.proofs.Detours.{still-same, not-drawn}
 use Rattle.ssa.specs.declared.timers.Timer.{Timer as TimerStruct}
 use Rattle.ssa.specs.declared.starts.Started.{Started}
 use Rattle.ssa.specs.declared.step.Ending.the-variants.{GoesOn, Reached, Refused}
 use Rattle.ssa.specs.declared.step.Due.{Due}
 use Rattle.ssa.specs.declared.step.Due.the-variants.{Nothing, Event as Follows, Full}
-use Rattle.engine.specs.Engine.{marking, Counts, PutBy, Totalled}
-use Rattle.ssa.specs.TimerArrays.{timers, timerOf}
+use Rattle.engine.specs.Engine.{Tidy, marking, Counts, PutBy, Totalled}
+use Rattle.ssa.specs.TimerArrays.{held, timers, timerOf}
 use Rattle.ssa.specs.Starts.{StartsAre, full, done}
 use Rattle.ssa.specs.Stepping as Stepping
-use Rattle.ssa.specs.Stepping.{stateOf, eventOf, AdvancedBy, EventBy, happens, tooLarge, StepBy}
+use Rattle.ssa.specs.Stepping.{stateOf, tokensOf, eventOf, AdvancedBy, EventBy, happens, tooLarge, StepBy}
 use Rattle.engine.proofs.Marks.{fit-all}
 use Rattle.ssa.proofs.TimerList.{length-timers}
-
--- ---- the transition of a number
-
-module _ (n : NetRecord) where
-  at : (k i j : ℕ) → j < k → getD (transitionsFrom n i k) j withoutArcs ≡ Record.transition n (i + j)
-  at zero i j h = absurd (not-suc-le-zero h)
-  at (suc k) i zero h =
-      let e : i ≡ i + 0 = omega arith in
-      ap (λ (x : ℕ). Record.transition n x) e
-  at (suc k) i (suc j) h =
-      let e : suc i + j ≡ i + suc j = omega arith in
-      at k (suc i) j (le-of-suc-le-suc h) ∙ ap (λ (x : ℕ). Record.transition n x) e
-
-  past : (k i j : ℕ) → k ≤ j → getD (transitionsFrom n i k) j withoutArcs ≡ withoutArcs
-  past zero i j h = refl
-  past (suc k) i zero h = absurd (not-suc-le-zero h)
-  past (suc k) i (suc j) h = past k (suc i) j (le-of-suc-le-suc h)
-
-  pub transition-at : (j : ℕ) → j < n .transitions → transition (readable n) j ≡ Record.transition n j
-  transition-at j h =
-      let e : 0 + j ≡ j = omega arith in
-      at (n .transitions) 0 j h ∙ ap (λ (x : ℕ). Record.transition n x) e
-
-  pub transition-past : (j : ℕ) → n .transitions ≤ j → transition (readable n) j ≡ withoutArcs
-  transition-past j h = past (n .transitions) 0 j h
+use Rattle.ssa.proofs.Tokens.{transition-at, transition-past, taken-first}
 
 -- ---- events
 
 -- an event whose counts a put has found
-event-by : (n : Net) (s : State) (e : Entry) (q : List Timer) (g : Generator) (fits : Bool) (found : Marking) (u : State)
-    → PutBy fits (move n (s .counts) e) found → state (s .clock) found q g ≡ u → EventBy (event n s e q g) u fits
-event-by n s e q g fits found u p h = go fits (p .says) (p .gives)
+event-by : (n : Net) (s : State) (e : Entry) (q : List Timer) (g : Generator) (fits : Bool) (found : Marking) (u : State) (many : ℕ)
+    → PutBy fits (move n (s .counts) e) found → state (s .clock) found q g ≡ u → (fits ≡ true → many ≡ tokensOf u) → EventBy (event n s e q g) u many fits
+event-by n s e q g fits found u many p h all = go fits (p .says) (p .gives) all
   where
     m : Marking
     m = move n (s .counts) e
@@ -74,88 +52,108 @@ event-by n s e q g fits found u p h = go fits (p .says) (p .gives)
     this : Event
     this = record { what = e ∷ []; leaves = state (s .clock) m q g }
 
-    go : (b : Bool) → b ≡ countsFit m → (b ≡ true → found ≡ m) → EventBy (event n s e q g) u b
-    go true says gives =
+    go : (b : Bool) → b ≡ countsFit m → (b ≡ true → found ≡ m) → (b ≡ true → many ≡ tokensOf u) → EventBy (event n s e q g) u many b
+    go true says gives all =
         happens this (ap (λ (c : Bool). pick c (given this) (refused Refusal.countTooLarge)) (sym says))
-        (ap (λ (x : Marking). state (s .clock) x q g) (sym (gives refl)) ∙ h)
-    go false says gives = tooLarge (ap (λ (c : Bool). pick c (given this) (refused Refusal.countTooLarge)) (sym says))
+        (ap (λ (x : Marking). state (s .clock) x q g) (sym (gives refl)) ∙ h) (all refl)
+    go false says gives all = tooLarge (ap (λ (c : Bool). pick c (given this) (refused Refusal.countTooLarge)) (sym says))
 
 -- nothing is put
 put-none : (places : ℕ) (counts : List ℕ) → Counts counts → PutBy true (marking places counts) (marking places counts)
 put-none places counts h = record { says = sym (fit-all places counts (h .small)); gives = λ t. refl }
 
-module _ (n : NetRecord) (counts : List ℕ) (ats ats′ : List Float) (whos whos′ : List ℕ) (k : ℕ) (t : Float) (ws : List ℕ) (x : TimerStruct)
-    (f : timerOf x ≡ first (timers ats whos k)) (o : timers ats′ whos′ (k - 1) ≡ others (timers ats whos k)) where
-  completes : (counts′ : List ℕ) (r : Bool) → PutBy r (putting (marking (n .places) counts) (transition (readable n) (x .who) .puts)) (marking (n .places) counts′)
-      → EventBy (complete (readable n) (stateOf n counts ats whos k t ws)) (stateOf n counts′ ats′ whos′ (k - 1) t ws) r
-  completes counts′ r p =
-      event-by (readable n) (stateOf n counts ats whos k t ws) (completed (first (timers ats whos k) .who)) (others (timers ats whos k)) (words ws) r
-      (marking (n .places) counts′) (stateOf n counts′ ats′ whos′ (k - 1) t ws)
+-- a completion: the first timer x leaves, and its transition puts
+module _ (n : NetRecord) (counts : List ℕ) (ats ats′ : List Float) (owners owners′ : List ℕ) (k : ℕ) (t : Float) (ws : List ℕ) (x : TimerStruct)
+    (f : timerOf x ≡ first (timers ats owners k)) (o : timers ats′ owners′ (k - 1) ≡ others (timers ats owners k)) where
+  abbrev from : State
+  from = stateOf n counts ats owners k t ws
+
+  abbrev to : List ℕ → State
+  to counts′ = stateOf n counts′ ats′ owners′ (k - 1) t ws
+
+  -- the tokens once it has left
+  pub timer-left : 0 < k → tokensOf from ≡ tokensOf (to counts) + x .taken
+  timer-left h =
+      let q : List Timer = timers ats owners k in
+      let one : takenByTimers q ≡ first q .taken + takenByTimers (others q) = taken-first q (omega (arith, length-timers (held ats owners) 0 k)) in
+      omega (arith, one, ap (λ (y : Timer). y .taken) f, ap takenByTimers o)
+
+  completes : (counts′ : List ℕ) (r : Bool) (many : ℕ)
+      → PutBy r (putting (marking (n .places) counts) (transition (readable n) (x .who) .puts)) (marking (n .places) counts′)
+      → (r ≡ true → many ≡ tokensOf (to counts′)) → EventBy (complete (readable n) from) (to counts′) many r
+  completes counts′ r many p all =
+      event-by (readable n) from (completed (first (timers ats owners k) .who)) (others (timers ats owners k)) (words ws) r
+      (marking (n .places) counts′) (to counts′) many
       (subst (λ (j : ℕ). PutBy r (putting (marking (n .places) counts) (transition (readable n) j .puts)) (marking (n .places) counts′)) (ap (λ (y : Timer). y .who) f) p)
-      (ap (λ (q : List Timer). state t (marking (n .places) counts′) q (words ws)) (sym o))
+      (ap (λ (q : List Timer). state t (marking (n .places) counts′) q (words ws)) (sym o)) all
 
-  pub complete-at : (counts′ : List ℕ) (r : Bool) → x .who < n .transitions
+  pub complete-at : (counts′ : List ℕ) (r : Bool) (many : ℕ) → x .who < n .transitions
       → PutBy r (putting (marking (n .places) counts) (arcsOf isPut (slotsOf n (x .who)))) (marking (n .places) counts′)
-      → EventBy (complete (readable n) (stateOf n counts ats whos k t ws)) (stateOf n counts′ ats′ whos′ (k - 1) t ws) r
-  complete-at counts′ r h p =
-      completes counts′ r
+      → (r ≡ true → many ≡ tokensOf (to counts′)) → EventBy (complete (readable n) from) (to counts′) many r
+  complete-at counts′ r many h p all =
+      completes counts′ r many
       (subst (λ (y : Transition). PutBy r (putting (marking (n .places) counts) (y .puts)) (marking (n .places) counts′)) (sym (transition-at n (x .who) h)) p)
+      all
 
-  pub complete-past : n .transitions ≤ x .who → Counts counts
-      → EventBy (complete (readable n) (stateOf n counts ats whos k t ws)) (stateOf n counts ats′ whos′ (k - 1) t ws) true
-  complete-past h c =
-      completes counts true
+  pub complete-past : (many : ℕ) → n .transitions ≤ x .who → Counts counts → many ≡ tokensOf (to counts) → EventBy (complete (readable n) from) (to counts) many true
+  complete-past many h c all =
+      completes counts true many
       (subst (λ (y : Transition). PutBy true (putting (marking (n .places) counts) (y .puts)) (marking (n .places) counts)) (sym (transition-past n (x .who) h))
       (put-none (n .places) counts c))
+      (λ e. all)
 
-module _ (n : NetRecord) (counts : List ℕ) (ats : List Float) (whos : List ℕ) (k : ℕ) (t a0 : Float) (ws ws′ : List ℕ) (xs : List Float) (x : Float) (o : Option ℕ)
+-- a race: the draw x chooses o
+module _ (n : NetRecord) (counts : List ℕ) (ats : List Float) (owners : List ℕ) (k : ℕ) (t a0 : Float) (ws ws′ : List ℕ) (xs : List Float) (x : Float) (o : Option ℕ)
     (value : x ≡ uniform (words ws)) (draws : words ws′ ≡ drawn (words ws)) (choice : o ≡ chosen (mul binary64 x a0) xs) where
-  races : (u : State) (r : Bool) → EventBy (fire (readable n) (stateOf n counts ats whos k t ws′) o) u r
-      → EventBy (raced (readable n) (stateOf n counts ats whos k t ws) a0 xs) u r
-  races u r e =
-      subst (λ (a : Answer Event). EventBy a u r)
-      (ap (λ (g : Generator). fire (readable n) (state t (marking (n .places) counts) (timers ats whos k) g) o) draws
-      ∙ ap (λ (c : Option ℕ). fire (readable n) (state t (marking (n .places) counts) (timers ats whos k) (drawn (words ws))) c)
+  abbrev after : List ℕ → State
+  after counts′ = stateOf n counts′ ats owners k t ws′
+
+  races : (u : State) (many : ℕ) (r : Bool) → EventBy (fire (readable n) (after counts) o) u many r
+      → EventBy (raced (readable n) (stateOf n counts ats owners k t ws) a0 xs) u many r
+  races u many r e =
+      subst (λ (a : Answer Event). EventBy a u many r)
+      (ap (λ (g : Generator). fire (readable n) (state t (marking (n .places) counts) (timers ats owners k) g) o) draws
+      ∙ ap (λ (c : Option ℕ). fire (readable n) (state t (marking (n .places) counts) (timers ats owners k) (drawn (words ws))) c)
       (choice ∙ ap (λ (y : Float). chosen (mul binary64 y a0) xs) value))
       e
 
-  pub race-none : o ≡ none → EventBy (raced (readable n) (stateOf n counts ats whos k t ws) a0 xs) (stateOf n counts ats whos k t ws′) true
-  race-none h =
-      races (stateOf n counts ats whos k t ws′) true
-      (happens (record { what = []; leaves = stateOf n counts ats whos k t ws′ }) (ap (λ (c : Option ℕ). fire (readable n) (stateOf n counts ats whos k t ws′) c) h) refl)
+  pub race-none : (many : ℕ) → o ≡ none → many ≡ tokensOf (after counts)
+      → EventBy (raced (readable n) (stateOf n counts ats owners k t ws) a0 xs) (after counts) many true
+  race-none many h all =
+      races (after counts) many true
+      (happens (record { what = []; leaves = after counts }) (ap (λ (c : Option ℕ). fire (readable n) (after counts) c) h) refl all)
 
   module _ (j : ℕ) (h : o ≡ some j) where
-    fires : (counts′ : List ℕ) (r : Bool) → PutBy r (move (readable n) (marking (n .places) counts) (fired j)) (marking (n .places) counts′)
-        → EventBy (raced (readable n) (stateOf n counts ats whos k t ws) a0 xs) (stateOf n counts′ ats whos k t ws′) r
-    fires counts′ r p =
-        races (stateOf n counts′ ats whos k t ws′) r
-        (subst (λ (c : Option ℕ). EventBy (fire (readable n) (stateOf n counts ats whos k t ws′) c) (stateOf n counts′ ats whos k t ws′) r) (sym h)
-        (event-by (readable n) (stateOf n counts ats whos k t ws′) (fired j) (timers ats whos k) (words ws′) r (marking (n .places) counts′)
-        (stateOf n counts′ ats whos k t ws′) p refl))
+    fires : (counts′ : List ℕ) (many : ℕ) (r : Bool) → PutBy r (move (readable n) (marking (n .places) counts) (fired j)) (marking (n .places) counts′)
+        → (r ≡ true → many ≡ tokensOf (after counts′)) → EventBy (raced (readable n) (stateOf n counts ats owners k t ws) a0 xs) (after counts′) many r
+    fires counts′ many r p all =
+        races (after counts′) many r
+        (subst (λ (c : Option ℕ). EventBy (fire (readable n) (after counts) c) (after counts′) many r) (sym h)
+        (event-by (readable n) (after counts) (fired j) (timers ats owners k) (words ws′) r (marking (n .places) counts′) (after counts′) many p refl all))
 
-    pub race-at : j < n .transitions → (counts₁ counts′ : List ℕ) (r : Bool)
-        → marking (n .places) counts₁ ≡ taking (marking (n .places) counts) (takesOf (slotsOf n j))
-        → PutBy r (putting (marking (n .places) counts₁) (arcsOf isPut (slotsOf n j))) (marking (n .places) counts′)
-        → EventBy (raced (readable n) (stateOf n counts ats whos k t ws) a0 xs) (stateOf n counts′ ats whos k t ws′) r
-    race-at i counts₁ counts′ r takes p =
-        fires counts′ r
-        (subst (λ (y : Transition). PutBy r (putting (taking (marking (n .places) counts) (y .takes)) (y .puts)) (marking (n .places) counts′)) (sym (transition-at n j i))
-        (subst (λ (m : Marking). PutBy r (putting m (arcsOf isPut (slotsOf n j))) (marking (n .places) counts′)) takes p))
+    pub race-at : j < n .transitions → (counts′ : List ℕ) (many : ℕ) (r : Bool)
+        → PutBy r (putting (taking (marking (n .places) counts) (takesOf (slotsOf n j))) (arcsOf isPut (slotsOf n j))) (marking (n .places) counts′)
+        → (r ≡ true → many ≡ tokensOf (after counts′)) → EventBy (raced (readable n) (stateOf n counts ats owners k t ws) a0 xs) (after counts′) many r
+    race-at i counts′ many r p all =
+        fires counts′ many r
+        (subst (λ (y : Transition). PutBy r (putting (taking (marking (n .places) counts) (y .takes)) (y .puts)) (marking (n .places) counts′)) (sym (transition-at n j i)) p)
+        all
 
-    pub race-past : n .transitions ≤ j → Counts counts
-        → EventBy (raced (readable n) (stateOf n counts ats whos k t ws) a0 xs) (stateOf n counts ats whos k t ws′) true
-    race-past i c =
-        fires counts true
+    pub race-past : (many : ℕ) → n .transitions ≤ j → Counts counts → many ≡ tokensOf (after counts)
+        → EventBy (raced (readable n) (stateOf n counts ats owners k t ws) a0 xs) (after counts) many true
+    race-past many i c all =
+        fires counts many true
         (subst (λ (y : Transition). PutBy true (putting (taking (marking (n .places) counts) (y .takes)) (y .puts)) (marking (n .places) counts)) (sym (transition-past n j i))
         (put-none (n .places) counts c))
+        (λ e. all)
 
 -- which of the two it is
-module _ (n : NetRecord) (s : State) (a0 : Float) (props : List Float) (u : State) (r : Bool) where
-  pub event-completes : {b : Bool} → b ≡ true → EventBy (complete (readable n) s) u r → EventBy (eventOf n s a0 props b) u r
-  event-completes e h = subst (λ (c : Bool). EventBy (eventOf n s a0 props c) u r) (sym e) h
+module _ (n : NetRecord) (s : State) (a0 : Float) (props : List Float) (u : State) (many : ℕ) (r : Bool) where
+  pub event-completes : {b : Bool} → b ≡ true → EventBy (complete (readable n) s) u many r → EventBy (eventOf n s a0 props b) u many r
+  event-completes e h = subst (λ (c : Bool). EventBy (eventOf n s a0 props c) u many r) (sym e) h
 
-  pub event-races : {b : Bool} → b ≡ false → EventBy (raced (readable n) s a0 (take (n .transitions) props)) u r → EventBy (eventOf n s a0 props b) u r
-  event-races e h = subst (λ (c : Bool). EventBy (eventOf n s a0 props c) u r) (sym e) h
+  pub event-races : {b : Bool} → b ≡ false → EventBy (raced (readable n) s a0 (take (n .transitions) props)) u many r → EventBy (eventOf n s a0 props b) u many r
+  event-races e h = subst (λ (c : Bool). EventBy (eventOf n s a0 props c) u many r) (sym e) h
 
 -- ---- up to the clock reading
 
@@ -188,45 +186,45 @@ went : (n : Net) (js : List ℕ) (t : Float) (m : Marking) (q : List Timer) (g :
 went n js t m q g ps sum rounds xs a0 rounded dt h x each all adds wait draws comes = rw (each, adds, comes, draws, wait, all)
 
 -- the step after the starts: it goes on to x; where that is nothing the state is that before, and where it is a completion a timer runs
-pub record Going (n : NetRecord) (before : State) (counts : List ℕ) (ats : List Float) (whos : List ℕ) (k : ℕ) (props : List Float) (a0 : Float) (rounded : Bool) (ws : List ℕ) (x : Next) : Type 0 where
+pub record Going (room : ℕ) (n : NetRecord) (before : State) (counts : List ℕ) (ats : List Float) (owners : List ℕ) (k : ℕ) (props : List Float) (a0 : Float) (rounded : Bool) (ws : List ℕ) (x : Next) : Type 0 where
   pub who : List ℕ
-  pub is : step (readable n) before ≡ given (goOn (readable n) rounded who (stateOf n counts ats whos k (before .clock) ws) a0 (take (n .transitions) props) x)
-  pub same : x ≡ nothingLeft → stateOf n counts ats whos k (before .clock) ws ≡ before
-  pub runs : (d : Float) → x ≡ completion d → 0 < length (timers ats whos k)
+  pub is : step room (readable n) before ≡ given (goOn (readable n) rounded who (stateOf n counts ats owners k (before .clock) ws) a0 (take (n .transitions) props) x)
+  pub same : x ≡ nothingLeft → stateOf n counts ats owners k (before .clock) ws ≡ before
+  pub runs : (d : Float) → x ≡ completion d → 0 < length (timers ats owners k)
 
-module _ (n : NetRecord) (before : State) (counts : List ℕ) (ats : List Float) (whos : List ℕ) (r : Started)
-    (s : StartsAre (starts (readable n) before) (marking (n .places) counts) (timers ats whos (r .timers)) r) where
-  pub advance-full : r .full ≡ true → (u : State) (props : List Float) (a0 : Float) (rounded b : Bool) → AdvancedBy n (step (readable n) before) before u props a0 rounded b Full
+module _ (room : ℕ) (n : NetRecord) (before : State) (counts : List ℕ) (ats : List Float) (owners : List ℕ) (r : Started)
+    (s : StartsAre (starts room (readable n) before) (marking (n .places) counts) (timers ats owners (r .timers)) r) where
+  pub advance-full : r .full ≡ true → (u : State) (props : List Float) (a0 : Float) (rounded b : Bool) → AdvancedBy n (step room (readable n) before) before u props a0 rounded b Full
   advance-full h u props a0 rounded b = Stepping.full (ap (afterStarts (readable n) before) (go s))
     where
-      go : StartsAre (starts (readable n) before) (marking (n .places) counts) (timers ats whos (r .timers)) r → starts (readable n) before ≡ refused Refusal.tooManyTimers
+      go : StartsAre (starts room (readable n) before) (marking (n .places) counts) (timers ats owners (r .timers)) r → starts room (readable n) before ≡ refused Refusal.tooManyTimers
       go (full a e) = e
       go (done who a e b) = absurd (true≢false (sym h ∙ a))
 
-  pub going : r .full ≡ false → length (before .timers) ≤ 256 → (props : List Float) (a0 : Float) (rounded : Bool) → Totalled n counts props a0 → rounded ≡ addsRounded (readable n) (marking (n .places) counts) → (dt : Float) (ws : List ℕ)
-      → dt ≡ waiting a0 (before .generator) → words ws ≡ drawnFor a0 (before .generator) → (x : Next) → x ≡ next a0 (before .clock) dt (timers ats whos (r .timers))
-      → Going n before counts ats whos (r .timers) props a0 rounded ws x
+  pub going : r .full ≡ false → length (before .timers) ≤ room → (props : List Float) (a0 : Float) (rounded : Bool) → Totalled n counts props a0 → rounded ≡ addsRounded (readable n) (marking (n .places) counts) → (dt : Float) (ws : List ℕ)
+      → dt ≡ waiting a0 (before .generator) → words ws ≡ drawnFor a0 (before .generator) → (x : Next) → x ≡ next a0 (before .clock) dt (timers ats owners (r .timers))
+      → Going room n before counts ats owners (r .timers) props a0 rounded ws x
   going h few props a0 rounded all adds dt ws wait draws x comes = go s
     where
       m : Marking
       m = marking (n .places) counts
 
       q : List Timer
-      q = timers ats whos (r .timers)
+      q = timers ats owners (r .timers)
 
       ps : List Float
       ps = propensities (readable n) m
 
-      as-before : (who : List ℕ) → starts (readable n) before ≡ given (record { who = who; counts = m; timers = q }) → x ≡ nothingLeft
+      as-before : (who : List ℕ) → starts room (readable n) before ≡ given (record { who = who; counts = m; timers = q }) → x ≡ nothingLeft
           → state (before .clock) m q (words ws) ≡ before
       as-before who e z =
           let l = left a0 (before .clock) dt q (sym z ∙ comes) in
-          let u = still-same (readable n) before few (record { who = who; counts = m; timers = q }) e (l .0) in
+          let u = still-same room (readable n) before few (record { who = who; counts = m; timers = q }) e (l .0) in
           ap (λ (y : Marking). state (before .clock) y q (words ws)) (u .0)
           ∙ ap (λ (y : List Timer). state (before .clock) (before .counts) y (words ws)) (l .0 ∙ sym (u .1))
           ∙ ap (λ (y : Generator). state (before .clock) (before .counts) (before .timers) y) (draws ∙ not-drawn a0 (before .generator) (l .1))
 
-      go : StartsAre (starts (readable n) before) m q r → Going n before counts ats whos (r .timers) props a0 rounded ws x
+      go : StartsAre (starts room (readable n) before) m q r → Going room n before counts ats owners (r .timers) props a0 rounded ws x
       go (full a e) = absurd (true≢false (sym a ∙ h))
       go (done who a e b) =
           record {
@@ -239,21 +237,21 @@ module _ (n : NetRecord) (before : State) (counts : List ℕ) (ats : List Float)
             runs = λ d z. runs-one a0 (before .clock) dt q d (sym z ∙ comes);
           }
 
-module _ {n : NetRecord} {before : State} {counts : List ℕ} {ats : List Float} {whos : List ℕ} {k : ℕ} {props : List Float} {a0 : Float} {rounded : Bool} {ws : List ℕ}
-    {x : Next} (w : Going n before counts ats whos k props a0 rounded ws x) where
+module _ {room : ℕ} {n : NetRecord} {before : State} {counts : List ℕ} {ats : List Float} {owners : List ℕ} {k : ℕ} {props : List Float} {a0 : Float} {rounded : Bool} {ws : List ℕ}
+    {x : Next} (w : Going room n before counts ats owners k props a0 rounded ws x) where
   at-next : (y : Next) → x ≡ y
-      → step (readable n) before ≡ given (goOn (readable n) rounded (w .who) (stateOf n counts ats whos k (before .clock) ws) a0 (take (n .transitions) props) y)
+      → step room (readable n) before ≡ given (goOn (readable n) rounded (w .who) (stateOf n counts ats owners k (before .clock) ws) a0 (take (n .transitions) props) y)
   at-next y e =
-      w .is ∙ ap (λ (z : Next). given (goOn (readable n) rounded (w .who) (stateOf n counts ats whos k (before .clock) ws) a0 (take (n .transitions) props) z)) e
+      w .is ∙ ap (λ (z : Next). given (goOn (readable n) rounded (w .who) (stateOf n counts ats owners k (before .clock) ws) a0 (take (n .transitions) props) z)) e
 
-  pub advance-nothing : x ≡ nothingLeft → AdvancedBy n (step (readable n) before) before (stateOf n counts ats whos k (before .clock) ws) props a0 rounded false Nothing
+  pub advance-nothing : x ≡ nothingLeft → AdvancedBy n (step room (readable n) before) before (stateOf n counts ats owners k (before .clock) ws) props a0 rounded false Nothing
   advance-nothing e = Stepping.nothing (at-next nothingLeft e) (w .same e)
 
   pub advance-race : (d : Float) → x ≡ race d
-      → AdvancedBy n (step (readable n) before) before (stateOf n counts ats whos k (add binary64 (before .clock) d) ws) props a0 rounded false Follows
+      → AdvancedBy n (step room (readable n) before) before (stateOf n counts ats owners k (add binary64 (before .clock) d) ws) props a0 rounded false Follows
   advance-race d e = Stepping.event (w .who) (λ z. absurd (true≢false (sym z))) (at-next (race d) e)
 
-  pub advance-completion : (d : Float) → x ≡ completion d → AdvancedBy n (step (readable n) before) before (stateOf n counts ats whos k d ws) props a0 rounded true Follows
+  pub advance-completion : (d : Float) → x ≡ completion d → AdvancedBy n (step room (readable n) before) before (stateOf n counts ats owners k d ws) props a0 rounded true Follows
   advance-completion d e = Stepping.event (w .who) (λ z. w .runs d e) (at-next (completion d) e)
 
 -- ---- the whole step
@@ -283,17 +281,27 @@ module _ {n : NetRecord} {spec : Answer Step} {before u : State} {props : List F
   if-event (Stepping.nothing h k) e = never (cc)
   if-event (Stepping.event js k h) e = (k, record { who = js; is = h })
 
-module _ {spec : Answer Step} {rounded : Bool} {u : State} {e : Answer Event} (w : Sets spec rounded u e) {before : State} {last : Float} {shows : State → Type 0} {same : Type 0} where
-  pub step-reached : lt last (u .clock) ≡ true → shows u → StepBy spec before last shows same u rounded Reached
-  step-reached t h = Stepping.reached (w .who) e (w .is) t h
+module _ {spec : Answer Step} {rounded : Bool} {u : State} {e : Answer Event} (w : Sets spec rounded u e) {before : State} {last : Float} {shows : State → Type 0} {same : Type 0}
+    {most most′ many : ℕ} where
+  pub step-reached : lt last (u .clock) ≡ true → shows u → most′ ≡ most → StepBy spec before last shows same most most′ many u rounded Reached
+  step-reached t h m = Stepping.reached (w .who) e (w .is) t h m
 
-  pub step-on : lt last (u .clock) ≡ false → shows u → {s : State} {b : Bool} → EventBy e s b → b ≡ true → StepBy spec before last shows same s rounded GoesOn
-  step-on t h (happens v a l) z = Stepping.goesOn (w .who) u v (w .is ∙ ap (λ (x : Answer Event). given (sets rounded (w .who) u x)) a) t h l
-  step-on t h (tooLarge a) z = absurd (true≢false (sym z))
+  pub step-on : lt last (u .clock) ≡ false → shows u → most′ ≡ max most many → {s : State} {b : Bool} → EventBy e s many b → b ≡ true
+      → StepBy spec before last shows same most most′ many s rounded GoesOn
+  step-on t h m (happens v a l k) z = Stepping.goesOn (w .who) u v (w .is ∙ ap (λ (x : Answer Event). given (sets rounded (w .who) u x)) a) t h l k m
+  step-on t h m (tooLarge a) z = absurd (true≢false (sym z))
 
-  pub step-large : lt last (u .clock) ≡ false → {s : State} {b : Bool} → EventBy e s b → b ≡ false → StepBy spec before last shows same s rounded (Refused Refusal.countTooLarge)
-  step-large t (happens v a l) z = absurd (true≢false z)
+  pub step-large : lt last (u .clock) ≡ false → {s : State} {b : Bool} → EventBy e s many b → b ≡ false
+      → StepBy spec before last shows same most most′ many s rounded (Refused Refusal.countTooLarge)
+  step-large t (happens v a l k) z = absurd (true≢false z)
   step-large t (tooLarge a) z = Stepping.putting (w .who) u (w .is ∙ ap (λ (x : Answer Event). given (sets rounded (w .who) u x)) a) t
 
-pub timers-run : (ats : List Float) (whos : List ℕ) (k : ℕ) → 0 < length (timers ats whos k) → 0 < k
-timers-run ats whos k h = rw length-timers at h
+pub timers-run : (ats : List Float) (owners : List ℕ) (k : ℕ) → 0 < length (timers ats owners k) → 0 < k
+timers-run ats owners k h = rw length-timers at h
+
+-- the starts of a step leave the tokens as they are
+pub tokens-stay : (room : ℕ) (n : NetRecord) → Tidy n → (before u : State) {rounded : Bool} {e : Answer Event} → Sets (step room (readable n) before) rounded u e
+    → tokensOf u ≡ tokensOf before
+tokens-stay room n t before u {rounded} {e} w =
+    sets-tokens (readable n) (once-each (readable n) (t .once)) before (w .who) u e
+    (subst (λ (r : Answer Step). StepGood (readable n) before r) (w .is) (step-good room (readable n) before))

@@ -1,14 +1,12 @@
 -- The lent table. Document 01: "Vec<Vec<f64>> becomes a lent table: place p, instant i at cell p × n + i, n instants. Further cells stay."
-use Prim.Native.Nat.{ℕ, suc, _+_, _*_, _≤_, _<_, max}
+use Prim.Native.Nat.{ℕ, suc, _+_, _*_, _≤_, _<_}
 use mathlib.Core.Path.{_≡_}
 use mathlib.Core.Logic.{_⊎_}
 use mathlib.Core.List.{List, [], _∷_, _++_}
-use lib.Dec.{eqb}
 use lib.ListN.{length, getD, drop}
 use lib.Ieee.{Float, nan, le}
 use Rattle.net.specs.Net.{Marking, pick, held}
 use Rattle.rules.specs.Propensity.{float}
-use Rattle.rules.specs.Shown.{sumOf}
 use Rattle.averages.specs.Tables as Tables
 pub use Rattle.averages.specs.Tables.{cleared}
 
@@ -48,19 +46,12 @@ pub record Filled (places n from to : ℕ) (counts : List ℕ) (before after : L
 
 -- ---- as a run shows its counts
 
--- the instants from `from` to before `to` are shown with the counts m, and the largest sum so far is now most′
-pub record ShownUntil (places n : ℕ) (m : Marking) (from to most most′ : ℕ) (before after : List Float) : Type 0 where
-  pub cells : Filled places n from to m before after
-  pub peak : most′ ≡ pick (eqb to from) most (max most (sumOf m))
-
 -- the instants that the clock has reached and that were not shown yet are shown with the counts m
-pub record ShownBy (places : ℕ) (xs : List Float) (clock : Float) (m : Marking) (next next′ most most′ : ℕ) (before after : List Float) : Type 0 where
+pub record ShownBy (places : ℕ) (xs : List Float) (clock : Float) (m : Marking) (next next′ : ℕ) (before after : List Float) : Type 0 where
   pub up-to : next′ ≡ next + reachedBy clock (drop next xs)
   pub cells : Filled places (length xs) next next′ m before after
-  pub peak : most′ ≡ pick (eqb next′ next) most (max most (sumOf m))
 
 -- nothing was shown
-pub record NotShown (i i′ most most′ : ℕ) (before after : List Float) : Type 0 where
+pub record NotShown (i i′ : ℕ) (before after : List Float) : Type 0 where
   pub next : i′ ≡ i
-  pub peak : most′ ≡ most
   pub table : after ≡ before

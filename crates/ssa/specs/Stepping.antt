@@ -1,8 +1,8 @@
 -- What a step of the program is, in the rules' words. The rules of a step are in the crate rules (Step, Run); nothing here adds to them.
-use Prim.Native.Nat.{ℕ, _≤_, _<_}
+use Prim.Native.Nat.{ℕ, _≤_, _<_, max}
 use mathlib.Core.Path.{_≡_}
 use mathlib.Core.Bool.{Bool, true, false}
-use mathlib.Core.List.{List}
+use mathlib.Core.List.{List, [], _∷_}
 use lib.ListN.{length, take}
 use lib.Ieee.{Float, lt}
 use Rattle.refusals.specs as Refusal
@@ -10,6 +10,8 @@ use Rattle.net.specs.declared.Net.{Net as NetRecord}
 use Rattle.net.specs.Net.{pick}
 use Rattle.net.specs.Readable.{readable}
 use Rattle.rng.specs.State.{words}
+use Rattle.rules.specs.Timers.{Timer}
+use Rattle.rules.specs.Moments.{moment, tokens}
 use Rattle.rules.specs.Step as Rule
 use Rattle.rules.specs.Step.{State, state, Answer, refused, given, Event, Step, still, sets}
 use Rattle.engine.specs.Engine.{Tidy, Counts, marking}
@@ -20,18 +22,27 @@ use Rattle.ssa.specs.declared.step.Due.{Due}
 use Rattle.ssa.specs.declared.step.Due.the-variants.{Nothing, Event as Follows, Full}
 use Rattle.ssa.specs.TimerArrays.{timers}
 
--- the arrays of a run are as long as they should be, and hold what they should
-pub record Ready (n : NetRecord) (limit tokens : List ℕ) (times : List Float) (owners : List ℕ) (running : ℕ) : Type 0 where
+-- no timer took more than 16 arcs of 1,000,000 do
+abbrev pub Light : List Timer → Type 0
+Light [] = Unit
+Light (z ∷ q) = (z .taken ≤ 16_000_000) × Light q
+
+-- the arrays of a run hold what they should, with room for so many timers
+pub record Ready (n : NetRecord) (limit counts : List ℕ) (ats : List Float) (owners : List ℕ) (room running : ℕ) : Type 0 where
   pub tidy : Tidy n
   pub limits : Limits n limit
-  pub counts : Counts tokens
-  pub ats : length times ≡ 256
-  pub whos : length owners ≡ 256
-  pub few : running ≤ 256
+  pub small : Counts counts
+  pub most : room ≤ 256
+  pub few : running ≤ room
+  pub light : Light (timers ats owners running)
 
 -- the state that they stand for
 abbrev pub stateOf : NetRecord → List ℕ → List Float → List ℕ → ℕ → Float → List ℕ → State
-stateOf n counts ats whos running clock words₄ = state clock (marking (n .places) counts) (timers ats whos running) (words words₄)
+stateOf n counts ats owners running clock words₄ = state clock (marking (n .places) counts) (timers ats owners running) (words words₄)
+
+-- its tokens: all place counts plus the weights taken by each running timer
+abbrev pub tokensOf : State → ℕ
+tokensOf s = tokens (moment s)
 
 -- the event that ends a step in the state u: the completion of the first timer, or the firing of a race with these propensities and this total
 abbrev pub eventOf : NetRecord → State → Float → List Float → Bool → Answer Event
@@ -45,18 +56,21 @@ pub data AdvancedBy (n : NetRecord) (spec : Answer Step) (before u : State) (pro
   event : (js : List ℕ) → (completes ≡ true → 0 < length (u .timers)) → spec ≡ given (sets rounded js u (eventOf n u a0 props completes))
       → AdvancedBy n spec before u props a0 rounded completes Follows
 
--- the event that ends a step: it leaves the state u, or a count would pass 2^53
-pub data EventBy (spec : Answer Event) (u : State) : Bool → Type 0 where
-  happens : (e : Event) → spec ≡ given e → e .leaves ≡ u → EventBy spec u true
-  tooLarge : spec ≡ refused Refusal.countTooLarge → EventBy spec u false
+-- the event that ends a step: it leaves the state u, with so many tokens, or a count would pass 2^53
+pub data EventBy (spec : Answer Event) (u : State) (many : ℕ) : Bool → Type 0 where
+  happens : (e : Event) → spec ≡ given e → e .leaves ≡ u → many ≡ tokensOf u → EventBy spec u many true
+  tooLarge : spec ≡ refused Refusal.countTooLarge → EventBy spec u many false
 
--- A whole step from the state `before`. u is the state at its clock reading, whose counts are shown; s is the state that it leaves: where nothing
--- is left, the state before, and nothing was shown. `rounded` says whether its a0 adds a rounded propensity.
-pub data StepBy (spec : Answer Step) (before : State) (last : Float) (shows : State → Type 0) (same : Type 0) (s : State) (rounded : Bool) : Ending → Type 0 where
+-- A whole step from the state `before`, with the peak `most` so far. u is the state at its clock reading, whose counts are shown; s is the state that it
+-- leaves, with so many tokens and the peak most′: where nothing is left, the state before, and nothing was shown. `rounded` says whether its a0 adds a
+-- rounded propensity.
+pub data StepBy (spec : Answer Step) (before : State) (last : Float) (shows : State → Type 0) (same : Type 0) (most most′ many : ℕ) (s : State) (rounded : Bool)
+    : Ending → Type 0 where
   goesOn : (js : List ℕ) (u : State) (e : Event) → spec ≡ given (sets rounded js u (given e)) → lt last (u .clock) ≡ false → shows u → e .leaves ≡ s
-      → StepBy spec before last shows same s rounded GoesOn
-  quiet : spec ≡ given (still rounded) → s ≡ before → same → StepBy spec before last shows same s rounded Quiet
-  reached : (js : List ℕ) (e : Answer Event) → spec ≡ given (sets rounded js s e) → lt last (s .clock) ≡ true → shows s → StepBy spec before last shows same s rounded Reached
-  starting : spec ≡ refused Refusal.tooManyTimers → StepBy spec before last shows same s rounded (Refused Refusal.tooManyTimers)
+      → many ≡ tokensOf s → most′ ≡ max most many → StepBy spec before last shows same most most′ many s rounded GoesOn
+  quiet : spec ≡ given (still rounded) → s ≡ before → same → most′ ≡ most → StepBy spec before last shows same most most′ many s rounded Quiet
+  reached : (js : List ℕ) (e : Answer Event) → spec ≡ given (sets rounded js s e) → lt last (s .clock) ≡ true → shows s → most′ ≡ most
+      → StepBy spec before last shows same most most′ many s rounded Reached
+  starting : spec ≡ refused Refusal.tooManyTimers → StepBy spec before last shows same most most′ many s rounded (Refused Refusal.tooManyTimers)
   putting : (js : List ℕ) (u : State) → spec ≡ given (sets rounded js u (refused Refusal.countTooLarge)) → lt last (u .clock) ≡ false
-      → StepBy spec before last shows same s rounded (Refused Refusal.countTooLarge)
+      → StepBy spec before last shows same most most′ many s rounded (Refused Refusal.countTooLarge)

@@ -1,7 +1,7 @@
 // The event that ends a step: a completion, or the firing of a race.
 ghost use mathlib.Core.Path.{_≡_};
 ghost use mathlib.Core.Bool.{true};
-ghost use Prim.Native.Nat.{_-_, _<_};
+ghost use Prim.Native.Nat.{_<_};
 ghost use lib.ListN.{length};
 ghost use lib.ListN as ListN;
 ghost use Rattle.net.specs.Readable as Record;
@@ -14,7 +14,15 @@ use engine::marking;
 use jump::Choice;
 use rng::Xoshiro256;
 
-// A completion puts the outputs of the first timer's transition and ends the timer. False where a count would pass 2^53.
+// How many timers run after the event, the generator after it, whether the counts fit, and where they do the tokens.
+pub struct Ended {
+    pub timers: usize,
+    pub rng: Xoshiro256,
+    pub fits: bool,
+    pub tokens: u64,
+}
+
+// A completion puts the outputs of the first timer's transition and ends the timer: the tokens are those put more, and those that the timer had taken less.
 fn complete<'a>(
     places: usize,
     transitions: usize,
@@ -29,36 +37,53 @@ fn complete<'a>(
     limit: &'a [u64; 1024],
     counts: &mut [u64; 32],
     ats: &mut [f64; 256],
-    whos: &mut [usize; 256],
+    owners: &mut [u64; 256],
+    room: usize,
     running: usize,
     clock: f64,
     rng: Xoshiro256,
-) -> bool
+    tokens: u64,
+) -> Ended
     ghost { NetRecord }
     requires { λ net. ⌜ lent places transitions (now initial) (now capacity) (now rate) (now delay) (now arcs) (now kind) (now place) (now weight) ≡ net ⌝ }
-    requires { λ net. ⌜ Stepping.Ready net (now limit) (now counts) (now ats) (now whos) running × (0 < running) ⌝ }
+    requires { λ net. ⌜ Stepping.Ready net (now limit) (now counts) (now ats) (now owners) room running × (0 < running)
+        × (tokens ≡ Stepping.tokensOf (Stepping.stateOf net (now counts) (now ats) (now owners) running clock (rng .s))) ⌝ }
     ensures is { λ net r. ⌜ Stepping.EventBy
-        (Rule.complete (Record.readable net) (Stepping.stateOf net (now (counts .entry)) (now (ats .entry)) (now (whos .entry)) running clock (rng .s)))
-        (Stepping.stateOf net (now (counts .exit)) (now (ats .exit)) (now (whos .exit)) (running - 1) clock (rng .s)) r ⌝ }
-    ensures ready { λ net _. ⌜ Stepping.Ready net (now (limit .entry)) (now (counts .exit)) (now (ats .exit)) (now (whos .exit)) (running - 1) ⌝ }
+        (Rule.complete (Record.readable net) (Stepping.stateOf net (now (counts .entry)) (now (ats .entry)) (now (owners .entry)) running clock (rng .s)))
+        (Stepping.stateOf net (now (counts .exit)) (now (ats .exit)) (now (owners .exit)) (r .timers) clock (r .rng .s)) (r .tokens) (r .fits) ⌝ }
+    ensures ready { λ net r. ⌜ Stepping.Ready net (now (limit .entry)) (now (counts .exit)) (now (ats .exit)) (now (owners .exit)) room (r .timers) ⌝ }
 {
-    let x = timers::first(ats, whos, running);
-    timers::remove_first(ats, whos, running);
+    let x = timers::first(ats, owners, running);
+    timers::remove_first(ats, owners, running);
+    let left = running - 1;
+    let fewer = tokens - x.taken;
     let j = x.who;
     if j < transitions {
-        return marking::put(places, arcs, kind, place, weight, counts, j);
+        let p = marking::put(places, arcs, kind, place, weight, counts, j);
+        if p.fits {
+            return Ended {
+                timers: left,
+                rng: rng,
+                fits: true,
+                tokens: fewer + p.more,
+            };
+        }
+        return Ended {
+            timers: left,
+            rng: rng,
+            fits: false,
+            tokens: 0,
+        };
     }
-    true
+    Ended {
+        timers: left,
+        rng: rng,
+        fits: true,
+        tokens: fewer,
+    }
 }
 
-// How many timers run after the event, the generator after it, and whether the counts fit.
-pub struct Ended {
-    pub timers: usize,
-    pub rng: Xoshiro256,
-    pub fits: bool,
-}
-
-// A race draws, chooses and fires.
+// A race draws, chooses and fires: the tokens are those put more, and those taken less.
 fn race<'a>(
     places: usize,
     transitions: usize,
@@ -73,21 +98,24 @@ fn race<'a>(
     limit: &'a [u64; 1024],
     counts: &mut [u64; 32],
     ats: &'a [f64; 256],
-    whos: &'a [usize; 256],
+    owners: &'a [u64; 256],
     props: &[f64; 64],
+    room: usize,
     running: usize,
     clock: f64,
     a0: f64,
     rng: Xoshiro256,
+    tokens: u64,
 ) -> Ended
     ghost { NetRecord }
     requires { λ net. ⌜ lent places transitions (now initial) (now capacity) (now rate) (now delay) (now arcs) (now kind) (now place) (now weight) ≡ net ⌝ }
-    requires { λ net. ⌜ Stepping.Ready net (now limit) (now counts) (now ats) (now whos) running × (length (now props) ≡ 64) ⌝ }
+    requires { λ net. ⌜ Stepping.Ready net (now limit) (now counts) (now ats) (now owners) room running × (length (now props) ≡ 64)
+        × (tokens ≡ Stepping.tokensOf (Stepping.stateOf net (now counts) (now ats) (now owners) running clock (rng .s))) ⌝ }
     ensures is { λ net r. ⌜ Stepping.EventBy
-        (Rule.raced (Record.readable net) (Stepping.stateOf net (now (counts .entry)) (now (ats .entry)) (now (whos .entry)) running clock (rng .s)) a0
+        (Rule.raced (Record.readable net) (Stepping.stateOf net (now (counts .entry)) (now (ats .entry)) (now (owners .entry)) running clock (rng .s)) a0
         (ListN.take transitions (now (props .entry))))
-        (Stepping.stateOf net (now (counts .exit)) (now (ats .entry)) (now (whos .entry)) (r .timers) clock (r .rng .s)) (r .fits) ⌝ }
-    ensures ready { λ net r. ⌜ Stepping.Ready net (now (limit .entry)) (now (counts .exit)) (now (ats .entry)) (now (whos .entry)) (r .timers) ⌝ }
+        (Stepping.stateOf net (now (counts .exit)) (now (ats .entry)) (now (owners .entry)) (r .timers) clock (r .rng .s)) (r .tokens) (r .fits) ⌝ }
+    ensures ready { λ net r. ⌜ Stepping.Ready net (now (limit .entry)) (now (counts .exit)) (now (ats .entry)) (now (owners .entry)) room (r .timers) ⌝ }
 {
     let d = rng.uniform();
     let g = d.rng;
@@ -98,21 +126,31 @@ fn race<'a>(
             timers: running,
             rng: g,
             fits: true,
+            tokens: tokens,
         },
         Choice::Chosen(j) => {
             if j < transitions {
-                marking::take(places, arcs, kind, place, weight, counts, j);
-                let fits = marking::put(places, arcs, kind, place, weight, counts, j);
+                let f = marking::fire(places, arcs, kind, place, weight, counts, j);
+                if f.fits {
+                    return Ended {
+                        timers: running,
+                        rng: g,
+                        fits: true,
+                        tokens: tokens + f.more - f.less,
+                    };
+                }
                 return Ended {
                     timers: running,
                     rng: g,
-                    fits: fits,
+                    fits: false,
+                    tokens: 0,
                 };
             }
             Ended {
                 timers: running,
                 rng: g,
                 fits: true,
+                tokens: tokens,
             }
         }
     }
@@ -133,25 +171,28 @@ pub fn happen<'a>(
     limit: &'a [u64; 1024],
     counts: &mut [u64; 32],
     ats: &mut [f64; 256],
-    whos: &mut [usize; 256],
+    owners: &mut [u64; 256],
     props: &[f64; 64],
+    room: usize,
     running: usize,
     clock: f64,
     a0: f64,
     rng: Xoshiro256,
+    tokens: u64,
     completes: bool,
 ) -> Ended
     ghost { NetRecord }
     requires { λ net. ⌜ lent places transitions (now initial) (now capacity) (now rate) (now delay) (now arcs) (now kind) (now place) (now weight) ≡ net ⌝ }
-    requires { λ net. ⌜ Stepping.Ready net (now limit) (now counts) (now ats) (now whos) running × (length (now props) ≡ 64) × (completes ≡ true → 0 < running) ⌝ }
+    requires { λ net. ⌜ Stepping.Ready net (now limit) (now counts) (now ats) (now owners) room running × (length (now props) ≡ 64) × (completes ≡ true → 0 < running)
+        × (tokens ≡ Stepping.tokensOf (Stepping.stateOf net (now counts) (now ats) (now owners) running clock (rng .s))) ⌝ }
     ensures is { λ net r. ⌜ Stepping.EventBy
-        (Stepping.eventOf net (Stepping.stateOf net (now (counts .entry)) (now (ats .entry)) (now (whos .entry)) running clock (rng .s)) a0
+        (Stepping.eventOf net (Stepping.stateOf net (now (counts .entry)) (now (ats .entry)) (now (owners .entry)) running clock (rng .s)) a0
         (now (props .entry)) completes)
-        (Stepping.stateOf net (now (counts .exit)) (now (ats .exit)) (now (whos .exit)) (r .timers) clock (r .rng .s)) (r .fits) ⌝ }
-    ensures ready { λ net r. ⌜ Stepping.Ready net (now (limit .entry)) (now (counts .exit)) (now (ats .exit)) (now (whos .exit)) (r .timers) ⌝ }
+        (Stepping.stateOf net (now (counts .exit)) (now (ats .exit)) (now (owners .exit)) (r .timers) clock (r .rng .s)) (r .tokens) (r .fits) ⌝ }
+    ensures ready { λ net r. ⌜ Stepping.Ready net (now (limit .entry)) (now (counts .exit)) (now (ats .exit)) (now (owners .exit)) room (r .timers) ⌝ }
 {
     if completes {
-        let fits = complete(
+        return complete(
             places,
             transitions,
             initial,
@@ -165,16 +206,13 @@ pub fn happen<'a>(
             limit,
             counts,
             ats,
-            whos,
+            owners,
+            room,
             running,
             clock,
             rng,
+            tokens,
         );
-        return Ended {
-            timers: running - 1,
-            rng: rng,
-            fits: fits,
-        };
     }
     race(
         places,
@@ -190,11 +228,13 @@ pub fn happen<'a>(
         limit,
         counts,
         ats,
-        whos,
+        owners,
         props,
+        room,
         running,
         clock,
         a0,
         rng,
+        tokens,
     )
 }

@@ -9,6 +9,7 @@ ghost use Rattle.net.specs.Readable as Record;
 ghost use Rattle.net.specs.Record.{lent};
 ghost use Rattle.net.specs.declared.Net.{Net as NetRecord};
 ghost use Rattle.rng.specs.State as Random;
+ghost use Rattle.rules.specs.Moments as Moments;
 ghost use Rattle.rules.specs.Moves as Moves;
 ghost use Rattle.rules.specs.Shown as Shown;
 ghost use Rattle.rules.proofs.Play as Play;
@@ -28,8 +29,10 @@ use crate::step::Now;
 use engine::traits::Traits;
 use rng::Xoshiro256;
 
-// How the steps ended: after so many, of which so many add a rounded propensity, with so many instants shown, and the largest sum of the counts that one of
-// these has shown.
+// How many timers may run in a path.
+const ROOM: usize = 256;
+
+// How the steps ended: after so many, of which so many add a rounded propensity, with so many instants shown, and the peak.
 pub struct Walked {
     pub end: PathEnd,
     pub steps: u64,
@@ -67,8 +70,9 @@ fn take_steps<'a>(
     traits: Traits,
     counts: &mut [u64; 32],
     ats: &mut [f64; 256],
-    whos: &mut [usize; 256],
+    owners: &mut [u64; 256],
     props: &mut [f64; 64],
+    room: usize,
     instants: &[f64],
     last: f64,
     table: &mut [f64],
@@ -77,14 +81,15 @@ fn take_steps<'a>(
 ) -> Walked
     ghost { NetRecord }
     requires { λ net. ⌜ lent places transitions (now initial) (now capacity) (now rate) (now delay) (now arcs) (now kind) (now place) (now weight) ≡ net ⌝ }
-    requires { λ net. ⌜ Stepping.Ready net (now limit) (now counts) (now ats) (now whos) (s .timers) × Has.Of net (now sure) traits
+    requires { λ net. ⌜ Stepping.Ready net (now limit) (now counts) (now ats) (now owners) room (s .timers) × Has.Of net (now sure) traits
         × (length (now props) ≡ 64) × (s .next ≤ length (now instants)) × (length (now instants) ≤ 1024)
-        × (places * length (now instants) ≤ length (now table)) ⌝ }
+        × (places * length (now instants) ≤ length (now table)) × (s .tokens ≤ s .peak)
+        × (s .tokens ≡ Stepping.tokensOf (Stepping.stateOf net (now counts) (now ats) (now owners) (s .timers) (s .clock) (s .rng .s))) ⌝ }
     ensures is { λ net r. ⌜ Playing.WalkBy
-        (Play.play (Record.readable net) last steps (ListN.drop (s .next) (now (instants .entry)))
-        (Stepping.stateOf net (now (counts .entry)) (now (ats .entry)) (now (whos .entry)) (s .timers) (s .clock) (s .rng .s)))
+        (Play.higher (s .peak) (Play.play room (Record.readable net) last steps (ListN.drop (s .next) (now (instants .entry)))
+        (Stepping.stateOf net (now (counts .entry)) (now (ats .entry)) (now (owners .entry)) (s .timers) (s .clock) (s .rng .s))))
         (now (instants .entry)) (Engine.marking places (now (counts .exit)))
-        (λ sh. Playing.Listed places (length (now (instants .entry))) (s .next) (r .next) (s .peak) (r .peak) sh (now (table .entry)) (now (table .exit)))
+        (λ sh. Playing.Listed places (length (now (instants .entry))) (s .next) (r .next) sh (now (table .entry)) (now (table .exit)))
         r (r .end) ⌝ }
     ensures kept { λ _ _. ⌜ Engine.Counts (now (counts .exit)) × (length (now (table .exit)) ≡ length (now (table .entry)))
         × Cells.Stay places (length (now (instants .entry))) (now (table .entry)) (now (table .exit)) ⌝ }
@@ -112,8 +117,9 @@ fn take_steps<'a>(
                 traits,
                 counts,
                 ats,
-                whos,
+                owners,
                 props,
+                room,
                 instants,
                 last,
                 table,
@@ -196,6 +202,20 @@ fn settled(end: PathEnd, next: usize, n: usize) -> u64
     }
 }
 
+// The sum of the place counts.
+fn sum(counts: &[u64; 32], places: usize) -> u64
+    requires { ⌜ (places ≤ 32) × Engine.Counts (now counts) ⌝ }
+    ensures { λ r. ⌜ r ≡ Moments.sumOf (Engine.marking places (now (counts .entry))) ⌝ }
+{
+    let mut total: u64 = 0;
+    let mut p: usize = 0;
+    while p < places {
+        total = total + counts[p];
+        p += 1;
+    }
+    total
+}
+
 // A path from the initial counts: its answer, and the table filled, or cleared where the run is refused.
 pub fn play<'a>(
     places: usize,
@@ -227,16 +247,18 @@ pub fn play<'a>(
         (Shown.worked (Record.readable net) (Random.words (rng .s)) (now (instants .entry)) steps) ⌝ }
 {
     let mut ats = [0.0; 256];
-    let mut whos = [0; 256];
+    let mut owners = [0u64; 256];
     let mut props = [0.0; 64];
     let n = instants.len();
     let last = instants[n - 1];
-    let seen = shown::show(instants, table, counts, places, 0.0, 0, 0);
+    let first = shown::show(instants, table, counts, places, 0.0, 0);
+    let tokens = sum(counts, places);
     let s = Now {
         clock: 0.0,
         timers: 0,
-        next: seen.next,
-        peak: seen.peak,
+        next: first,
+        tokens: tokens,
+        peak: tokens,
         rng: rng,
     };
     let w = take_steps(
@@ -255,8 +277,9 @@ pub fn play<'a>(
         traits,
         counts,
         &mut ats,
-        &mut whos,
+        &mut owners,
         &mut props,
+        ROOM,
         instants,
         last,
         table,
@@ -277,12 +300,12 @@ pub fn play<'a>(
     }
     let next = w.next;
     let g = w.rng;
-    let peak = shown::show_until(table, counts, places, n, next, n, w.peak);
+    shown::fill(table, counts, places, n, next, n);
     PathAnswer {
         end: end,
         steps: w.steps,
         settled: settled(end, next, n),
-        peak: peak,
+        peak: w.peak,
         rounded: w.rounded,
         generator: g,
     }

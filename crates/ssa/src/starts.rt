@@ -2,7 +2,7 @@
 ghost use mathlib.Core.Path.{_≡_};
 ghost use mathlib.Core.Bool.{true, false};
 ghost use mathlib.Core.List.{[], _∷_};
-ghost use Prim.Native.Nat.{_+_, _<_};
+ghost use Prim.Native.Nat.{suc, _+_, _<_};
 ghost use Rattle.net.specs.Readable as Record;
 ghost use Rattle.net.specs.Record.{lent};
 ghost use Rattle.net.specs.declared.Net.{Net as NetRecord};
@@ -15,7 +15,7 @@ use crate::timers;
 use crate::timers::Timer;
 use engine::marking;
 
-// How many timers run now, whether one has started, and whether one could not since 256 ran already.
+// How many timers run now, whether one has started, and whether one could not since there was no room for it.
 pub struct Started {
     pub timers: usize,
     pub any: bool,
@@ -37,19 +37,20 @@ fn try_start<'a>(
     limit: &'a [u64; 1024],
     counts: &mut [u64; 32],
     ats: &mut [f64; 256],
-    whos: &mut [usize; 256],
+    owners: &mut [u64; 256],
+    room: usize,
     n: usize,
     t: f64,
     j: usize,
 ) -> Started
     ghost { NetRecord }
     requires { λ net. ⌜ lent places transitions (now initial) (now capacity) (now rate) (now delay) (now arcs) (now kind) (now place) (now weight) ≡ net ⌝ }
-    requires { λ net. ⌜ (j < transitions) × Stepping.Ready net (now limit) (now counts) (now ats) (now whos) n ⌝ }
+    requires { λ net. ⌜ (j < transitions) × Stepping.Ready net (now limit) (now counts) (now ats) (now owners) room n ⌝ }
     ensures is { λ net r. ⌜ Starts.StartsAre
-        (Rule.pass (Record.readable net) t j (Record.transition net j ∷ [])
-        (Engine.marking places (now (counts .entry))) (TimerArrays.timers (now (ats .entry)) (now (whos .entry)) n))
-        (Engine.marking places (now (counts .exit))) (TimerArrays.timers (now (ats .exit)) (now (whos .exit)) (r .timers)) r ⌝ }
-    ensures ready { λ net r. ⌜ Stepping.Ready net (now (limit .entry)) (now (counts .exit)) (now (ats .exit)) (now (whos .exit)) (r .timers) ⌝ }
+        (Rule.pass room (Record.readable net) t j (Record.transition net j ∷ [])
+        (Engine.marking places (now (counts .entry))) (TimerArrays.timers (now (ats .entry)) (now (owners .entry)) n))
+        (Engine.marking places (now (counts .exit))) (TimerArrays.timers (now (ats .exit)) (now (owners .exit)) (r .timers)) r ⌝ }
+    ensures ready { λ net r. ⌜ Stepping.Ready net (now (limit .entry)) (now (counts .exit)) (now (ats .exit)) (now (owners .exit)) room (r .timers) ⌝ }
 {
     let d = delay[j];
     if 0.0 < d {
@@ -68,15 +69,20 @@ fn try_start<'a>(
             counts,
             j,
         ) {
-            if 256 <= n {
+            if room <= n {
                 return Started {
                     timers: n,
                     any: false,
                     full: true,
                 };
             }
-            marking::take(places, arcs, kind, place, weight, counts, j);
-            timers::insert(ats, whos, n, Timer { at: t + d, who: j });
+            let taken = marking::take(places, arcs, kind, place, weight, counts, j);
+            let x = Timer {
+                at: t + d,
+                who: j,
+                taken: taken,
+            };
+            timers::insert(ats, owners, n, x);
             return Started {
                 timers: n + 1,
                 any: true,
@@ -106,18 +112,19 @@ fn pass<'a>(
     limit: &'a [u64; 1024],
     counts: &mut [u64; 32],
     ats: &mut [f64; 256],
-    whos: &mut [usize; 256],
+    owners: &mut [u64; 256],
+    room: usize,
     n: usize,
     t: f64,
 ) -> Started
     ghost { NetRecord }
     requires { λ net. ⌜ lent places transitions (now initial) (now capacity) (now rate) (now delay) (now arcs) (now kind) (now place) (now weight) ≡ net ⌝ }
-    requires { λ net. ⌜ Stepping.Ready net (now limit) (now counts) (now ats) (now whos) n ⌝ }
+    requires { λ net. ⌜ Stepping.Ready net (now limit) (now counts) (now ats) (now owners) room n ⌝ }
     ensures is { λ net r. ⌜ Starts.StartsAre
-        (Rule.pass (Record.readable net) t 0 (Record.readable net .transitions)
-        (Engine.marking places (now (counts .entry))) (TimerArrays.timers (now (ats .entry)) (now (whos .entry)) n))
-        (Engine.marking places (now (counts .exit))) (TimerArrays.timers (now (ats .exit)) (now (whos .exit)) (r .timers)) r ⌝ }
-    ensures ready { λ net r. ⌜ Stepping.Ready net (now (limit .entry)) (now (counts .exit)) (now (ats .exit)) (now (whos .exit)) (r .timers) ⌝ }
+        (Rule.pass room (Record.readable net) t 0 (Record.readable net .transitions)
+        (Engine.marking places (now (counts .entry))) (TimerArrays.timers (now (ats .entry)) (now (owners .entry)) n))
+        (Engine.marking places (now (counts .exit))) (TimerArrays.timers (now (ats .exit)) (now (owners .exit)) (r .timers)) r ⌝ }
+    ensures ready { λ net r. ⌜ Stepping.Ready net (now (limit .entry)) (now (counts .exit)) (now (ats .exit)) (now (owners .exit)) room (r .timers) ⌝ }
 {
     let mut k = n;
     let mut any = false;
@@ -137,7 +144,8 @@ fn pass<'a>(
             limit,
             counts,
             ats,
-            whos,
+            owners,
+            room,
             k,
             t,
             j,
@@ -172,17 +180,18 @@ pub fn start_all<'a>(
     timed: bool,
     counts: &mut [u64; 32],
     ats: &mut [f64; 256],
-    whos: &mut [usize; 256],
+    owners: &mut [u64; 256],
+    room: usize,
     n: usize,
     t: f64,
 ) -> Started
     ghost { NetRecord }
     requires { λ net. ⌜ lent places transitions (now initial) (now capacity) (now rate) (now delay) (now arcs) (now kind) (now place) (now weight) ≡ net ⌝ }
-    requires { λ net. ⌜ Stepping.Ready net (now limit) (now counts) (now ats) (now whos) n × (timed ≡ Engine.anyTimed transitions (now delay)) ⌝ }
+    requires { λ net. ⌜ Stepping.Ready net (now limit) (now counts) (now ats) (now owners) room n × (timed ≡ Engine.anyTimed transitions (now delay)) ⌝ }
     ensures is { λ net r. ⌜ Starts.StartsAre
-        (Rule.passes 257 (Record.readable net) t (Engine.marking places (now (counts .entry))) (TimerArrays.timers (now (ats .entry)) (now (whos .entry)) n))
-        (Engine.marking places (now (counts .exit))) (TimerArrays.timers (now (ats .exit)) (now (whos .exit)) (r .timers)) r ⌝ }
-    ensures ready { λ net r. ⌜ Stepping.Ready net (now (limit .entry)) (now (counts .exit)) (now (ats .exit)) (now (whos .exit)) (r .timers) ⌝ }
+        (Rule.passes (suc room) room (Record.readable net) t (Engine.marking places (now (counts .entry))) (TimerArrays.timers (now (ats .entry)) (now (owners .entry)) n))
+        (Engine.marking places (now (counts .exit))) (TimerArrays.timers (now (ats .exit)) (now (owners .exit)) (r .timers)) r ⌝ }
+    ensures ready { λ net r. ⌜ Stepping.Ready net (now (limit .entry)) (now (counts .exit)) (now (ats .exit)) (now (owners .exit)) room (r .timers) ⌝ }
 {
     if !timed {
         return Started {
@@ -194,7 +203,7 @@ pub fn start_all<'a>(
     let mut k = n;
     let mut any = false;
     let mut i: usize = 0;
-    while i < 257 {
+    while i <= room {
         let s = pass(
             places,
             transitions,
@@ -209,7 +218,8 @@ pub fn start_all<'a>(
             limit,
             counts,
             ats,
-            whos,
+            owners,
+            room,
             k,
             t,
         );

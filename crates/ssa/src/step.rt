@@ -1,6 +1,6 @@
 // One step of a run: starts, the clock reading that it sets, and the completion or firing that ends it.
 ghost use mathlib.Core.Path.{_≡_};
-ghost use Prim.Native.Nat.{_*_, _≤_};
+ghost use Prim.Native.Nat.{_*_, _≤_, max};
 ghost use lib.ListN.{length};
 ghost use Rattle.net.specs.Readable as Record;
 ghost use Rattle.net.specs.Record.{lent};
@@ -18,12 +18,13 @@ use engine::traits::Traits;
 use jump::Next;
 use rng::Xoshiro256;
 
-// What a step begins with and leaves, beside the counts and the timers themselves: how many timers run, how many instants have been shown,
-// and the largest sum of the counts that an instant has shown.
+// What a step begins with and leaves, beside the counts and the timers themselves: how many timers run, how many instants have been shown, the tokens (all
+// place counts plus the weights taken by the running timers), and the peak so far.
 pub struct Now {
     pub clock: f64,
     pub timers: usize,
     pub next: usize,
+    pub tokens: u64,
     pub peak: u64,
     pub rng: Xoshiro256,
 }
@@ -78,21 +79,22 @@ fn advance<'a>(
     traits: Traits,
     counts: &mut [u64; 32],
     ats: &mut [f64; 256],
-    whos: &mut [usize; 256],
+    owners: &mut [u64; 256],
     props: &mut [f64; 64],
+    room: usize,
     running: usize,
     t: f64,
     rng: Xoshiro256,
 ) -> Advanced
     ghost { NetRecord }
     requires { λ net. ⌜ lent places transitions (now initial) (now capacity) (now rate) (now delay) (now arcs) (now kind) (now place) (now weight) ≡ net ⌝ }
-    requires { λ net. ⌜ Stepping.Ready net (now limit) (now counts) (now ats) (now whos) running × Has.Of net (now sure) traits
+    requires { λ net. ⌜ Stepping.Ready net (now limit) (now counts) (now ats) (now owners) room running × Has.Of net (now sure) traits
         × (length (now props) ≡ 64) ⌝ }
-    ensures is { λ net r. let before = Stepping.stateOf net (now (counts .entry)) (now (ats .entry)) (now (whos .entry)) running t (rng .s) in
-        ⌜ Stepping.AdvancedBy net (Rule.step (Record.readable net) before) before
-        (Stepping.stateOf net (now (counts .exit)) (now (ats .exit)) (now (whos .exit)) (r .timers) (r .clock) (r .rng .s))
+    ensures is { λ net r. let before = Stepping.stateOf net (now (counts .entry)) (now (ats .entry)) (now (owners .entry)) running t (rng .s) in
+        ⌜ Stepping.AdvancedBy net (Rule.step room (Record.readable net) before) before
+        (Stepping.stateOf net (now (counts .exit)) (now (ats .exit)) (now (owners .exit)) (r .timers) (r .clock) (r .rng .s))
         (now (props .exit)) (r .a0) (r .rounded) (r .completes) (r .due) ⌝ }
-    ensures ready { λ net r. ⌜ Stepping.Ready net (now (limit .entry)) (now (counts .exit)) (now (ats .exit)) (now (whos .exit)) (r .timers)
+    ensures ready { λ net r. ⌜ Stepping.Ready net (now (limit .entry)) (now (counts .exit)) (now (ats .exit)) (now (owners .exit)) room (r .timers)
         × (length (now (props .exit)) ≡ 64) ⌝ }
 {
     let timed = traits.timed;
@@ -111,7 +113,8 @@ fn advance<'a>(
         timed,
         counts,
         ats,
-        whos,
+        owners,
+        room,
         running,
         t,
     );
@@ -193,6 +196,16 @@ fn advance<'a>(
     }
 }
 
+// The peak with one more moment, at which there are so many tokens.
+fn higher(peak: u64, tokens: u64) -> u64
+    ensures { λ r. ⌜ r ≡ max peak tokens ⌝ }
+{
+    if peak < tokens {
+        return tokens;
+    }
+    peak
+}
+
 // One step.
 pub fn one_step<'a>(
     places: usize,
@@ -210,8 +223,9 @@ pub fn one_step<'a>(
     traits: Traits,
     counts: &mut [u64; 32],
     ats: &mut [f64; 256],
-    whos: &mut [usize; 256],
+    owners: &mut [u64; 256],
     props: &mut [f64; 64],
+    room: usize,
     instants: &[f64],
     last: f64,
     table: &mut [f64],
@@ -219,17 +233,18 @@ pub fn one_step<'a>(
 ) -> Stepped
     ghost { NetRecord }
     requires { λ net. ⌜ lent places transitions (now initial) (now capacity) (now rate) (now delay) (now arcs) (now kind) (now place) (now weight) ≡ net ⌝ }
-    requires { λ net. ⌜ Stepping.Ready net (now limit) (now counts) (now ats) (now whos) (s .timers) × Has.Of net (now sure) traits
+    requires { λ net. ⌜ Stepping.Ready net (now limit) (now counts) (now ats) (now owners) room (s .timers) × Has.Of net (now sure) traits
         × (length (now props) ≡ 64) × (s .next ≤ length (now instants)) × (length (now instants) ≤ 1024)
-        × (places * length (now instants) ≤ length (now table)) ⌝ }
-    ensures is { λ net r. let before = Stepping.stateOf net (now (counts .entry)) (now (ats .entry)) (now (whos .entry)) (s .timers) (s .clock) (s .rng .s) in
-        ⌜ Stepping.StepBy (Rule.step (Record.readable net) before) before last
-        (λ u. Cells.ShownBy places (now (instants .entry)) (u .clock) (u .counts) (s .next) (r .now .next) (s .peak) (r .now .peak)
-        (now (table .entry)) (now (table .exit)))
-        (Cells.NotShown (s .next) (r .now .next) (s .peak) (r .now .peak) (now (table .entry)) (now (table .exit)))
-        (Stepping.stateOf net (now (counts .exit)) (now (ats .exit)) (now (whos .exit)) (r .now .timers) (r .now .clock) (r .now .rng .s))
+        × (places * length (now instants) ≤ length (now table))
+        × (s .tokens ≡ Stepping.tokensOf (Stepping.stateOf net (now counts) (now ats) (now owners) (s .timers) (s .clock) (s .rng .s))) ⌝ }
+    ensures is { λ net r. let before = Stepping.stateOf net (now (counts .entry)) (now (ats .entry)) (now (owners .entry)) (s .timers) (s .clock) (s .rng .s) in
+        ⌜ Stepping.StepBy (Rule.step room (Record.readable net) before) before last
+        (λ u. Cells.ShownBy places (now (instants .entry)) (u .clock) (u .counts) (s .next) (r .now .next) (now (table .entry)) (now (table .exit)))
+        (Cells.NotShown (s .next) (r .now .next) (now (table .entry)) (now (table .exit)))
+        (s .peak) (r .now .peak) (r .now .tokens)
+        (Stepping.stateOf net (now (counts .exit)) (now (ats .exit)) (now (owners .exit)) (r .now .timers) (r .now .clock) (r .now .rng .s))
         (r .rounded) (r .ending) ⌝ }
-    ensures ready { λ net r. ⌜ Stepping.Ready net (now (limit .entry)) (now (counts .exit)) (now (ats .exit)) (now (whos .exit)) (r .now .timers)
+    ensures ready { λ net r. ⌜ Stepping.Ready net (now (limit .entry)) (now (counts .exit)) (now (ats .exit)) (now (owners .exit)) room (r .now .timers)
         × (length (now (props .exit)) ≡ 64) × (length (now (table .exit)) ≡ length (now (table .entry)))
         × Cells.Stay places (length (now (instants .entry))) (now (table .entry)) (now (table .exit)) ⌝ }
 {
@@ -251,8 +266,9 @@ pub fn one_step<'a>(
         traits,
         counts,
         ats,
-        whos,
+        owners,
         props,
+        room,
         s.timers,
         t,
         rng,
@@ -268,6 +284,7 @@ pub fn one_step<'a>(
                 clock: clock,
                 timers: running,
                 next: s.next,
+                tokens: s.tokens,
                 peak: s.peak,
                 rng: g,
             };
@@ -282,6 +299,7 @@ pub fn one_step<'a>(
                 clock: clock,
                 timers: running,
                 next: s.next,
+                tokens: s.tokens,
                 peak: s.peak,
                 rng: g,
             };
@@ -292,13 +310,14 @@ pub fn one_step<'a>(
             }
         }
         Due::Event => {
-            let seen = shown::show(instants, table, counts, places, clock, s.next, s.peak);
+            let next = shown::show(instants, table, counts, places, clock, s.next);
             if last < clock {
                 let now = Now {
                     clock: clock,
                     timers: running,
-                    next: seen.next,
-                    peak: seen.peak,
+                    next: next,
+                    tokens: s.tokens,
+                    peak: s.peak,
                     rng: g,
                 };
                 return Stepped {
@@ -321,20 +340,23 @@ pub fn one_step<'a>(
                 limit,
                 counts,
                 ats,
-                whos,
+                owners,
                 props,
+                room,
                 running,
                 clock,
                 d.a0,
                 g,
+                s.tokens,
                 d.completes,
             );
             let h = e.rng;
             let now = Now {
                 clock: clock,
                 timers: e.timers,
-                next: seen.next,
-                peak: seen.peak,
+                next: next,
+                tokens: e.tokens,
+                peak: higher(s.peak, e.tokens),
                 rng: h,
             };
             if e.fits {

@@ -5,20 +5,20 @@ use lib.Ieee.{Float}
 use mathlib.Core.Bool.{true, false}
 use mathlib.Core.List.{List}
 use mathlib.Core.Path.{_≡_, refl, sym, ap, _∙_}
-use Prim.Native.Nat.{_+_, _-_, _*_, _≤_, _<_}
+use Prim.Native.Nat.{ℕ, _+_, _-_, _*_, _≤_, _<_}
 use native.Mathlib.Omega.{arith}
 use borrow.Author.Needs.{needs}
 use borrow.Author.Tests.{not-true, not-false}
-use Rattle.net.specs.Net.{rateOf}
+use Rattle.net.specs.Net.{amount, rateOf}
 use Rattle.net.specs.Readable.{Slot, slots, takesOf, readable, transition}
 use Rattle.net.specs.Record.{lent}
 use Rattle.rules.specs.Enabled.{enabled}
 use Rattle.rules.specs.Propensity.{factored}
 use Rattle.engine.specs.Engine.{marking}
-use Rattle.engine.specs.Limits.{limitAt}
-use Rattle.engine.proofs.Arcs.{slots-end}
-use Rattle.engine.proofs.Limits.{openFrom, open-all, from-stop, from-shut, from-open, no-takes, from-end}
-use Rattle.engine.proofs.Factors.{factored-turn, prop-stop, prop-go}
+use Rattle.engine.specs.Limits.{atLeast, limitAt}
+use Rattle.engine.proofs.Arcs.{amount-most, slots-end}
+use Rattle.engine.proofs.Limits.{openFrom, open-all, from-stop, from-shut, from-open, kinetic-limit, no-takes, from-end}
+use Rattle.engine.proofs.Factors.{times-limit, factored-turn, prop-stop, prop-go}
 use Rattle.engine.proofs.marking.propensity.Statement.{statement}
 use Rattle.engine.proofs.marking.propensity.Tie as tie
 
@@ -37,6 +37,13 @@ in-table : (c : tie.In-loop Inv-loop μ-loop) → c .before .loop .a < 1024
 in-table c =
     let s = c .before .before .before .before .before .before in
     omega (arith, c .loop-test .taken, s .pre .0, s .pre .1 .transitions, s .pre .1 .arcs (s .args .j))
+
+-- the call and the slot, from where the slot is open
+abbrev start : tie.Else1 Inv-loop μ-loop → tie.Start Inv-loop μ-loop
+start c = c .before .before .before .before .before .before .before .before .before .before .before
+
+abbrev slot : tie.Else1 Inv-loop μ-loop → ℕ
+slot c = c .before .before .before .before .before .before .loop .a
 
 mul-from : tie.Need-mul-from Inv-loop μ-loop
 mul-from c = omega (arith, c .pre .0, c .pre .1 .transitions)
@@ -130,35 +137,43 @@ mul-times c = omega (arith, in-table (c .before .before .before .before .before)
 element-copy-out-times : tie.Need-element-copy-out-times Inv-loop μ-loop
 element-copy-out-times c = omega (arith, in-table (c .before .before .before .before .before))
 
-mul-times-2 : tie.Need-mul-times-2 Inv-loop μ-loop
-mul-times-2 c = omega (arith, in-table (c .before .before .before .before .before .before))
-
-element-copy-out-times-2 : tie.Need-element-copy-out-times-2 Inv-loop μ-loop
-element-copy-out-times-2 c = omega (arith, in-table (c .before .before .before .before .before .before))
+-- a slot that is open: what its limit says of a kinetic take
+taken-by : (c : tie.Else1 Inv-loop μ-loop) → getD (start c .args .kind .now) (slot c) 0 ≡ 0
+    → getD (start c .args .limit .now) (slot c) 0 ≡ atLeast (amount (getD (start c .args .weight .now) (slot c) 0))
+taken-by c k =
+    let l = c .before .before .before .before .before in
+    let r = start c in
+    let s = r .args in
+    let n = lent (s .places) (s .transitions) (s .initial .now) (s .capacity .now) (s .rate .now) (s .delay .now) (s .arcs .now) (s .kind .now) (s .place .now) (s .weight .now) in
+    let say = r .pre .2 (slot c) (omega (arith, l .loop-test .taken, r .pre .0, r .pre .1 .arcs (s .j))) in
+    kinetic-limit n (r .pre .1) (s .counts .now) (r .pre .3 .small) (s .j) (slot c) (getD (s .limit .now) (slot c) 0) (l .before .loop .inv .0) (l .loop-test .taken) say
+    (sym (c .before .slot-open .ensures) ∙ not-false _ (c .if1 .left)) k
 
 times-requires : tie.Need-times-requires Inv-loop μ-loop
 times-requires c κs =
-    let l = c .before .before .before .before .before .before .before .before in
-    let r = l .before .before .before .before .before in
-    (r .pre .3 .small (getD (r .args .place .now) (l .loop .a) 0), r .pre .1 .weight (l .loop .a))
+    let o = c .before in
+    let r = start o in
+    (r .pre .3 .small (getD (r .args .place .now) (slot o) 0), λ k. omega (arith, taken-by o k, amount-most (getD (r .args .weight .now) (slot o) 0) (r .pre .1 .weight (slot o))))
 
 add-a : tie.Need-add-a Inv-loop μ-loop
-add-a c = omega (arith, in-table (c .before .before .before .before .before .before .before .before))
+add-a c = omega (arith, in-table (c .before .before .before .before .before .before .before))
 
 loop-less : tie.Need-loop-less Inv-loop μ-loop
 loop-less c = search needs
 
 loop-again : tie.Need-loop-again Inv-loop μ-loop
 loop-again c =
-    let l = c .before .before .before .before .before .before .before .before in
+    let l = c .before .before .before .before .before .before .before in
     let r = l .before .before .before .before .before .before in
     let s = r .args in
     let n = lent (s .places) (s .transitions) (s .initial .now) (s .capacity .now) (s .rate .now) (s .delay .now) (s .arcs .now) (s .kind .now) (s .place .now) (s .weight .now) in
     let say = r .pre .2 (l .before .loop .a) (omega (arith, l .loop-test .taken, r .pre .0, r .pre .1 .arcs (s .j))) in (
       omega (arith, l .before .loop .inv .0),
       from-open n (r .pre .1) (s .counts .now) (r .pre .3 .small) (s .j) (l .before .loop .a) (getD (s .limit .now) (l .before .loop .a) 0) (l .before .loop .inv .0) (l .loop-test .taken) say (l .before .loop .inv .1)
-          (sym (c .before .before .before .before .slot-open .ensures) ∙ not-false _ (c .before .before .before .if1 .left)),
-      ap (λ (x : Float). factored (s .counts .now) x (takesOf (slots (s .kind .now) (s .place .now) (s .weight .now) (l .before .loop .a + 1) ((16 * s .j + getD (s .arcs .now) (s .j) 0) - (l .before .loop .a + 1))))) (c .times .ensures)
+          (sym (c .before .before .before .slot-open .ensures) ∙ not-false _ (c .before .before .if1 .left)),
+      ap (λ (x : Float). factored (s .counts .now) x (takesOf (slots (s .kind .now) (s .place .now) (s .weight .now) (l .before .loop .a + 1) ((16 * s .j + getD (s .arcs .now) (s .j) 0) - (l .before .loop .a + 1))))) (c .times .ensures
+          ∙ times-limit (l .before .loop .x) (getD (s .kind .now) (l .before .loop .a) 0) (getD (s .weight .now) (l .before .loop .a) 0) (getD (s .limit .now) (l .before .loop .a) 0)
+          (getD (s .counts .now) (getD (s .place .now) (l .before .loop .a) 0) 0) (r .pre .1 .weight (l .before .loop .a)) (taken-by (c .before .before)))
           ∙ sym (factored-turn (s .counts .now) (l .before .loop .x) (s .kind .now) (s .place .now) (s .weight .now) (l .before .loop .a) (16 * s .j + getD (s .arcs .now) (s .j) 0) (l .loop-test .taken))
           ∙ l .before .loop .inv .2,
     )
@@ -202,8 +217,6 @@ propensity-spec =
     returns-2
     mul-times
     element-copy-out-times
-    mul-times-2
-    element-copy-out-times-2
     times-requires
     add-a
     loop-less

@@ -40,7 +40,7 @@ returns-2 c =
     let s = e .before .before in
     let a = s .args in (
       is-fired (net s) (marking (a .places) (a .counts)) (a .j) (s .pre .0)
-          (marking (a .places) (t .take .last .1 .1 .1 .1 .1 .0)) (marking (a .places) (c .put .last .1 .1 .1 .1 .1 .0)) (c .put .result)
+          (marking (a .places) (t .take .last .1 .1 .1 .1 .1 .0)) (marking (a .places) (c .put .last .1 .1 .1 .1 .1 .0)) (c .put .result .fits)
           (sym (e .enabled .ensures) ∙ not-false _ (t .before .before .if1 .left)) (t .take .ensures .0) (c .put .ensures .0),
       c .put .ensures .1,
     )

@@ -14,31 +14,28 @@ net s =
 
 abbrev from : tie.Start → State
 from s =
-    stateOf (net s) (s .args .counts .now) (s .args .ats .now) (s .args .whos .now) (s .args .running) (s .args .clock) (s .args .rng .s)
+    stateOf (net s) (s .args .counts .now) (s .args .ats .now) (s .args .owners .now) (s .args .running) (s .args .clock) (s .args .rng .s)
 
 complete-requires : tie.Need-complete-requires
 complete-requires c κs =
     let p = c .before .before .before .before .pre in
-    (p .0, p .2 (c .before .before .before .if1 .taken))
-
-sub-t26 : tie.Need-sub-t26
-sub-t26 c = c .before .before .before .before .before .pre .2 (c .before .before .before .before .if1 .taken)
+    (p .0, p .2 (c .before .before .before .if1 .taken), p .3)
 
 returns : tie.Need-returns
 returns c =
     let s = c .before .before .before .before .before in
-    (event-completes (net s) (from s) (s .args .a0) (s .args .props .now) _ _ (c .before .before .before .before .if1 .taken) (c .complete .ensures .0), c .complete .ensures .1)
+    (event-completes (net s) (from s) (s .args .a0) (s .args .props .now) _ _ _ (c .before .before .before .before .if1 .taken) (c .complete .ensures .0), c .complete .ensures .1)
 
 race-requires : tie.Need-race-requires
 race-requires c κs =
     let p = c .before .before .before .before .pre in
-    (p .0, p .1)
+    (p .0, p .1, p .3)
 
 returns-2 : tie.Need-returns-2
 returns-2 c =
     let s = c .before .before .before .before .before in
-    (event-races (net s) (from s) (s .args .a0) (s .args .props .now) _ _ (c .before .before .before .before .if1 .left) (c .race .ensures .0), c .race .ensures .1)
+    (event-races (net s) (from s) (s .args .a0) (s .args .props .now) _ _ _ (c .before .before .before .before .if1 .left) (c .race .ensures .0), c .race .ensures .1)
 
 pub happen-spec : {M : Type 1} → statement M
 happen-spec =
-    tie.close (tie.spec complete-requires sub-t26 returns race-requires returns-2)
+    tie.close (tie.spec complete-requires returns race-requires returns-2)

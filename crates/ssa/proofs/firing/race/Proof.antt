@@ -1,7 +1,8 @@
--- The draw and the choice are the rules'; the chosen transition takes and puts. Where none is chosen, or a number that no transition has, nothing happens.
+-- The draw and the choice are the rules'; the chosen transition fires. Where none is chosen, or a number that no transition has, nothing happens.
 use borrow.Author.Needs.{needs}
 use native.Mathlib.Omega.{arith}
 use mathlib.Core.Path.{refl, sym, ap, _∙_}
+use mathlib.Core.Bool.{true, false, false≢true}
 use mathlib.Core.List.{List}
 use mathlib.Core.Option.{some, none}
 use Prim.Native.Nat.{ℕ}
@@ -12,6 +13,7 @@ use Rattle.net.specs.Record.{lent}
 use Rattle.engine.specs.Engine.{Counts}
 use Rattle.jump.specs.Answers.{choiceOf}
 use Rattle.ssa.specs.Stepping.{Ready}
+use Rattle.ssa.proofs.Tokens.{tokens-few}
 use Rattle.ssa.proofs.Steps.{race-none, race-at, race-past}
 use Rattle.ssa.proofs.firing.race.Statement.{statement}
 use Rattle.ssa.proofs.firing.race.Tie as tie
@@ -38,59 +40,89 @@ enum-told c = search needs
 enum-known-chosen : tie.Need-enum-known-chosen
 enum-known-chosen c = search needs
 
-take-requires : tie.Need-take-requires
-take-requires c κs = search needs
-
-put-requires : tie.Need-put-requires
-put-requires c κs = search needs
+fire-requires : tie.Need-fire-requires
+fire-requires c κs =
+    let s = c .before .before .before .before .before .before .before .before .before .before .before in
+    let t = s .pre .0 .tidy in
+    (omega (arith, c .before .if1 .taken, t .transitions), t .places, t .arcs, t .place, t .weight, s .pre .0 .small, t .order _ (c .before .if1 .taken))
 
 -- the arrays with other counts
-ready : (s : tie.Start) (counts : List ℕ) → Counts counts → Ready (net s) (s .args .limit .now) counts (s .args .ats .now) (s .args .whos .now) (s .args .running)
+ready : (s : tie.Start) (counts : List ℕ) → Counts counts
+    → Ready (net s) (s .args .limit .now) counts (s .args .ats .now) (s .args .owners .now) (s .args .room) (s .args .running)
 ready s counts h =
     let p = s .pre .0 in
-    record { tidy = p .tidy; limits = p .limits; counts = h; ats = p .ats; whos = p .whos; few = p .few }
+    record { tidy = p .tidy; limits = p .limits; small = h; most = p .most; few = p .few; light = p .light }
+
+add-t36 : tie.Need-add-t36
+add-t36 c =
+    let s = c .before .before .before .before .before .before .before .before .before .before .before .before .before .before in
+    omega (arith, s .pre .2, tokens-few (s .args .clock) (s .args .rng .s) (s .pre .0), c .before .before .fire .ensures .3)
+
+sub-t37 : tie.Need-sub-t37
+sub-t37 c =
+    let f = c .before .before .before in
+    let s = f .before .before .before .before .before .before .before .before .before .before .before .before in
+    omega (arith, s .pre .2, f .fire .ensures .2 (c .before .before .if2 .taken))
 
 returns : tie.Need-returns
 returns c =
-    let k = c .before .before .before .before .before .before in
+    let f = c .before .before .before in
+    let k = f .before .before .before .before in
     let e = k .before .before in
     let d = e .before .before .before .before .before in
     let s = d .before in
     let a = s .args in
-    let t = c .before .before .take in
     let j = k .chosen .given .0 .0 in
-    let counts′ = c .put .last .1 .1 .1 .1 .1 .0 in (
-      race-at (net s) (a .counts .now) (a .ats .now) (a .whos .now) (a .running) (a .clock) (a .a0) (a .rng .s) (d .uniform .result .rng .s)
+    let fits = c .before .before .if2 .taken in
+    let counts′ = f .fire .last .1 .1 .1 .1 .1 .0 in (
+      race-at (net s) (a .counts .now) (a .ats .now) (a .owners .now) (a .running) (a .clock) (a .a0) (a .rng .s) (d .uniform .result .rng .s)
           (take (a .transitions) (a .props .now)) (d .uniform .result .value) (some j) (d .uniform .ensures .0) (d .uniform .ensures .1)
-          (sym (ap choiceOf (k .chosen .given .1)) ∙ e .choose .ensures) j refl (c .before .before .before .before .if1 .taken)
-          (t .last .1 .1 .1 .1 .1 .0) counts′ (c .put .result) (t .ensures .0) (c .put .ensures .0),
-      ready s counts′ (c .put .ensures .1),
+          (sym (ap choiceOf (k .chosen .given .1)) ∙ e .choose .ensures) j refl (f .before .before .if1 .taken) counts′ _ true (rw fits at (f .fire .ensures .0))
+          (λ z. omega (arith, s .pre .2, f .fire .ensures .2 fits)),
+      ready s counts′ (f .fire .ensures .1),
     )
 
 returns-2 : tie.Need-returns-2
 returns-2 c =
-    let e = c .before .before in
+    let f = c .before in
+    let k = f .before .before .before .before in
+    let e = k .before .before in
     let d = e .before .before .before .before .before in
     let s = d .before in
-    let a = s .args in (
-      race-none (net s) (a .counts .now) (a .ats .now) (a .whos .now) (a .running) (a .clock) (a .a0) (a .rng .s) (d .uniform .result .rng .s)
-          (take (a .transitions) (a .props .now)) (d .uniform .result .value) none (d .uniform .ensures .0) (d .uniform .ensures .1)
-          (sym (ap choiceOf (c .enum-told .given .1)) ∙ e .choose .ensures) refl,
-      ready s (a .counts .now) (s .pre .0 .counts),
+    let a = s .args in
+    let j = k .chosen .given .0 .0 in
+    let counts′ = f .fire .last .1 .1 .1 .1 .1 .0 in (
+      race-at (net s) (a .counts .now) (a .ats .now) (a .owners .now) (a .running) (a .clock) (a .a0) (a .rng .s) (d .uniform .result .rng .s)
+          (take (a .transitions) (a .props .now)) (d .uniform .result .value) (some j) (d .uniform .ensures .0) (d .uniform .ensures .1)
+          (sym (ap choiceOf (k .chosen .given .1)) ∙ e .choose .ensures) j refl (f .before .before .if1 .taken) counts′ _ false (rw (c .if2 .left) at (f .fire .ensures .0))
+          (λ z. absurd (false≢true z)),
+      ready s counts′ (f .fire .ensures .1),
     )
 
 returns-3 : tie.Need-returns-3
 returns-3 c =
+    let e = c .before .before in
+    let d = e .before .before .before .before .before in
+    let s = d .before in
+    let a = s .args in (
+      race-none (net s) (a .counts .now) (a .ats .now) (a .owners .now) (a .running) (a .clock) (a .a0) (a .rng .s) (d .uniform .result .rng .s)
+          (take (a .transitions) (a .props .now)) (d .uniform .result .value) none (d .uniform .ensures .0) (d .uniform .ensures .1)
+          (sym (ap choiceOf (c .enum-told .given .1)) ∙ e .choose .ensures) _ refl (omega (arith, s .pre .2)),
+      ready s (a .counts .now) (s .pre .0 .small),
+    )
+
+returns-4 : tie.Need-returns-4
+returns-4 c =
     let k = c .before .before in
     let e = k .before .before in
     let d = e .before .before .before .before .before in
     let s = d .before in
     let a = s .args in
     let j = k .chosen .given .0 .0 in (
-      race-past (net s) (a .counts .now) (a .ats .now) (a .whos .now) (a .running) (a .clock) (a .a0) (a .rng .s) (d .uniform .result .rng .s)
+      race-past (net s) (a .counts .now) (a .ats .now) (a .owners .now) (a .running) (a .clock) (a .a0) (a .rng .s) (d .uniform .result .rng .s)
           (take (a .transitions) (a .props .now)) (d .uniform .result .value) (some j) (d .uniform .ensures .0) (d .uniform .ensures .1)
-          (sym (ap choiceOf (k .chosen .given .1)) ∙ e .choose .ensures) j refl (c .if1 .left) (s .pre .0 .counts),
-      ready s (a .counts .now) (s .pre .0 .counts),
+          (sym (ap choiceOf (k .chosen .given .1)) ∙ e .choose .ensures) j refl _ (c .if1 .left) (s .pre .0 .small) (omega (arith, s .pre .2)),
+      ready s (a .counts .now) (s .pre .0 .small),
     )
 
 pub race-spec : {M : Type 1} → statement M
@@ -102,8 +134,10 @@ race-spec =
     choose-requires
     enum-told
     enum-known-chosen
-    take-requires
-    put-requires
+    fire-requires
+    add-t36
+    sub-t37
     returns
     returns-2
-    returns-3)
+    returns-3
+    returns-4)

@@ -40,31 +40,36 @@ shared-slice-read-last c = search needs
 show-requires : tie.Need-show-requires
 show-requires c κs = search needs
 
+sum-requires : tie.Need-sum-requires
+sum-requires c κs = search needs
+
 take-steps-requires : tie.Need-take-steps-requires
 take-steps-requires c κs =
-    let v = c .before .before .before .before .before .before .before .show in
-    let a = c .before .before .before .before .before .before .before .before .before .before .before .before .before in
+    let v = c .before .before .before .before .before .before .before .before .before .show in
+    let a = c .before .before .before .before .before .before .before .before .before .before .before .before .before .before .before in
     let s = a .args in
     let xs = s .instants .now in (
-      record { tidy = a .pre .0; limits = a .pre .1; counts = a .pre .2; ats = refl; whos = refl; few = omega arith },
+      record { tidy = a .pre .0; limits = a .pre .1; small = a .pre .2; most = omega arith; few = omega arith; light = tt },
       a .pre .4,
       refl,
-      shown-within (s .places) xs _ _ 0 (v .result .next) 0 (v .result .peak) (s .table .now) (v .last .1 .0) (v .ensures) (omega arith),
+      shown-within (s .places) xs _ _ 0 (v .result) (s .table .now) (v .last .1 .0) (v .ensures) (omega arith),
       a .pre .6,
       omega (arith, a .pre .8, v .ensures .cells .long),
+      omega arith,
+      omega (arith, c .before .before .before .before .before .sum .ensures),
     )
 
 enum-known-end : tie.Need-enum-known-end
 enum-known-end c = search needs
 
 mul-clear : tie.Need-mul-clear
-mul-clear c = let a = c .before .before .before .before .before .before .before .before .before .before .before .before .before .before .before .before .before .before .before .before in omega (arith, mul-le-mul (a .pre .0 .places) (a .pre .6))
+mul-clear c = let a = c .before .before .before .before .before .before .before .before .before .before .before .before .before .before .before .before .before .before .before .before .before .before in omega (arith, mul-le-mul (a .pre .0 .places) (a .pre .6))
 
 clear-requires : tie.Need-clear-requires
 clear-requires c κs =
     let w = c .before .before .before .before .before .before .take-steps in
-    let v = c .before .before .before .before .before .before .before .before .before .before .before .before .before .before .show in
-    let a = c .before .before .before .before .before .before .before .before .before .before .before .before .before .before .before .before .before .before .before .before in
+    let v = c .before .before .before .before .before .before .before .before .before .before .before .before .before .before .before .before .show in
+    let a = c .before .before .before .before .before .before .before .before .before .before .before .before .before .before .before .before .before .before .before .before .before .before in
     omega (arith, a .pre .8, v .ensures .cells .long, w .ensures .1 .1)
 
 same-length : tie.Need-same-length
@@ -73,28 +78,30 @@ same-length c = search needs
 returns : tie.Need-returns
 returns c =
     let w = c .before .before .before .before .before .before .before .before .before .take-steps in
-    let v = c .before .before .before .before .before .before .before .before .before .before .before .before .before .before .before .before .before .show in
-    let a = c .before .before .before .before .before .before .before .before .before .before .before .before .before .before .before .before .before .before .before .before .before .before .before in
+    let u = c .before .before .before .before .before .before .before .before .before .before .before .before .before .before .before .sum in
+    let v = c .before .before .before .before .before .before .before .before .before .before .before .before .before .before .before .before .before .before .before .show in
+    let a = c .before .before .before .before .before .before .before .before .before .before .before .before .before .before .before .before .before .before .before .before .before .before .before .before .before in
     let s = a .args in
-    refused-path (readable (lent (s .places) (s .transitions) (s .initial .now) (s .capacity .now) (s .rate .now) (s .delay .now) (s .arcs .now) (s .kind .now) (s .place .now) (s .weight .now))) (words (s .rng .s)) (s .instants .now) (s .steps) (s .places) (v .result .next) (v .result .peak)
+    refused-path (readable (lent (s .places) (s .transitions) (s .initial .now) (s .capacity .now) (s .rate .now) (s .delay .now) (s .arcs .now) (s .kind .now) (s .place .now) (s .weight .now))) (words (s .rng .s)) (s .instants .now) (s .steps) (s .places) (v .result) (u .result)
     (marking (s .places) (s .counts .now)) (getD (s .instants .now) (length (s .instants .now) - 1) nan) (s .table .now) (v .last .1 .0)
-    (a .pre .7) (a .pre .3) (last-at (s .instants .now) (a .pre .5)) (v .ensures)
-    (w .result) (marking (s .places) (w .last .1 .1 .1 .1 .1 .1 .1 .1 .1 .1 .1 .1 .1 .0)) (w .last .1 .1 .1 .1 .1 .1 .1 .1 .1 .1 .1 .1 .1 .1 .1 .1 .1 .1 .1 .0)
+    (a .pre .7) (a .pre .3) (last-at (s .instants .now) (a .pre .5)) (u .ensures) (v .ensures)
+    (w .result) (marking (s .places) (w .last .1 .1 .1 .1 .1 .1 .1 .1 .1 .1 .1 .1 .1 .0)) (w .last .1 .1 .1 .1 .1 .1 .1 .1 .1 .1 .1 .1 .1 .1 .1 .1 .1 .1 .1 .1 .0)
     (c .before .before .before .before .before .end .given .0 .0) (w .result .end) (c .before .before .before .before .before .end .given .1) (w .ensures .0) (w .ensures .1 .1) (w .ensures .1 .2)
     (c .before .before .clear .last .0) (c .before .before .clear .ensures)
     (record { end = Refused (c .before .before .before .before .before .end .given .0 .0); steps = 0; settled = 0; peak = 0; rounded = 0; generator = s .rng }) refl refl refl refl refl refl
 
-show-until-requires : tie.Need-show-until-requires
-show-until-requires c κs =
+fill-requires : tie.Need-fill-requires
+fill-requires c κs =
     let w = c .before .before .before .before .before .before .take-steps in
-    let v = c .before .before .before .before .before .before .before .before .before .before .before .before .before .before .show in
-    let a = c .before .before .before .before .before .before .before .before .before .before .before .before .before .before .before .before .before .before .before .before in
+    let u = c .before .before .before .before .before .before .before .before .before .before .before .before .sum in
+    let v = c .before .before .before .before .before .before .before .before .before .before .before .before .before .before .before .before .show in
+    let a = c .before .before .before .before .before .before .before .before .before .before .before .before .before .before .before .before .before .before .before .before .before .before in
     let s = a .args in
-    let h = still-within (readable (lent (s .places) (s .transitions) (s .initial .now) (s .capacity .now) (s .rate .now) (s .delay .now) (s .arcs .now) (s .kind .now) (s .place .now) (s .weight .now))) (words (s .rng .s)) (s .instants .now) (s .steps) (s .places) (v .result .next) (v .result .peak)
+    let h = still-within (readable (lent (s .places) (s .transitions) (s .initial .now) (s .capacity .now) (s .rate .now) (s .delay .now) (s .arcs .now) (s .kind .now) (s .place .now) (s .weight .now))) (words (s .rng .s)) (s .instants .now) (s .steps) (s .places) (v .result) (u .result)
     (marking (s .places) (s .counts .now)) (getD (s .instants .now) (length (s .instants .now) - 1) nan) (s .table .now) (v .last .1 .0)
-    (a .pre .7) (a .pre .3) (last-at (s .instants .now) (a .pre .5)) (v .ensures)
-    (w .result) (marking (s .places) (w .last .1 .1 .1 .1 .1 .1 .1 .1 .1 .1 .1 .1 .1 .0)) (w .last .1 .1 .1 .1 .1 .1 .1 .1 .1 .1 .1 .1 .1 .1 .1 .1 .1 .1 .1 .0) (w .result .end) (not-refused (w .result .end) (c .before .before .before .match .keys2)) (w .ensures .0) in
-    (a .pre .0 .places, h, omega arith, a .pre .6, omega (arith, a .pre .8, v .ensures .cells .long, w .ensures .1 .1), w .ensures .1 .0)
+    (a .pre .7) (a .pre .3) (last-at (s .instants .now) (a .pre .5)) (u .ensures) (v .ensures)
+    (w .result) (marking (s .places) (w .last .1 .1 .1 .1 .1 .1 .1 .1 .1 .1 .1 .1 .1 .0)) (w .last .1 .1 .1 .1 .1 .1 .1 .1 .1 .1 .1 .1 .1 .1 .1 .1 .1 .1 .1 .1 .0) (w .result .end) (not-refused (w .result .end) (c .before .before .before .match .keys2)) (w .ensures .0) in
+    (a .pre .0 .places, omega (arith, h), a .pre .6, omega (arith, a .pre .8, v .ensures .cells .long, w .ensures .1 .1), w .ensures .1 .0)
 
 settled-requires : tie.Need-settled-requires
 settled-requires c κs = search needs
@@ -105,15 +112,16 @@ same-length-2 c = search needs
 returns-2 : tie.Need-returns-2
 returns-2 c =
     let w = c .before .before .before .before .before .before .before .before .before .before .take-steps in
-    let v = c .before .before .before .before .before .before .before .before .before .before .before .before .before .before .before .before .before .before .show in
-    let a = c .before .before .before .before .before .before .before .before .before .before .before .before .before .before .before .before .before .before .before .before .before .before .before .before in
+    let u = c .before .before .before .before .before .before .before .before .before .before .before .before .before .before .before .before .sum in
+    let v = c .before .before .before .before .before .before .before .before .before .before .before .before .before .before .before .before .before .before .before .before .show in
+    let a = c .before .before .before .before .before .before .before .before .before .before .before .before .before .before .before .before .before .before .before .before .before .before .before .before .before .before in
     let s = a .args in
-    answered (readable (lent (s .places) (s .transitions) (s .initial .now) (s .capacity .now) (s .rate .now) (s .delay .now) (s .arcs .now) (s .kind .now) (s .place .now) (s .weight .now))) (words (s .rng .s)) (s .instants .now) (s .steps) (s .places) (v .result .next) (v .result .peak)
+    answered (readable (lent (s .places) (s .transitions) (s .initial .now) (s .capacity .now) (s .rate .now) (s .delay .now) (s .arcs .now) (s .kind .now) (s .place .now) (s .weight .now))) (words (s .rng .s)) (s .instants .now) (s .steps) (s .places) (v .result) (u .result)
     (marking (s .places) (s .counts .now)) (getD (s .instants .now) (length (s .instants .now) - 1) nan) (s .table .now) (v .last .1 .0)
-    (a .pre .7) (a .pre .3) (last-at (s .instants .now) (a .pre .5)) (v .ensures)
-    (w .result) (marking (s .places) (w .last .1 .1 .1 .1 .1 .1 .1 .1 .1 .1 .1 .1 .1 .0)) (w .last .1 .1 .1 .1 .1 .1 .1 .1 .1 .1 .1 .1 .1 .1 .1 .1 .1 .1 .1 .0)
+    (a .pre .7) (a .pre .3) (last-at (s .instants .now) (a .pre .5)) (u .ensures) (v .ensures)
+    (w .result) (marking (s .places) (w .last .1 .1 .1 .1 .1 .1 .1 .1 .1 .1 .1 .1 .1 .0)) (w .last .1 .1 .1 .1 .1 .1 .1 .1 .1 .1 .1 .1 .1 .1 .1 .1 .1 .1 .1 .1 .0)
     (w .result .end) (not-refused (w .result .end) (c .before .before .before .before .before .before .before .match .keys2)) (w .ensures .0)
-    (c .before .before .before .show-until .result) (c .before .before .before .show-until .last .0) (c .before .before .before .show-until .ensures) (a .pre .8)
+    (c .before .before .before .fill .last .0) (c .before .before .before .fill .ensures) (a .pre .8)
     _ refl refl (c .settled .ensures) refl refl refl
 
 pub play-spec : {M : Type 1} → statement M
@@ -124,13 +132,14 @@ play-spec =
     mul-last
     shared-slice-read-last
     show-requires
+    sum-requires
     take-steps-requires
     enum-known-end
     mul-clear
     clear-requires
     same-length
     returns
-    show-until-requires
+    fill-requires
     settled-requires
     same-length-2
     returns-2)

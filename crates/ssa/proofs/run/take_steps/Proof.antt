@@ -6,7 +6,7 @@ use Prim.Native.Nat.{suc, _+_, _-_, _≤_}
 use lib.ListN.{length, drop}
 use Rattle.net.specs.Readable.{readable}
 use Rattle.net.specs.Record.{lent}
-use Rattle.rules.proofs.Play.{play}
+use Rattle.rules.proofs.Play.{higher, play}
 use Rattle.ssa.specs.declared.PathEnd.the-variants.{Quiet, Spent, Reached, Refused}
 use Rattle.ssa.specs.declared.run.Walked.{Walked}
 use Rattle.ssa.specs.Stepping.{Ready, stateOf}
@@ -15,19 +15,19 @@ use Rattle.ssa.proofs.run.take_steps.Statement.{statement}
 use Rattle.ssa.proofs.run.take_steps.Tie as tie
 
 abbrev Inv-loop : tie.InvT-loop
-Inv-loop places transitions initial capacity rate delay arcs kind place weight limit sure traits counts₀ ats₀ whos₀ props₀ instants last table₀ steps at₀ done₀ rounded₀ counts ats whos props table at done rounded =
+Inv-loop places transitions initial capacity rate delay arcs kind place weight limit sure traits counts₀ ats₀ owners₀ props₀ room instants last table₀ steps at₀ done₀ rounded₀ counts ats owners props table at done rounded =
     let net = lent places transitions initial capacity rate delay arcs kind place weight in
     (done ≤ steps)
     × (rounded ≤ done)
-    × Ready net limit counts ats whos (at .timers)
+    × Ready net limit counts ats owners room (at .timers)
     × (length props ≡ 64)
-    × SoFar (readable net) last instants places
-    (play (readable net) last steps (drop (at₀ .next) instants) (stateOf net counts₀ ats₀ whos₀ (at₀ .timers) (at₀ .clock) (at₀ .rng .s)))
-    (at₀ .next) (at₀ .peak) table₀
-    (steps - done) done rounded (at .next) (at .peak) (stateOf net counts ats whos (at .timers) (at .clock) (at .rng .s)) table
+    × SoFar room (readable net) last instants places
+    (higher (at₀ .peak) (play room (readable net) last steps (drop (at₀ .next) instants) (stateOf net counts₀ ats₀ owners₀ (at₀ .timers) (at₀ .clock) (at₀ .rng .s))))
+    (at₀ .next) table₀
+    (steps - done) done rounded (at .next) (at .tokens) (at .peak) (stateOf net counts ats owners (at .timers) (at .clock) (at .rng .s)) table
 
 abbrev μ-loop : tie.MeasureT-loop
-μ-loop places transitions initial capacity rate delay arcs kind place weight limit sure traits counts₀ ats₀ whos₀ props₀ instants last table₀ steps at₀ done₀ rounded₀ counts ats whos props table at done rounded =
+μ-loop places transitions initial capacity rate delay arcs kind place weight limit sure traits counts₀ ats₀ owners₀ props₀ room instants last table₀ steps at₀ done₀ rounded₀ counts ats owners props table at done rounded =
     steps - done
 
 loop-holds : tie.Need-loop-holds Inv-loop μ-loop
@@ -38,14 +38,14 @@ loop-holds c =
       omega arith,
       a .pre .0,
       a .pre .2,
-      so-far-none _ (s .last) (s .instants .now) (s .places) (s .steps) (s .s .next) (s .s .peak) _ (s .table .now) (a .pre .3),
+      so-far-none (s .room) _ (s .last) (s .instants .now) (s .places) (s .steps) (s .s .next) (s .s .tokens) (s .s .peak) _ (s .table .now) (a .pre .3) (a .pre .7) (a .pre .6),
     )
 
 one-step-requires : tie.Need-one-step-requires Inv-loop μ-loop
 one-step-requires c κs =
     let l = c .before .before .before .before .before .before .before .before in
     let a = l .before .before .before in
-    (l .loop .inv .2, a .pre .1, l .loop .inv .3, l .loop .inv .4 .within, a .pre .4, omega (arith, a .pre .5, l .loop .inv .4 .listed .long))
+    (l .loop .inv .2, a .pre .1, l .loop .inv .3, l .loop .inv .4 .within, a .pre .4, omega (arith, a .pre .5, l .loop .inv .4 .listed .long), l .loop .inv .4 .now)
 
 add-done : tie.Need-add-done Inv-loop μ-loop
 add-done c = let l = c .before .before .before .before .before .before .before .before .before .before .before .before .before in omega (arith, l .before .before .before .fits .steps, c .before .before .before .before .before .before .before .before .before .before .before .before .loop-test .taken)
@@ -71,7 +71,7 @@ loop-again c =
       omega (arith, l .loop .inv .1, c .before .before .one-more .ensures, one-at-most (o .one-step .result .rounded)),
       o .one-step .ensures .1 .0,
       o .one-step .ensures .1 .1,
-      goes-on f (l .before .before .before .args .steps - (l .loop .done + 1)) e (o .before .before .before .before .before .before .if1 .taken) (c .before .before .one-more .result) (c .before .before .one-more .ensures) (rw (c .enum-told .given .1) at (o .one-step .ensures .0)),
+      goes-on (l .loop .inv .2 .tidy .once) f (l .before .before .before .args .steps - (l .loop .done + 1)) e (o .before .before .before .before .before .before .if1 .taken) (c .before .before .one-more .result) (c .before .before .one-more .ensures) (rw (c .enum-told .given .1) at (o .one-step .ensures .0)),
     )
 
 enum-told-2 : tie.Need-enum-told-2 Inv-loop μ-loop
@@ -88,8 +88,8 @@ returns c =
     let e : l .before .before .before .args .steps - l .loop .done ≡ suc (l .before .before .before .args .steps - (l .loop .done + 1)) = omega (arith, o .before .before .before .before .before .before .before .before .loop-test .taken) in
     let r = o .one-step .result .now in
     let w : Walked = record { end = Quiet; steps = l .loop .done + 1; rounded = c .before .before .one-more .result; next = r .next; peak = r .peak; rng = r .rng } in (
-      nothing-left f (l .before .before .before .args .steps - (l .loop .done + 1)) e (o .before .before .before .before .before .before .if1 .taken) w refl (c .before .before .one-more .ensures) refl (rw (c .enum-told2 .given .1) at (o .one-step .ensures .0)),
-      (o .one-step .ensures .1 .0 .counts, o .one-step .ensures .1 .2 ∙ f .listed .long, λ i h. o .one-step .ensures .1 .3 i h ∙ f .listed .further i h),
+      nothing-left (l .loop .inv .2 .tidy .once) f (l .before .before .before .args .steps - (l .loop .done + 1)) e (o .before .before .before .before .before .before .if1 .taken) w refl (c .before .before .one-more .ensures) refl (rw (c .enum-told2 .given .1) at (o .one-step .ensures .0)),
+      (o .one-step .ensures .1 .0 .small, o .one-step .ensures .1 .2 ∙ f .listed .long, λ i h. o .one-step .ensures .1 .3 i h ∙ f .listed .further i h),
     )
 
 enum-told-3 : tie.Need-enum-told-3 Inv-loop μ-loop
@@ -106,8 +106,8 @@ returns-2 c =
     let e : l .before .before .before .args .steps - l .loop .done ≡ suc (l .before .before .before .args .steps - (l .loop .done + 1)) = omega (arith, o .before .before .before .before .before .before .before .before .loop-test .taken) in
     let r = o .one-step .result .now in
     let w : Walked = record { end = Reached; steps = l .loop .done + 1; rounded = c .before .before .one-more .result; next = r .next; peak = r .peak; rng = r .rng } in (
-      past-last f (l .before .before .before .args .steps - (l .loop .done + 1)) e (o .before .before .before .before .before .before .if1 .taken) w refl (c .before .before .one-more .ensures) refl (rw (c .enum-told3 .given .1) at (o .one-step .ensures .0)),
-      (o .one-step .ensures .1 .0 .counts, o .one-step .ensures .1 .2 ∙ f .listed .long, λ i h. o .one-step .ensures .1 .3 i h ∙ f .listed .further i h),
+      past-last (l .loop .inv .2 .tidy .once) f (l .before .before .before .args .steps - (l .loop .done + 1)) e (o .before .before .before .before .before .before .if1 .taken) w refl (c .before .before .one-more .ensures) refl (rw (c .enum-told3 .given .1) at (o .one-step .ensures .0)),
+      (o .one-step .ensures .1 .0 .small, o .one-step .ensures .1 .2 ∙ f .listed .long, λ i h. o .one-step .ensures .1 .3 i h ∙ f .listed .further i h),
     )
 
 enum-known-ending : tie.Need-enum-known-ending Inv-loop μ-loop
@@ -124,8 +124,8 @@ returns-3 c =
     let e : l .before .before .before .args .steps - l .loop .done ≡ suc (l .before .before .before .args .steps - (l .loop .done + 1)) = omega (arith, o .before .before .before .before .before .before .before .before .loop-test .taken) in
     let r = o .one-step .result .now in
     let w : Walked = record { end = Refused (c .before .ending .given .0 .0); steps = l .loop .done + 1; rounded = c .before .before .before .one-more .result; next = r .next; peak = r .peak; rng = r .rng } in (
-      turned-down f (l .before .before .before .args .steps - (l .loop .done + 1)) e (o .before .before .before .before .before .before .if1 .taken) w (c .before .ending .given .0 .0) (rw (c .before .ending .given .1) at (o .one-step .ensures .0)),
-      (o .one-step .ensures .1 .0 .counts, o .one-step .ensures .1 .2 ∙ f .listed .long, λ i h. o .one-step .ensures .1 .3 i h ∙ f .listed .further i h),
+      turned-down (l .loop .inv .2 .tidy .once) f (l .before .before .before .args .steps - (l .loop .done + 1)) e (o .before .before .before .before .before .before .if1 .taken) w (c .before .ending .given .0 .0) (rw (c .before .ending .given .1) at (o .one-step .ensures .0)),
+      (o .one-step .ensures .1 .0 .small, o .one-step .ensures .1 .2 ∙ f .listed .long, λ i h. o .one-step .ensures .1 .3 i h ∙ f .listed .further i h),
     )
 
 same-length-4 : tie.Need-same-length-4 Inv-loop μ-loop
@@ -136,7 +136,7 @@ returns-4 c =
     let l = c .before .before .before in
     let f = l .loop .inv .4 in
     let w : Walked = record { end = Reached; steps = l .loop .done; rounded = l .loop .rounded; next = l .loop .at .next; peak = l .loop .at .peak; rng = l .loop .at .rng } in
-    (at-last w f refl (c .if1 .left), (l .loop .inv .2 .counts, f .listed .long, f .listed .further))
+    (at-last w f refl (c .if1 .left), (l .loop .inv .2 .small, f .listed .long, f .listed .further))
 
 same-length-5 : tie.Need-same-length-5 Inv-loop μ-loop
 same-length-5 c = c .before .before .before .loop .inv .4 .listed .long
@@ -146,7 +146,7 @@ returns-5 c =
     let l = c .before .before .before in
     let f = l .loop .inv .4 in
     let w : Walked = record { end = Spent; steps = l .loop .done; rounded = l .loop .rounded; next = l .loop .at .next; peak = l .loop .at .peak; rng = l .loop .at .rng } in
-    (at-limit w f refl (omega (arith, c .before .before .loop-test .left)) (c .if2 .taken), (l .loop .inv .2 .counts, f .listed .long, f .listed .further))
+    (at-limit w f refl (omega (arith, c .before .before .loop-test .left)) (c .if2 .taken), (l .loop .inv .2 .small, f .listed .long, f .listed .further))
 
 same-length-6 : tie.Need-same-length-6 Inv-loop μ-loop
 same-length-6 c = c .before .before .before .loop .inv .4 .listed .long
@@ -156,7 +156,7 @@ returns-6 c =
     let l = c .before .before .before in
     let f = l .loop .inv .4 in
     let w : Walked = record { end = Reached; steps = l .loop .done; rounded = l .loop .rounded; next = l .loop .at .next; peak = l .loop .at .peak; rng = l .loop .at .rng } in
-    (at-last w f refl (c .if2 .left), (l .loop .inv .2 .counts, f .listed .long, f .listed .further))
+    (at-last w f refl (c .if2 .left), (l .loop .inv .2 .small, f .listed .long, f .listed .further))
 
 pub take-steps-spec : {M : Type 1} → statement M
 take-steps-spec =

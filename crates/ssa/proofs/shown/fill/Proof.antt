@@ -1,6 +1,6 @@
--- The loop fills the instants one by one, and the columns join (proofs/Cells). Where `to` is not above `from` no turn is made.
+-- The loop fills the instants one by one, and the columns join (proofs/Cells). Where `to` is not above `from` no turn is made. The counts beyond the places do not matter.
 use Rattle.ssa.specs.Cells.{Filled}
-use Rattle.ssa.proofs.Cells.{filled-none, filled-join, filled-end}
+use Rattle.ssa.proofs.Cells.{filled-none, filled-join, filled-end, filled-marking}
 use borrow.Author.Needs.{needs}
 use native.Mathlib.Omega.{arith}
 use Prim.Native.Nat.{_+_, _-_, max, _≤_}
@@ -41,7 +41,8 @@ returns : tie.Need-returns Inv-loop μ-loop
 returns c =
     let l = c .before in
     let s = l .before .before .args in
-    filled-end (s .places) (s .n) (s .from) (l .loop .i) (s .to) (s .counts .now) (s .table .now) (l .loop .table) (omega arith) (omega arith) (l .loop .inv .2)
+    filled-marking (s .places) (s .n) (s .from) (s .to) (s .counts .now) (s .table .now) (l .loop .table)
+    (filled-end (s .places) (s .n) (s .from) (l .loop .i) (s .to) (s .counts .now) (s .table .now) (l .loop .table) (omega arith) (omega arith) (l .loop .inv .2))
 
 pub fill-spec : {M : Type 1} → statement M
 fill-spec =

@@ -8,12 +8,12 @@ use Rattle.ssa.proofs.shown.show.Tie as tie
 reached-requires : tie.Need-reached-requires
 reached-requires c κs = search needs
 
-show-until-requires : tie.Need-show-until-requires
-show-until-requires c κs =
+fill-requires : tie.Need-fill-requires
+fill-requires c κs =
     let l = c .before .before .before .before in
     let s = l .args in
     let few = reached-few (s .clock) (s .instants .now) (s .next) (l .pre .1) in
-    (l .pre .0, omega arith, omega (arith, few), l .pre .2, l .pre .3, l .pre .4)
+    (l .pre .0, omega (arith, few), l .pre .2, l .pre .3, l .pre .4)
 
 same-length : tie.Need-same-length
 same-length c = search needs
@@ -22,4 +22,4 @@ returns : tie.Need-returns
 returns c = search needs
 
 pub show-spec : {M : Type 1} → statement M
-show-spec = tie.close (tie.spec reached-requires show-until-requires same-length returns)
+show-spec = tie.close (tie.spec reached-requires fill-requires same-length returns)

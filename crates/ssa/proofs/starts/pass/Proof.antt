@@ -16,15 +16,15 @@ use Rattle.ssa.proofs.starts.pass.Statement.{statement}
 use Rattle.ssa.proofs.starts.pass.Tie as tie
 
 abbrev Inv-loop : tie.InvT-loop
-Inv-loop places transitions initial capacity rate delay arcs kind place weight limit counts₀ ats₀ whos₀ n t k₀ any₀ j₀ counts ats whos k any j =
+Inv-loop places transitions initial capacity rate delay arcs kind place weight limit counts₀ ats₀ owners₀ room n t k₀ any₀ j₀ counts ats owners k any j =
     let net = lent places transitions initial capacity rate delay arcs kind place weight in
     (j ≤ transitions)
-    × SoFar (Rule.pass (readable net) t 0 (readable net .transitions) (marking places counts₀) (timers ats₀ whos₀ n))
-    (passFrom net t j (marking places counts) (timers ats whos k)) any
-    × Ready net limit counts ats whos k
+    × SoFar (Rule.pass room (readable net) t 0 (readable net .transitions) (marking places counts₀) (timers ats₀ owners₀ n))
+    (passFrom room net t j (marking places counts) (timers ats owners k)) any
+    × Ready net limit counts ats owners room k
 
 abbrev μ-loop : tie.MeasureT-loop
-μ-loop places transitions initial capacity rate delay arcs kind place weight limit counts₀ ats₀ whos₀ n t k₀ any₀ j₀ counts ats whos k any j =
+μ-loop places transitions initial capacity rate delay arcs kind place weight limit counts₀ ats₀ owners₀ room n t k₀ any₀ j₀ counts ats owners k any j =
     transitions - j
 
 abbrev netAt : tie.Start Inv-loop μ-loop → NetRecord
@@ -34,7 +34,7 @@ netAt s =
 
 loop-holds : tie.Need-loop-holds Inv-loop μ-loop
 loop-holds c =
-    (omega arith, so-none _ _ (from-first (netAt c) (c .args .t) (marking (c .args .places) (now (c .args .counts))) (timers (now (c .args .ats)) (now (c .args .whos)) (c .args .n))), c .pre)
+    (omega arith, so-none _ _ (from-first (c .args .room) (netAt c) (c .args .t) (marking (c .args .places) (now (c .args .counts))) (timers (now (c .args .ats)) (now (c .args .owners)) (c .args .n))), c .pre)
 
 try-start-requires : tie.Need-try-start-requires Inv-loop μ-loop
 try-start-requires c κs =
@@ -47,8 +47,8 @@ returns c =
     let b = u .before .before .before .before in
     let l = b .before .loop in
     let s = b .before .before in (
-      turn-full (l .inv .1) (passFrom (netAt s) (s .args .t) (l .j + 1)) _ _ (u .try-start .ensures .0)
-          (from-next (netAt s) (s .args .t) (marking (s .args .places) (l .counts)) (timers (l .ats) (l .whos) (l .k)) (l .j) (b .loop-test .taken))
+      turn-full (l .inv .1) (passFrom (s .args .room) (netAt s) (s .args .t) (l .j + 1)) _ _ (u .try-start .ensures .0)
+          (from-next (s .args .room) (netAt s) (s .args .t) (marking (s .args .places) (l .counts)) (timers (l .ats) (l .owners) (l .k)) (l .j) (b .loop-test .taken))
           (c .if1 .taken),
       u .try-start .ensures .1,
     )
@@ -70,8 +70,8 @@ loop-again c =
     let l = b .before .loop in
     let s = b .before .before in (
       omega (arith, b .loop-test .taken),
-      turned (l .inv .1) (passFrom (netAt s) (s .args .t) (l .j + 1)) (u .try-start .ensures .0)
-          (from-next (netAt s) (s .args .t) (marking (s .args .places) (l .counts)) (timers (l .ats) (l .whos) (l .k)) (l .j) (b .loop-test .taken))
+      turned (l .inv .1) (passFrom (s .args .room) (netAt s) (s .args .t) (l .j + 1)) (u .try-start .ensures .0)
+          (from-next (s .args .room) (netAt s) (s .args .t) (marking (s .args .places) (l .counts)) (timers (l .ats) (l .owners) (l .k)) (l .j) (b .loop-test .taken))
           (c .before .if1 .left),
       u .try-start .ensures .1,
     )
@@ -81,7 +81,7 @@ returns-2 c =
     let l = c .before .loop in
     let s = c .before .before in (
       so-ended (l .inv .1) [] _ _ (l .k)
-          (from-end (netAt s) (s .args .t) (marking (s .args .places) (l .counts)) (timers (l .ats) (l .whos) (l .k)) (l .j) (c .loop-test .left))
+          (from-end (s .args .room) (netAt s) (s .args .t) (marking (s .args .places) (l .counts)) (timers (l .ats) (l .owners) (l .k)) (l .j) (c .loop-test .left))
           refl,
       l .inv .2,
     )

@@ -2,9 +2,9 @@
 use borrow.Author.Tests.{not-true, not-false}
 use denote.Ref.{now}
 use native.Mathlib.Omega.{arith}
-use mathlib.Core.Path.{refl, sym, _∙_}
+use mathlib.Core.Path.{_≡_, refl, sym, ap, _∙_}
 use mathlib.Core.List.{[]}
-use Prim.Native.Nat.{_+_, _-_, _≤_}
+use Prim.Native.Nat.{ℕ, suc, _+_, _-_, _≤_}
 use Rattle.net.specs.declared.Net.{Net as NetRecord}
 use Rattle.net.specs.Readable.{readable}
 use Rattle.net.specs.Record.{lent}
@@ -18,16 +18,16 @@ use Rattle.ssa.proofs.starts.start_all.Statement.{statement}
 use Rattle.ssa.proofs.starts.start_all.Tie as tie
 
 abbrev Inv-loop : tie.InvT-loop
-Inv-loop places transitions initial capacity rate delay arcs kind place weight limit timed counts₀ ats₀ whos₀ n t k₀ any₀ i₀ counts ats whos k any i =
+Inv-loop places transitions initial capacity rate delay arcs kind place weight limit timed counts₀ ats₀ owners₀ room n t k₀ any₀ i₀ counts ats owners k any i =
     let net = lent places transitions initial capacity rate delay arcs kind place weight in
-    (i ≤ 257)
-    × SoFar (Rule.passes 257 (readable net) t (marking places counts₀) (timers ats₀ whos₀ n))
-    (Rule.passes (257 - i) (readable net) t (marking places counts) (timers ats whos k)) any
-    × Ready net limit counts ats whos k
+    (i ≤ suc room)
+    × SoFar (Rule.passes (suc room) room (readable net) t (marking places counts₀) (timers ats₀ owners₀ n))
+    (Rule.passes (suc room - i) room (readable net) t (marking places counts) (timers ats owners k)) any
+    × Ready net limit counts ats owners room k
 
 abbrev μ-loop : tie.MeasureT-loop
-μ-loop places transitions initial capacity rate delay arcs kind place weight limit timed counts₀ ats₀ whos₀ n t k₀ any₀ i₀ counts ats whos k any i =
-    257 - i
+μ-loop places transitions initial capacity rate delay arcs kind place weight limit timed counts₀ ats₀ owners₀ room n t k₀ any₀ i₀ counts ats owners k any i =
+    suc room - i
 
 abbrev netAt : tie.Start Inv-loop μ-loop → NetRecord
 netAt s =
@@ -38,14 +38,22 @@ returns : tie.Need-returns Inv-loop μ-loop
 returns c =
     let s = c .before in (
       done [] refl
-          (passes-quiet (netAt s) (s .args .t) (marking (s .args .places) (now (s .args .counts))) (timers (now (s .args .ats)) (now (s .args .whos)) (s .args .n))
-          256 (sym (s .pre .1) ∙ not-true (s .args .timed) (c .if1 .taken)))
+          (passes-quiet (s .args .room) (netAt s) (s .args .t) (marking (s .args .places) (now (s .args .counts))) (timers (now (s .args .ats)) (now (s .args .owners)) (s .args .n))
+          (s .args .room) (sym (s .pre .1) ∙ not-true (s .args .timed) (c .if1 .taken)))
           refl,
       s .pre .0,
     )
 
 loop-holds : tie.Need-loop-holds Inv-loop μ-loop
-loop-holds c = (omega arith, so-none _ _ refl, c .before .pre .0)
+loop-holds c =
+    let s = c .before in
+    let all : suc (s .args .room) - 0 ≡ suc (s .args .room) = omega arith in (
+      omega arith,
+      so-none _ _
+          (ap (λ (k : ℕ). Rule.passes k (s .args .room) (readable (netAt s)) (s .args .t) (marking (s .args .places) (now (s .args .counts)))
+          (timers (now (s .args .ats)) (now (s .args .owners)) (s .args .n))) all),
+      s .pre .0,
+    )
 
 pass-requires : tie.Need-pass-requires Inv-loop μ-loop
 pass-requires c κs = c .before .before .before .before .loop .inv .2
@@ -56,8 +64,8 @@ returns-2 c =
     let b = u .before .before .before .before in
     let l = b .before .loop in
     let s = b .before .before .before in (
-      again-full (l .inv .1) (Rule.passes (257 - (l .i + 1)) (readable (netAt s)) (s .args .t)) _ _ (u .pass .ensures .0)
-          (passes-next (readable (netAt s)) (s .args .t) (marking (s .args .places) (l .counts)) (timers (l .ats) (l .whos) (l .k)) 257 (l .i) (b .loop-test .taken))
+      again-full (l .inv .1) (Rule.passes (suc (s .args .room) - (l .i + 1)) (s .args .room) (readable (netAt s)) (s .args .t)) _ _ (u .pass .ensures .0)
+          (passes-next (s .args .room) (readable (netAt s)) (s .args .t) (marking (s .args .places) (l .counts)) (timers (l .ats) (l .owners) (l .k)) (suc (s .args .room)) (l .i) (omega (arith, b .loop-test .taken)))
           (c .if2 .taken),
       u .pass .ensures .1,
     )
@@ -69,8 +77,8 @@ returns-3 c =
     let b = u .before .before .before .before in
     let l = b .before .loop in
     let s = b .before .before .before in (
-      again-ended (l .inv .1) (Rule.passes (257 - (l .i + 1)) (readable (netAt s)) (s .args .t)) (u .pass .result .timers) (u .pass .ensures .0)
-          (passes-next (readable (netAt s)) (s .args .t) (marking (s .args .places) (l .counts)) (timers (l .ats) (l .whos) (l .k)) 257 (l .i) (b .loop-test .taken))
+      again-ended (l .inv .1) (Rule.passes (suc (s .args .room) - (l .i + 1)) (s .args .room) (readable (netAt s)) (s .args .t)) (u .pass .result .timers) (u .pass .ensures .0)
+          (passes-next (s .args .room) (readable (netAt s)) (s .args .t) (marking (s .args .places) (l .counts)) (timers (l .ats) (l .owners) (l .k)) (suc (s .args .room)) (l .i) (omega (arith, b .loop-test .taken)))
           (v .if2 .left) (not-true (u .pass .result .any) (c .if3 .taken)),
       u .pass .ensures .1,
     )
@@ -93,8 +101,8 @@ loop-again c =
     let l = b .before .loop in
     let s = b .before .before .before in (
       omega (arith, b .loop-test .taken),
-      again-turned (l .inv .1) (Rule.passes (257 - (l .i + 1)) (readable (netAt s)) (s .args .t)) (u .pass .ensures .0)
-          (passes-next (readable (netAt s)) (s .args .t) (marking (s .args .places) (l .counts)) (timers (l .ats) (l .whos) (l .k)) 257 (l .i) (b .loop-test .taken))
+      again-turned (l .inv .1) (Rule.passes (suc (s .args .room) - (l .i + 1)) (s .args .room) (readable (netAt s)) (s .args .t)) (u .pass .ensures .0)
+          (passes-next (s .args .room) (readable (netAt s)) (s .args .t) (marking (s .args .places) (l .counts)) (timers (l .ats) (l .owners) (l .k)) (suc (s .args .room)) (l .i) (omega (arith, b .loop-test .taken)))
           (v .if2 .left) (not-false (u .pass .result .any) (c .if3 .left)),
       u .pass .ensures .1,
     )
@@ -104,7 +112,7 @@ returns-4 c =
     let l = c .before .loop in
     let s = c .before .before .before in (
       so-ended (l .inv .1) [] _ _ (l .k)
-          (passes-end (readable (netAt s)) (s .args .t) (marking (s .args .places) (l .counts)) (timers (l .ats) (l .whos) (l .k)) 257 (l .i) (c .loop-test .left))
+          (passes-end (s .args .room) (readable (netAt s)) (s .args .t) (marking (s .args .places) (l .counts)) (timers (l .ats) (l .owners) (l .k)) (suc (s .args .room)) (l .i) (omega (arith, c .loop-test .left)))
           refl,
       l .inv .2,
     )

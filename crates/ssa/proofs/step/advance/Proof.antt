@@ -1,6 +1,5 @@
 -- Where a timer could not start the rules refuse too. Otherwise total, wait and draw are the rules', and so is what comes next.
 use borrow.Author.Needs.{needs}
-use native.Mathlib.Omega.{arith}
 use mathlib.Core.Path.{ap}
 use Rattle.net.specs.declared.Net.{Net as NetRecord}
 use Rattle.net.specs.Record.{lent}
@@ -19,7 +18,7 @@ net s =
 
 -- the state before
 abbrev from : tie.Start → State
-from s = stateOf (net s) (s .args .counts .now) (s .args .ats .now) (s .args .whos .now) (s .args .running) (s .args .t) (s .args .rng .s)
+from s = stateOf (net s) (s .args .counts .now) (s .args .ats .now) (s .args .owners .now) (s .args .running) (s .args .t) (s .args .rng .s)
 
 start-all-requires : tie.Need-start-all-requires
 start-all-requires c κs = (c .before .before .before .pre .0, c .before .before .before .pre .1 .timers)
@@ -28,7 +27,7 @@ returns : tie.Need-returns
 returns c =
     let b = c .before in
     let s = b .before .before .before .before in (
-      advance-full (net s) (from s) (b .start-all .last .1 .1 .1 .1 .1 .1 .1 .1 .1 .1 .1 .1 .0) (b .start-all .last .1 .1 .1 .1 .1 .1 .1 .1 .1 .1 .1 .1 .1 .0)
+      advance-full (s .args .room) (net s) (from s) (b .start-all .last .1 .1 .1 .1 .1 .1 .1 .1 .1 .1 .1 .1 .0) (b .start-all .last .1 .1 .1 .1 .1 .1 .1 .1 .1 .1 .1 .1 .1 .0)
           (b .start-all .last .1 .1 .1 .1 .1 .1 .1 .1 .1 .1 .1 .1 .1 .1 .0) (b .start-all .result) (b .start-all .ensures .0) (c .if1 .taken) _ _ _ _ _,
       (b .start-all .ensures .1, s .pre .2),
     )
@@ -37,22 +36,20 @@ propensities-requires : tie.Need-propensities-requires
 propensities-requires c κs =
     let b = c .before .before .before in
     let r = b .start-all .ensures .1 in
-    (r .tidy, r .limits, r .counts, b .before .before .before .before .pre .2)
+    (r .tidy, r .limits, r .small, b .before .before .before .before .pre .2)
 
 adds-rounded-requires : tie.Need-adds-rounded-requires
 adds-rounded-requires c κs =
     let b = c .before .before .before .before .before .before in
     let r = b .start-all .ensures .1 in
     let p = c .before .before .propensities .ensures in
-    (r .tidy, b .before .before .before .before .pre .1, r .counts, p .long, p .each)
+    (r .tidy, b .before .before .before .before .pre .1, r .small, p .long, p .each)
 
 waiting-requires : tie.Need-waiting-requires
 waiting-requires c κs = search needs
 
 element-copy-out-next-event : tie.Need-element-copy-out-next-event
-element-copy-out-next-event c =
-    let r = c .before .before .before .before .before .before .before .before .before .start-all .ensures .1 in
-    omega (arith, r .ats)
+element-copy-out-next-event c = search needs
 
 next-event-requires : tie.Need-next-event-requires
 next-event-requires c κs = search needs
@@ -73,7 +70,7 @@ abbrev start : tie.After-next-event → tie.Start
 start c = begun c .before .before .before .before
 
 goes-on : (c : tie.After-next-event)
-    → Going (net (start c)) (from (start c)) (begun c .start-all .last .1 .1 .1 .1 .1 .1 .1 .1 .1 .1 .1 .1 .0) (begun c .start-all .last .1 .1 .1 .1 .1 .1 .1 .1 .1 .1 .1 .1 .1 .0)
+    → Going (start c .args .room) (net (start c)) (from (start c)) (begun c .start-all .last .1 .1 .1 .1 .1 .1 .1 .1 .1 .1 .1 .1 .0) (begun c .start-all .last .1 .1 .1 .1 .1 .1 .1 .1 .1 .1 .1 .1 .1 .0)
     (begun c .start-all .last .1 .1 .1 .1 .1 .1 .1 .1 .1 .1 .1 .1 .1 .1 .0) (begun c .start-all .result .timers)
     (c .before .before .before .before .before .before .before .propensities .last .1 .1 .1 .1 .1 .1 .1 .1 .1 .1 .1 .1 .0) (c .before .before .before .before .before .before .before .propensities .result)
     (c .before .before .before .before .adds-rounded .result)
@@ -84,11 +81,11 @@ goes-on c =
     let w = c .before .before .before in
     let a = w .before in
     let p = a .before .before .before in
-    going (net s) (from s) (b .start-all .last .1 .1 .1 .1 .1 .1 .1 .1 .1 .1 .1 .1 .0) (b .start-all .last .1 .1 .1 .1 .1 .1 .1 .1 .1 .1 .1 .1 .1 .0)
+    going (s .args .room) (net s) (from s) (b .start-all .last .1 .1 .1 .1 .1 .1 .1 .1 .1 .1 .1 .1 .0) (b .start-all .last .1 .1 .1 .1 .1 .1 .1 .1 .1 .1 .1 .1 .1 .0)
     (b .start-all .last .1 .1 .1 .1 .1 .1 .1 .1 .1 .1 .1 .1 .1 .1 .0) (b .start-all .result) (b .start-all .ensures .0)
     (p .before .before .before .if1 .left) (rw length-timers (s .pre .0 .few)) (p .propensities .last .1 .1 .1 .1 .1 .1 .1 .1 .1 .1 .1 .1 .0) (p .propensities .result)
     (a .adds-rounded .result) (p .propensities .ensures) (a .adds-rounded .ensures)
-    (w .waiting .result .dt) (w .waiting .result .rng .s) (w .waiting .ensures .0) (w .waiting .ensures .1) (nextOf (c .next-event .result)) (c .next-event .ensures _ (told _ _ _))
+    (w .waiting .result .dt) (w .waiting .result .rng .s) (w .waiting .ensures .0) (w .waiting .ensures .1) (nextOf (c .next-event .result)) (c .next-event .ensures _ (told (b .start-all .last .1 .1 .1 .1 .1 .1 .1 .1 .1 .1 .1 .1 .1 .0) (b .start-all .last .1 .1 .1 .1 .1 .1 .1 .1 .1 .1 .1 .1 .1 .1 .0) (b .start-all .result .timers)))
 
 returns-2 : tie.Need-returns-2
 returns-2 c =

@@ -1,6 +1,6 @@
 -- The step up to its clock reading, what is shown there, and the event make a step of the rules, arm by arm (proofs/Steps).
 use borrow.Author.Needs.{needs}
-use mathlib.Core.Path.{_≡_, refl}
+use mathlib.Core.Path.{_≡_, refl, sym, _∙_}
 use mathlib.Core.Bool.{true}
 use mathlib.Core.List.{List}
 use Prim.Native.Nat.{_<_}
@@ -11,7 +11,7 @@ use Rattle.net.specs.Record.{lent}
 use Rattle.rules.specs.Step.{State, Answer, Event, Step, step}
 use Rattle.ssa.specs.Stepping as Stepping
 use Rattle.ssa.specs.Stepping.{stateOf, eventOf, AdvancedBy}
-use Rattle.ssa.proofs.Steps.{Sets, if-full, if-nothing, if-event, step-reached, step-on, step-large, timers-run}
+use Rattle.ssa.proofs.Steps.{Sets, if-full, if-nothing, if-event, step-reached, step-on, step-large, timers-run, tokens-stay}
 use Rattle.ssa.proofs.step.one_step.Statement.{statement}
 use Rattle.ssa.proofs.step.one_step.Tie as tie
 
@@ -29,7 +29,7 @@ net d =
 abbrev from : tie.After-advance → State
 from d =
     let a = start d .args in
-    stateOf (net d) (a .counts .now) (a .ats .now) (a .whos .now) (a .s .timers) (a .s .clock) (a .s .rng .s)
+    stateOf (net d) (a .counts .now) (a .ats .now) (a .owners .now) (a .s .timers) (a .s .clock) (a .s .rng .s)
 
 abbrev reads : tie.After-advance → State
 reads d =
@@ -38,7 +38,7 @@ reads d =
     stateOf (net d) (l .0) (l .1 .0) (l .1 .1 .0) (r .timers) (r .clock) (r .rng .s)
 
 abbrev rule : tie.After-advance → Answer Step
-rule d = step (readable (net d)) (from d)
+rule d = step (start d .args .room) (readable (net d)) (from d)
 
 abbrev props : tie.After-advance → List Float
 props d = d .advance .last .1 .1 .1 .1 .1 .1 .1 .1 .1 .1 .1 .1 .1 .1 .1 .1 .0
@@ -83,7 +83,7 @@ show-requires c κs =
     let d = c .before .before .before .before .before in
     let r = d .advance .ensures .1 .0 in
     let p = start d .pre in
-    (r .tidy .places, p .3, p .4, p .5, r .counts)
+    (r .tidy .places, p .3, p .4, p .5, r .small)
 
 same-length : tie.Need-same-length
 same-length c = c .before .before .before .show .ensures .cells .long
@@ -92,7 +92,7 @@ returns : tie.Need-returns
 returns c =
     let w = c .before .before .before in
     let v = at-event w .advance .ensures .1 in (
-      step-reached {spec = rule (at-event w)} {rounded = at-event w .advance .result .rounded} {u = reads (at-event w)} {e = event-of (at-event w)} (follows w .1) (c .if1 .taken) (w .show .ensures),
+      step-reached {spec = rule (at-event w)} {rounded = at-event w .advance .result .rounded} {u = reads (at-event w)} {e = event-of (at-event w)} (follows w .1) (c .if1 .taken) (w .show .ensures) refl,
       (v .0, v .1, w .show .ensures .cells .long, w .show .ensures .cells .further),
     )
 
@@ -100,17 +100,20 @@ happen-requires : tie.Need-happen-requires
 happen-requires c κs =
     let w = c .before .before .before .before .before .before .before in
     let v = at-event w .advance .ensures .1 in
-    (v .0, v .1, follows w .0)
+    (v .0, v .1, follows w .0, start (at-event w) .pre .6 ∙ sym (tokens-stay (start (at-event w) .args .room) (net (at-event w)) (v .0 .tidy) (from (at-event w)) (reads (at-event w)) (follows w .1)))
+
+higher-requires : tie.Need-higher-requires
+higher-requires c κs = search needs
 
 same-length-2 : tie.Need-same-length-2
-same-length-2 c = c .before .before .before .before .before .before .before .before .before .before .show .ensures .cells .long
+same-length-2 c = c .before .before .before .before .before .before .before .before .before .before .before .show .ensures .cells .long
 
 returns-2 : tie.Need-returns-2
 returns-2 c =
-    let f = c .before .before in
+    let f = c .before .before .before in
     let b = f .before .before .before .before .before in
     let w = b .before .before .before in (
-      step-on {spec = rule (at-event w)} {rounded = at-event w .advance .result .rounded} {u = reads (at-event w)} {e = event-of (at-event w)} (follows w .1) (b .if1 .left) (w .show .ensures) (f .happen .ensures .0) (c .if2 .taken),
+      step-on {spec = rule (at-event w)} {rounded = at-event w .advance .result .rounded} {u = reads (at-event w)} {e = event-of (at-event w)} (follows w .1) (b .if1 .left) (w .show .ensures) (c .before .higher .ensures) (f .happen .ensures .0) (c .if2 .taken),
       (f .happen .ensures .1, at-event w .advance .ensures .1 .1, w .show .ensures .cells .long, w .show .ensures .cells .further),
     )
 
@@ -125,14 +128,14 @@ returns-4 c =
     let d = c .before .before .before in
     let v = d .advance .ensures .1 in
     let q = if-nothing (advanced d) (c .enum-told2 .given .1) in
-    (Stepping.quiet (q .0) (q .1) (record { next = refl; peak = refl; table = refl }), (v .0, v .1, refl, λ a h. refl))
+    (Stepping.quiet (q .0) (q .1) (record { next = refl; table = refl }) refl, (v .0, v .1, refl, λ a h. refl))
 
 same-length-3 : tie.Need-same-length-3
-same-length-3 c = c .before .before .before .before .before .before .before .before .before .before .show .ensures .cells .long
+same-length-3 c = c .before .before .before .before .before .before .before .before .before .before .before .show .ensures .cells .long
 
 returns-5 : tie.Need-returns-5
 returns-5 c =
-    let f = c .before .before in
+    let f = c .before .before .before in
     let b = f .before .before .before .before .before in
     let w = b .before .before .before in (
       step-large {spec = rule (at-event w)} {rounded = at-event w .advance .result .rounded} {u = reads (at-event w)} {e = event-of (at-event w)} (follows w .1) (b .if1 .left) (f .happen .ensures .0) (c .if2 .left),
@@ -151,6 +154,7 @@ one-step-spec =
     same-length
     returns
     happen-requires
+    higher-requires
     same-length-2
     returns-2
     returns-3

@@ -1,6 +1,6 @@
 -- The search goes from the front: every timer passed completes no later, and the first that completes later ends it.
 use borrow.Author.Needs.{needs}
-use borrow.Author.Count.{below-more}
+use borrow.Author.Count.{below-none, below-more}
 use mathlib.Core.Path.{_≡_}
 use mathlib.Core.Bool.{false}
 use Prim.Native.Nat.{ℕ, _-_, _≤_, _<_}
@@ -16,14 +16,8 @@ Inv-loop ats n at i₀ i = (i ≤ n) × ((k : ℕ) → k < i → lt at (getD ats
 abbrev μ-loop : tie.MeasureT-loop
 μ-loop ats n at i₀ i = n - i
 
-no-less : {k : ℕ} → k < 0 → ⊥
-no-less h = omega arith
-
-not-less : {a b : ℕ} → a < b → b ≤ a → ⊥
-not-less h l = omega arith
-
 loop-holds : tie.Need-loop-holds Inv-loop μ-loop
-loop-holds c = (search needs, λ k h. absurd (no-less h))
+loop-holds c = (search needs, below-none _)
 
 mul-if1 : tie.Need-mul-if1 Inv-loop μ-loop
 mul-if1 c = search needs
@@ -44,7 +38,7 @@ loop-again : tie.Need-loop-again Inv-loop μ-loop
 loop-again c = (search needs, below-more _ _ (c .before .before .before .loop .inv .1) (c .if1 .left))
 
 returns-2 : tie.Need-returns-2 Inv-loop μ-loop
-returns-2 c = (search needs, λ k h. c .before .loop .inv .1 k (omega arith), λ h. absurd (not-less h (omega arith)))
+returns-2 c = (search needs, λ k h. c .before .loop .inv .1 k (omega arith), λ h. absurd (omega arith))
 
 pub position-spec : {M : Type 1} → statement M
 position-spec =

@@ -1,26 +1,28 @@
--- The timers before place j have moved one place down, over the first, and those from j on stand where they did; a turn moves the one after j.
+-- The timers before slot j have moved one slot down, over the first, and those from j on stand where they did; a turn moves the one after j.
 use borrow.Author.Needs.{needs}
 use native.Mathlib.Omega.{arith}
-use mathlib.Core.Path.{_≡_, refl, _∙_}
-use Prim.Native.Nat.{_+_, _-_, _≤_, _<_}
+use native.Mathlib.Numerals.{add-one}
+use mathlib.Core.Path.{_≡_, refl}
+use Prim.Native.Nat.{_+_, _-_, _≤_}
 use denote.Ref.{now}
-use lib.ListN.{length}
+use lib.ListN.{getD}
 use lib.Ieee.{nan}
-use Rattle.ssa.proofs.TimerList.{MovedDown, down-none, down-one, removed}
+use Rattle.ssa.specs.TimerArrays.{held}
+use Rattle.ssa.proofs.TimerList.{Whole, whole, stored, MovedDown, down-none, down-one, removed}
 use Rattle.ssa.proofs.timers.remove_first.Statement.{statement}
 use Rattle.ssa.proofs.timers.remove_first.Tie as tie
 
 abbrev Inv-loop : tie.InvT-loop
-Inv-loop ats₀ whos₀ n last j₀ ats whos j = (j ≤ last) × MovedDown nan j ats₀ ats × MovedDown 0 j whos₀ whos
+Inv-loop ats₀ owners₀ n last j₀ ats owners j = (j ≤ last) × Whole ats owners × MovedDown j (held ats₀ owners₀) (held ats owners)
 
 abbrev μ-loop : tie.MeasureT-loop
-μ-loop ats₀ whos₀ n last j₀ ats whos j = last - j
+μ-loop ats₀ owners₀ n last j₀ ats owners j = last - j
 
 sub-last : tie.Need-sub-last Inv-loop μ-loop
 sub-last c = search needs
 
 loop-holds : tie.Need-loop-holds Inv-loop μ-loop
-loop-holds c = (search needs, down-none nan _, down-none 0 _)
+loop-holds c = (search needs, record { times = search needs; words = search needs }, down-none _)
 
 add-i : tie.Need-add-i Inv-loop μ-loop
 add-i c = search needs
@@ -31,11 +33,11 @@ mul-at c = search needs
 element-copy-out-at : tie.Need-element-copy-out-at Inv-loop μ-loop
 element-copy-out-at c = search needs
 
-mul-who : tie.Need-mul-who Inv-loop μ-loop
-mul-who c = search needs
+mul-owner : tie.Need-mul-owner Inv-loop μ-loop
+mul-owner c = search needs
 
-element-copy-out-who : tie.Need-element-copy-out-who Inv-loop μ-loop
-element-copy-out-who c = search needs
+element-copy-out-owner : tie.Need-element-copy-out-owner Inv-loop μ-loop
+element-copy-out-owner c = search needs
 
 mul-ats : tie.Need-mul-ats Inv-loop μ-loop
 mul-ats c = search needs
@@ -43,11 +45,11 @@ mul-ats c = search needs
 element-write-ats : tie.Need-element-write-ats Inv-loop μ-loop
 element-write-ats c = search needs
 
-mul-whos : tie.Need-mul-whos Inv-loop μ-loop
-mul-whos c = search needs
+mul-owners : tie.Need-mul-owners Inv-loop μ-loop
+mul-owners c = search needs
 
-element-write-whos : tie.Need-element-write-whos Inv-loop μ-loop
-element-write-whos c = search needs
+element-write-owners : tie.Need-element-write-owners Inv-loop μ-loop
+element-write-owners c = search needs
 
 loop-less : tie.Need-loop-less Inv-loop μ-loop
 loop-less c = search needs
@@ -55,19 +57,16 @@ loop-less c = search needs
 loop-again : tie.Need-loop-again Inv-loop μ-loop
 loop-again c =
     let l = c .before .before .before .loop in
-    let a : l .j < length (l .ats) = omega (arith, l .inv .1 .long) in
-    let w : l .j < length (l .whos) = omega (arith, l .inv .2 .long) in
-    (omega arith, down-one nan (l .j) (l .j + 1) _ (l .ats) refl a (l .inv .1), down-one 0 (l .j) (l .j + 1) _ (l .whos) refl w (l .inv .2))
+    let i = l .j + 1 in
+    let write = stored (l .ats) (l .owners) (l .j) (getD (l .ats) i nan) (getD (l .owners) i 0) (l .inv .1) refl (omega arith) in
+    (omega arith, whole (l .ats) (l .owners) (l .j) _ _ (l .inv .1), down-one (l .j) i _ (held (l .ats) (l .owners)) _ (add-one (l .j)) (l .inv .2) write)
 
 returns : tie.Need-returns Inv-loop μ-loop
 returns c =
     let l = c .before .loop in
-    let s = c .before .before in
-    let e : l .j ≡ s .args .n - 1 = omega arith in (
-      removed (now (s .args .ats)) (now (s .args .whos)) (l .ats) (l .whos) (s .args .n) (s .pre .0) (rw e at (l .inv .1)) (rw e at (l .inv .2)),
-      l .inv .1 .long ∙ s .pre .2,
-      l .inv .2 .long ∙ s .pre .3,
-    )
+    let s = c .before .before .before .before .before .before in
+    let e : l .j ≡ s .args .n - 1 = omega arith in
+    removed (s .args .n) (held (now (s .args .ats)) (now (s .args .owners))) (held (l .ats) (l .owners)) (s .pre .0) (rw e at (l .inv .2))
 
 pub remove-first-spec : {M : Type 1} → statement M
 remove-first-spec =
@@ -80,12 +79,12 @@ remove-first-spec =
     add-i
     mul-at
     element-copy-out-at
-    mul-who
-    element-copy-out-who
+    mul-owner
+    element-copy-out-owner
     mul-ats
     element-write-ats
-    mul-whos
-    element-write-whos
+    mul-owners
+    element-write-owners
     loop-less
     loop-again
     returns)

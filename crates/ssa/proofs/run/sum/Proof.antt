@@ -3,13 +3,13 @@ use mathlib.Core.List.{List, [], _∷_, _++_}
 use native.Mathlib.Numerals.{add-one}
 use lib.ListN.{length, take, getD}
 use lib.Seq.{take-suc}
-use Rattle.rules.specs.Shown.{sumOf}
+use Rattle.rules.specs.Moments.{sumOf}
 use borrow.Author.Needs.{needs}
 use native.Mathlib.Omega.{arith}
 use mathlib.Core.Path.{_≡_, refl, ap, _∙_}
 use Prim.Native.Nat.{ℕ, _+_, _-_, _*_, _^_, _≤_, _<_}
-use Rattle.ssa.proofs.shown.sum.Statement.{statement}
-use Rattle.ssa.proofs.shown.sum.Tie as tie
+use Rattle.ssa.proofs.run.sum.Statement.{statement}
+use Rattle.ssa.proofs.run.sum.Tie as tie
 
 sum-append : (xs ys : List ℕ) → sumOf (xs ++ ys) ≡ sumOf xs + sumOf ys
 sum-append [] ys = omega arith
@@ -55,7 +55,7 @@ returns : tie.Need-returns Inv-loop μ-loop
 returns c =
     let l = c .before in
     let e : l .loop .p ≡ l .before .args .places = omega arith in
-    (l .loop .inv .1 ∙ ap (λ (k : ℕ). sumOf (take k (l .before .args .counts .now))) e, omega arith)
+    l .loop .inv .1 ∙ ap (λ (k : ℕ). sumOf (take k (l .before .args .counts .now))) e
 
 pub sum-spec : {M : Type 1} → statement M
 sum-spec =
