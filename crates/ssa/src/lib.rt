@@ -1,5 +1,6 @@
 // Paths of a stochastic Petri net: one path, drawn from a generator's state, and the averages over an ensemble of paths.
 mod accept;
+mod averaging;
 mod firing;
 mod members;
 mod run;
@@ -107,7 +108,7 @@ pub fn ensemble(
     ) {
         return EnsembleAnswer::TurnedDown(c);
     }
-    members::accepted(
+    averaging::accepted(
         net,
         samples,
         realizations,

@@ -6,8 +6,8 @@ use Rattle.net.specs.Readable.{readable}
 use Rattle.net.specs.Record.{lent}
 use Rattle.ssa.specs.Summing.{drawn, pathsFrom}
 use Rattle.ssa.proofs.Summing.{cleared-once, stopped-call, finished-call}
-use Rattle.ssa.proofs.members.averaged.Statement.{statement}
-use Rattle.ssa.proofs.members.averaged.Tie as tie
+use Rattle.ssa.proofs.averaging.averaged.Statement.{statement}
+use Rattle.ssa.proofs.averaging.averaged.Tie as tie
 
 mul-cells : tie.Need-mul-cells
 mul-cells c = search needs

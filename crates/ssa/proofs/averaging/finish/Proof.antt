@@ -12,8 +12,8 @@ use Rattle.rules.specs.Propensity.{float}
 use Rattle.averages.specs.Front.{withFront}
 use Rattle.averages.specs.Moments.{deviationOf}
 use Rattle.ssa.specs.Cells.{cleared}
-use Rattle.ssa.proofs.members.finish.Statement.{statement}
-use Rattle.ssa.proofs.members.finish.Tie as tie
+use Rattle.ssa.proofs.averaging.finish.Statement.{statement}
+use Rattle.ssa.proofs.averaging.finish.Tie as tie
 
 int-to-float-n : tie.Need-int-to-float-n
 unfolding inFloat

@@ -4,8 +4,8 @@ use Rattle.net.proofs.Sound.{sound}
 use Rattle.engine.proofs.Tidying.{tidy-unlabelled}
 use Rattle.ssa.proofs.Accepted.{first-small, same-room}
 use Rattle.ssa.proofs.Requested.{same-ensemble}
-use Rattle.ssa.proofs.members.accepted.Statement.{statement}
-use Rattle.ssa.proofs.members.accepted.Tie as tie
+use Rattle.ssa.proofs.averaging.accepted.Statement.{statement}
+use Rattle.ssa.proofs.averaging.accepted.Tie as tie
 
 tidied-requires : tie.Need-tidied-requires
 tidied-requires c κs = search needs

@@ -13,8 +13,8 @@ use Rattle.net.specs.Record.{lent}
 use Rattle.averages.specs.Request.{Request}
 use Rattle.averages.proofs.Passes.{passing}
 use Rattle.ssa.proofs.Requested.{grid-room, grid-is, grid-many, grid-passes, asked}
-use Rattle.ssa.proofs.members.lent_ensemble.Statement.{statement}
-use Rattle.ssa.proofs.members.lent_ensemble.Tie as tie
+use Rattle.ssa.proofs.averaging.lent_ensemble.Statement.{statement}
+use Rattle.ssa.proofs.averaging.lent_ensemble.Tie as tie
 
 -- the request, and the table before its instants are filled in
 abbrev wanted : tie.Start → Request
