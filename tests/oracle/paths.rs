@@ -649,7 +649,7 @@ pub fn peaks() -> Vec<(Case, i64)> {
     // 256 timers, each for a weight of its own; two equal ones that take different weights
     v.push((case(net(&[256, 512, 0], vec![(0.0, 1.0, vec![take(0, 1), plain(1, 2), put(2, 3)])]), most, &[0.5, 2.0]), 768));
     v.push((case(net(&[3, 0], vec![(0.0, 1.0, vec![take(0, 2), put(1, 1)]), (0.0, 1.0, vec![take(0, 1), put(1, 4)])]), most, &[0.0, 5.0]), 5));
-    // as many tokens as there can be: 31 full places, and what 256 timers took from 15 of them put there again
+    // 31 full places, and what 256 timers took from 15 of them put there again
     let full = MOST_TOKENS;
     let heavy: Vec<Arc> = (0..15).map(|p| plain(p, 1_000_000)).chain([take(31, 1)]).collect();
     let again: Vec<Arc> = (0..15).map(|p| put(p, 1_000_000)).collect();
