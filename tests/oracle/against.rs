@@ -31,7 +31,7 @@ pub fn bench(files: &[&str]) {
     let functions: Vec<PathFunction> = files.iter().map(|file| loaded(file)).collect();
     let half = files.len() / 2;
     println!("{:34} {:>8} {:>8} {:>7}   each placement", "nanoseconds a step of a path", "other", "ours", "ratio");
-    for (name, case) in paths::measured().into_iter().chain(paths::measured_beyond()) {
+    for (name, case) in paths::measured().into_iter().chain(paths::measured_timers()).chain(paths::measured_beyond()) {
         let fields = Fields::of(&case.net);
         let mut best = vec![f64::INFINITY; files.len()];
         let (mut ends, mut steps) = (vec![case.state; files.len()], 0);

@@ -261,7 +261,7 @@ fn full_text(text: &str) -> String {
 /// that the harness works out; filling their records is not timed.
 fn measure_paths() {
     println!("{:34} {:>8} {:>8} {:>7}", "thousand steps of a path a second", "ours", "Rust", "ratio of times");
-    for (name, case) in paths::measured().into_iter().chain(paths::measured_beyond()) {
+    for (name, case) in paths::measured().into_iter().chain(paths::measured_timers()).chain(paths::measured_beyond()) {
         let answer = paths::play(&case);
         assert!(paths::by_library(&case) == answer.line(&case) && paths::source_agrees(&case, &answer) == Some(true), "{name}: the answers differ");
         let (fields, model) = (rattle::Fields::of(&case.net), filled(&case.net));

@@ -20,6 +20,7 @@ mod sample;
 mod soaks;
 #[allow(dead_code, unused_imports)]
 mod ssa;
+mod timers;
 
 fn main() {
     let words: Vec<String> = std::env::args().skip(1).collect();
@@ -34,6 +35,7 @@ fn main() {
             soaks::compare(&mut report, number(seed), number(inputs) / 1000);
             games::compare(&mut report, number(seed), number(inputs) / 200);
             balances::compare(&mut report, number(seed), number(inputs) / 100);
+            timers::compare(&mut report, number(seed), number(inputs) / 100);
             println!("{} passed, {} failed", report.passed, report.failed);
             std::process::exit((report.failed > 0) as i32);
         }

@@ -436,6 +436,15 @@ fn from(state: [u64; 4], mut case: Case) -> Case {
     case
 }
 
+/// 240 subscribers who begin calls at this rate, of as many lengths as there are delays: each call is a timer.
+fn calls(delays: usize, rate: f64) -> Net {
+    let mut counts = vec![0; delays + 1];
+    counts[0] = 240;
+    let begin = (1..=delays).map(|p| (rate, 0.0, vec![take(0, 1), put(p, 1)]));
+    let end = (1..=delays).map(|p| (0.0, 0.5 * p as f64, vec![take(p, 1), put(0, 1)]));
+    net(&counts, begin.chain(end).collect())
+}
+
 /// The cases that document 01 and docs/DECISIONS.md name.
 pub fn edges() -> Vec<Case> {
     let most = MOST_STEPS;
@@ -473,6 +482,14 @@ pub fn edges() -> Vec<Case> {
         v.push(case(net(&[n, 0], vec![(0.0, 1.0, vec![take(0, 1), put(1, 1)]), (0.0, 1.0, vec![take(1, 1), put(0, 1)])]), 300, &sample));
     }
     v.push(case(net(&[256, 0], vec![(0.0, 1.0, vec![take(0, 1), put(0, 2)])]), most, &sample));
+    // a timer list that comes round many times: equal times, of which the counts show the last to complete; one delay, and eight
+    let swap = |from: usize, to: usize| (0.0, 1.0, vec![take(from, 1), put(to, 1)]);
+    for limit in [1001, 2002, 4003] {
+        v.push(case(net(&[120, 120, 0, 0], vec![swap(0, 2), swap(1, 3), swap(2, 0), swap(3, 1)]), limit, &[0.0, 100.0]));
+    }
+    for (delays, rate) in [(1, 10.0), (8, 0.25)] {
+        v.push(case(calls(delays, rate), 3000, &[0.0, 2.0, 5.0, 100.0]));
+    }
     // r = 0: the first with positive propensity
     let dead = || net(&[0, 4, 0, 0], vec![(1.0, 0.0, vec![take(0, 1), put(2, 1)]), (0.5, 0.0, vec![take(1, 1), put(3, 1)]), (0.5, 0.0, vec![take(1, 1), put(2, 5)])]);
     for limit in [1, 2, most] {
@@ -1012,6 +1029,14 @@ pub fn measured() -> Vec<(&'static str, Case)> {
         ("8 places, 16 transitions, timers", case(middle, MOST_STEPS, &scaled(40.0))),
         ("32 places, 64 transitions, 16 arcs", case(large, MOST_STEPS, &scaled(20.0))),
         ("8 places, 16 transitions, weight 2", case(pairs, MOST_STEPS, &scaled(2.0))),
+    ]
+}
+
+/// Nets with some 200 running timers: one delay, so that a new timer goes behind all others, and eight, so that it goes among them.
+pub fn measured_timers() -> Vec<(&'static str, Case)> {
+    vec![
+        ("200 timers, one delay", case(calls(1, 10.0), MOST_STEPS, &scaled(10.0))),
+        ("200 timers, eight delays", case(calls(8, 0.25), MOST_STEPS, &scaled(50.0))),
     ]
 }
 

@@ -22,6 +22,12 @@ mod c {
         pub fn cild_uniforms(state: *mut [u64; 4], out: *mut f64, len: usize);
         pub fn cild_read(text: *const u8, len: usize, told: *mut [u64; 2]);
         pub fn cild_normals(state: *mut [u64; 4], spare: *mut f64, waiting: *mut bool, out: *mut f64, len: usize) -> usize;
+        pub fn cild_timer_insert(ats: *mut [f64; 256], owners: *mut [u64; 512], start: *mut usize, len: *mut usize, ordered: *mut u64, room: usize, at: f64, who: usize, taken: u64) -> bool;
+        pub fn cild_timer_remove(start: *mut usize, len: *mut usize, ordered: *mut u64);
+        pub fn cild_timer_first(ats: *const [f64; 256], owners: *const [u64; 512], start: usize, len: usize, ordered: u64, who: *mut usize, taken: *mut u64) -> f64;
+        pub fn cild_timer_at(ats: *const [f64; 256], owners: *const [u64; 512], start: usize, len: usize, ordered: u64, i: usize, who: *mut usize, taken: *mut u64) -> f64;
+        pub fn cild_timers_in(ats: *mut [f64; 256], owners: *mut [u64; 512], start: *mut usize, len: *mut usize, ordered: *mut u64, times: *const [f64; 256], whos: *const [usize; 256], takens: *const [u64; 256], many: usize);
+        pub fn cild_timers_out(ats: *const [f64; 256], owners: *const [u64; 512], start: usize, len: usize, ordered: u64, times: *mut [f64; 256], whos: *mut [usize; 256], takens: *mut [u64; 256]) -> usize;
         pub fn cild_soak(seed: u64, places: u64, transitions: u64, out: *mut u8, len: usize, told: *mut [u64; 2]);
     }
 
@@ -265,4 +271,93 @@ pub fn soak(seed: u64, places: u64, transitions: u64, out: &mut [u8]) -> [u64; 2
     let mut told = [0; 2];
     unsafe { c::cild_soak(seed, places, transitions, out.as_mut_ptr(), out.len(), &mut told) };
     told
+}
+
+#[derive(Clone, Copy, Debug, PartialEq)]
+pub struct Timer {
+    pub at: f64,
+    pub who: usize,
+    pub taken: u64,
+}
+
+/// Where a timer list starts, its length, and 1 where it is known to be in order.
+#[derive(Clone, Copy, Debug, PartialEq)]
+pub struct Ring {
+    pub start: usize,
+    pub len: usize,
+    pub ordered: u64,
+}
+
+/// A timer list, the first timer first.
+pub struct Queue {
+    pub ats: [f64; 256],
+    pub whos: [usize; 256],
+    pub takens: [u64; 256],
+    pub len: usize,
+}
+
+impl Queue {
+    pub fn timer(&self, k: usize) -> Timer {
+        Timer { at: self.ats[k], who: self.whos[k], taken: self.takens[k] }
+    }
+}
+
+/// The slots of a timer list.
+#[derive(Clone)]
+pub struct TimerSlots {
+    ats: [f64; 256],
+    owners: [u64; 512],
+}
+
+impl TimerSlots {
+    /// Anything in each: times of which many are equal, some no numbers and some infinite.
+    pub fn drawn(draw: &mut crate::draw::Draw) -> TimerSlots {
+        let time = |draw: &mut crate::draw::Draw| match draw.below(40) {
+            0 => f64::NAN,
+            1 => f64::INFINITY,
+            2 => -0.0,
+            _ => draw.below(20) as f64,
+        };
+        TimerSlots { ats: std::array::from_fn(|_| time(draw)), owners: std::array::from_fn(|_| draw.word()) }
+    }
+
+    pub fn held(&self, k: usize) -> Timer {
+        Timer { at: self.ats[k], who: self.owners[2 * k] as usize, taken: self.owners[2 * k + 1] }
+    }
+
+    pub fn alike(&self, other: &TimerSlots) -> bool {
+        self.owners == other.owners && self.ats.iter().zip(&other.ats).all(|(a, b)| a.to_bits() == b.to_bits())
+    }
+
+    pub fn insert(&mut self, ring: &mut Ring, room: usize, x: Timer) -> bool {
+        unsafe { c::cild_timer_insert(&mut self.ats, &mut self.owners, &mut ring.start, &mut ring.len, &mut ring.ordered, room, x.at, x.who, x.taken) }
+    }
+
+    pub fn remove(&self, ring: &mut Ring) {
+        unsafe { c::cild_timer_remove(&mut ring.start, &mut ring.len, &mut ring.ordered) }
+    }
+
+    pub fn first(&self, ring: Ring) -> Timer {
+        let (mut who, mut taken) = (0, 0);
+        let at = unsafe { c::cild_timer_first(&self.ats, &self.owners, ring.start, ring.len, ring.ordered, &mut who, &mut taken) };
+        Timer { at, who, taken }
+    }
+
+    pub fn timer_at(&self, ring: Ring, i: usize) -> Timer {
+        let (mut who, mut taken) = (0, 0);
+        let at = unsafe { c::cild_timer_at(&self.ats, &self.owners, ring.start, ring.len, ring.ordered, i, &mut who, &mut taken) };
+        Timer { at, who, taken }
+    }
+
+    pub fn hand_in(&mut self, queue: &Queue) -> Ring {
+        let mut ring = Ring { start: 7, len: 7, ordered: 7 };
+        unsafe { c::cild_timers_in(&mut self.ats, &mut self.owners, &mut ring.start, &mut ring.len, &mut ring.ordered, &queue.ats, &queue.whos, &queue.takens, queue.len) };
+        ring
+    }
+
+    pub fn hand_out(&self, ring: Ring) -> Queue {
+        let mut queue = Queue { ats: [7.0; 256], whos: [7; 256], takens: [7; 256], len: 0 };
+        queue.len = unsafe { c::cild_timers_out(&self.ats, &self.owners, ring.start, ring.len, ring.ordered, &mut queue.ats, &mut queue.whos, &mut queue.takens) };
+        queue
+    }
 }

@@ -9,3 +9,4 @@ pub mod Read
 pub mod Soaked
 pub mod Searched
 pub mod Weighed
+pub mod Listed

@@ -1,5 +1,5 @@
-// The leaf functions, the reader of net texts, the path, the ensemble, the diffusion and its objections to a net, the balance of weights, the soak load and
-// the game under plain names, for a program in C or Rust to call. Those on slices do in one call what as many calls would.
+// The leaf functions, the reader of net texts, the path, the ensemble, the diffusion and its objections to a net, the balance of weights, the soak load,
+// the game and the timer list under plain names, for a program in C or Rust to call. Those on slices do in one call what as many calls would.
 mod diffusion;
 mod ensemble;
 mod generator;
@@ -11,6 +11,7 @@ mod sampler;
 mod search;
 mod slices;
 mod soak_load;
+mod timer_list;
 mod weights;
 
 ghost use mathlib.Core.Path.{_≡_};

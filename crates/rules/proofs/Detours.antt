@@ -154,7 +154,7 @@ chosen-some r xs p q =
 
 -- ---- passes until none starts
 
-insert-length : (x : Timer) (q : List Timer) → length (insert x q) ≡ suc (length q)
+pub insert-length : (x : Timer) (q : List Timer) → length (insert x q) ≡ suc (length q)
 insert-length x [] = refl
 insert-length x (y ∷ ys) = go (lt (x .at) (y .at)) (insert-length x ys)
   where

@@ -107,15 +107,6 @@ module _ (n : Net) (once : (j : ℕ) → placesOnce (transition n j .takes) ≡ 
       go true e = rw e
       go false e = rw e (omega arith)
 
-  -- where the value before them is in the peak so far, starts change nothing
-  pub starts-no-peak : (js : List ℕ) (x : Moment) (most : ℕ) → EachAllowed n (x .counts) (map started js) → tokens x ≤ most
-      → peakFrom n most x (map started js) ≡ most
-  starts-no-peak js x most a h = starts-peak js x most a ∙ go (nobody js)
-    where
-      go : (c : Bool) → pick c most (max most (tokens x)) ≡ most
-      go true = refl
-      go false = omega arith
-
   -- the value when a step has set the clock is the one at its beginning
   pub sets-tokens : (s : State) (js : List ℕ) (u : State) (e : Answer Event) → Stepping n s js u e → tokens (moment u) ≡ tokens (moment s)
   sets-tokens s js u e g =

@@ -1,6 +1,6 @@
-pub mod TimerList
 pub mod Light
 pub mod Tokens
+pub mod Rooms
 pub mod Passes
 pub mod Cells
 pub mod Playing

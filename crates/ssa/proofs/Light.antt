@@ -11,7 +11,7 @@ use Rattle.rules.specs.Timers.{Timer, insert, others}
 use Rattle.rules.specs.Moments.{takenByTimers}
 use Rattle.ssa.specs.Stepping.{Light}
 
-light-pick : (b : Bool) (p q : List Timer) → Light p → Light q → Light (pick b p q)
+pub light-pick : (b : Bool) (p q : List Timer) → Light p → Light q → Light (pick b p q)
 light-pick true p q h l = h
 light-pick false p q h l = l
 

@@ -6,7 +6,6 @@ use mathlib.Core.Bool.{Bool, true, false, not, _&&_, _||_, true≢false}
 use mathlib.Core.List.{List, [], _∷_, _++_, append-assoc}
 use native.Mathlib.Omega.{arith}
 use native.Mathlib.Numerals.{add-one}
-use borrow.Author.Tests.{lt-ltb, le-ltb}
 use lib.Dec.{ltb}
 use lib.ListN.{length, getD, take}
 use lib.Ieee.{Float, nan, ofBits, lt}
@@ -18,6 +17,7 @@ use Rattle.rules.specs.Enabled.{enabled}
 use Rattle.rules.specs.Timers.{Timer, timerOf, insert}
 use Rattle.rules.specs.Moves.{taking}
 use Rattle.rules.specs.Step.{Answer, refused, given, Starts, preceded, pass, nobody, unlessNone, passes}
+use Rattle.timers.specs.declared.Ring.{Ring}
 use Rattle.ssa.specs.declared.starts.Started.{Started}
 use Rattle.engine.specs.Engine.{someAbove}
 use Rattle.ssa.specs.Starts.{StartsAre, full, done}
@@ -74,7 +74,7 @@ so-none whole rest e = record { who = []; so = sym (preceded-none rest ∙ e); n
 
 module _ {whole rest : Answer Starts} {any : Bool} (s : SoFar whole rest any) where
   -- nobody else starts
-  pub so-ended : (who : List ℕ) (m : Marking) (q : List Timer) (k : ℕ) → rest ≡ left who m q → nobody who ≡ true
+  pub so-ended : (who : List ℕ) (m : Marking) (q : List Timer) (k : Ring) → rest ≡ left who m q → nobody who ≡ true
       → StartsAre whole m q (record { timers = k; any = any; full = false })
   so-ended who m q k e quiet =
       done (s .who ++ who) refl (s .so ∙ ap (preceded (s .who)) e)
@@ -117,7 +117,7 @@ module _ {whole rest : Answer Starts} {any : Bool} (s : SoFar whole rest any) wh
           }
 
       -- one in which none starts is the last
-      pub again-ended : (k : ℕ) → StartsAre one m q r → rest ≡ unlessNone further one → r .full ≡ false → r .any ≡ false
+      pub again-ended : (k : Ring) → StartsAre one m q r → rest ≡ unlessNone further one → r .full ≡ false → r .any ≡ false
           → StartsAre whole m q (record { timers = k; any = any; full = false })
       again-ended k (full f p) e n y = absurd (true≢false (sym f ∙ n))
       again-ended k (done who f p quiet) e n y =
@@ -144,12 +144,12 @@ module _ (room : ℕ) (n : Net) (t : Float) (j : ℕ) (x : Transition) (m : Mark
   pub try-disabled : enabled n m x ≡ false → pass room n t j (x ∷ []) m q ≡ left [] m q
   try-disabled e = try-is false (ltb (length q) room) (and-off (timed x) (enabled n m x) e) refl
 
-  pub try-full : timed x ≡ true → enabled n m x ≡ true → room ≤ length q → pass room n t j (x ∷ []) m q ≡ refused Refusal.tooManyTimers
-  try-full d e h = try-is true false (rw (d, e)) (le-ltb (length q) room h)
-
-  pub try-on : (m′ : Marking) (q′ : List Timer) → timed x ≡ true → enabled n m x ≡ true → length q < room
-      → m′ ≡ taking m (x .takes) → q′ ≡ withTimer t j x q → pass room n t j (x ∷ []) m q ≡ left (j ∷ []) m′ q′
-  try-on m′ q′ d e h f g = rw (f, g) (try-is true true (rw (d, e)) (lt-ltb (length q) room h))
+  -- whether its timer is taken decides
+  pub try-on : (m′ : Marking) (q′ : List Timer) (k : Ring) (b : Bool) → timed x ≡ true → enabled n m x ≡ true → b ≡ ltb (length q) room
+      → m′ ≡ taking m (x .takes) → (b ≡ true → q′ ≡ withTimer t j x q)
+      → StartsAre (pass room n t j (x ∷ []) m q) m′ q′ (record { timers = k; any = b; full = not b })
+  try-on m′ q′ k true d e h f g = done (j ∷ []) refl (rw (f, g refl) (try-is true true (rw (d, e)) (sym h))) refl
+  try-on m′ q′ k false d e h f g = full refl (try-is true false (rw (d, e)) (sym h))
 
   -- a pass that begins with it
   pass-next : (xs : List Transition) → pass room n t j (x ∷ xs) m q ≡ onward (pass room n t (suc j) xs) (pass room n t j (x ∷ []) m q)

@@ -1,6 +1,6 @@
 -- What the parts of a step leave, in the rules' words: a completion, a race, and the starts up to the new clock reading. The transition that a number
 -- names is that of the record, or one without arcs. Assumes nothing.
-use Prim.Native.Nat.{ℕ, _+_, _-_, _≤_, _<_, max}
+use Prim.Native.Nat.{ℕ, _+_, _≤_, _<_, max}
 use mathlib.Core.Path.{_≡_, refl, sym, ap, _∙_, subst}
 use mathlib.Core.Bool.{Bool, true, false, true≢false}
 use mathlib.Core.List.{List, [], _∷_}
@@ -25,18 +25,20 @@ use Rattle.rules.proofs.Counts.{once-each}
 use Rattle.rules.proofs.Allowing.{StepGood, step-good}
 use Rattle.rules.proofs.Peaks.{sets-tokens}
 use Rattle.rules.proofs.Detours.{still-same, not-drawn}
-use Rattle.ssa.specs.declared.timers.Timer.{Timer as TimerStruct}
 use Rattle.ssa.specs.declared.starts.Started.{Started}
 use Rattle.ssa.specs.declared.step.Ending.the-variants.{GoesOn, Reached, Refused}
 use Rattle.ssa.specs.declared.step.Due.{Due}
 use Rattle.ssa.specs.declared.step.Due.the-variants.{Nothing, Event as Follows, Full}
+use Rattle.jump.specs.Answers.{Told}
+use Rattle.timers.specs.declared.Timer.{Timer as TimerStruct}
+use Rattle.timers.specs.declared.Ring.{Ring}
+use Rattle.timers.specs.Turning.{running, timersOf, timerOf}
+use Rattle.timers.proofs.Rings.{length-timers}
 use Rattle.engine.specs.Engine.{Tidy, marking, Counts, PutBy, Totalled}
-use Rattle.ssa.specs.TimerArrays.{held, timers, timerOf}
 use Rattle.ssa.specs.Starts.{StartsAre, full, done}
 use Rattle.ssa.specs.Stepping as Stepping
 use Rattle.ssa.specs.Stepping.{stateOf, tokensOf, eventOf, AdvancedBy, EventBy, happens, tooLarge, StepBy}
 use Rattle.engine.proofs.Marks.{fit-all}
-use Rattle.ssa.proofs.TimerList.{length-timers}
 use Rattle.ssa.proofs.Tokens.{transition-at, transition-past, taken-first}
 
 -- ---- events
@@ -63,26 +65,24 @@ put-none : (places : ℕ) (counts : List ℕ) → Counts counts → PutBy true (
 put-none places counts h = record { says = sym (fit-all places counts (h .small)); gives = λ t. refl }
 
 -- a completion: the first timer x leaves, and its transition puts
-module _ (n : NetRecord) (counts : List ℕ) (ats ats′ : List Float) (owners owners′ : List ℕ) (k : ℕ) (t : Float) (ws : List ℕ) (x : TimerStruct)
-    (f : timerOf x ≡ first (timers ats owners k)) (o : timers ats′ owners′ (k - 1) ≡ others (timers ats owners k)) where
+module _ (n : NetRecord) (counts : List ℕ) (ats : List Float) (owners : List ℕ) (ring ring′ : Ring) (t : Float) (ws : List ℕ) (x : TimerStruct)
+    (f : timerOf x ≡ first (timersOf ats owners ring)) (o : timersOf ats owners ring′ ≡ others (timersOf ats owners ring)) where
   abbrev from : State
-  from = stateOf n counts ats owners k t ws
+  from = stateOf n counts ats owners ring t ws
 
   abbrev to : List ℕ → State
-  to counts′ = stateOf n counts′ ats′ owners′ (k - 1) t ws
+  to counts′ = stateOf n counts′ ats owners ring′ t ws
 
   -- the tokens once it has left
-  pub timer-left : 0 < k → tokensOf from ≡ tokensOf (to counts) + x .taken
-  timer-left h =
-      let q : List Timer = timers ats owners k in
-      let one : takenByTimers q ≡ first q .taken + takenByTimers (others q) = taken-first q (omega (arith, length-timers (held ats owners) 0 k)) in
-      omega (arith, one, ap (λ (y : Timer). y .taken) f, ap takenByTimers o)
+  pub timer-left : tokensOf from ≡ tokensOf (to counts) + x .taken
+  timer-left =
+      omega (arith, taken-first (timersOf ats owners ring), ap (λ (y : Timer). y .taken) f, ap takenByTimers o)
 
   completes : (counts′ : List ℕ) (r : Bool) (many : ℕ)
       → PutBy r (putting (marking (n .places) counts) (transition (readable n) (x .who) .puts)) (marking (n .places) counts′)
       → (r ≡ true → many ≡ tokensOf (to counts′)) → EventBy (complete (readable n) from) (to counts′) many r
   completes counts′ r many p all =
-      event-by (readable n) from (completed (first (timers ats owners k) .who)) (others (timers ats owners k)) (words ws) r
+      event-by (readable n) from (completed (first (timersOf ats owners ring) .who)) (others (timersOf ats owners ring)) (words ws) r
       (marking (n .places) counts′) (to counts′) many
       (subst (λ (j : ℕ). PutBy r (putting (marking (n .places) counts) (transition (readable n) j .puts)) (marking (n .places) counts′)) (ap (λ (y : Timer). y .who) f) p)
       (ap (λ (q : List Timer). state t (marking (n .places) counts′) q (words ws)) (sym o)) all
@@ -103,44 +103,44 @@ module _ (n : NetRecord) (counts : List ℕ) (ats ats′ : List Float) (owners o
       (λ e. all)
 
 -- a race: the draw x chooses o
-module _ (n : NetRecord) (counts : List ℕ) (ats : List Float) (owners : List ℕ) (k : ℕ) (t a0 : Float) (ws ws′ : List ℕ) (xs : List Float) (x : Float) (o : Option ℕ)
+module _ (n : NetRecord) (counts : List ℕ) (ats : List Float) (owners : List ℕ) (ring : Ring) (t a0 : Float) (ws ws′ : List ℕ) (xs : List Float) (x : Float) (o : Option ℕ)
     (value : x ≡ uniform (words ws)) (draws : words ws′ ≡ drawn (words ws)) (choice : o ≡ chosen (mul binary64 x a0) xs) where
   abbrev after : List ℕ → State
-  after counts′ = stateOf n counts′ ats owners k t ws′
+  after counts′ = stateOf n counts′ ats owners ring t ws′
 
   races : (u : State) (many : ℕ) (r : Bool) → EventBy (fire (readable n) (after counts) o) u many r
-      → EventBy (raced (readable n) (stateOf n counts ats owners k t ws) a0 xs) u many r
+      → EventBy (raced (readable n) (stateOf n counts ats owners ring t ws) a0 xs) u many r
   races u many r e =
       subst (λ (a : Answer Event). EventBy a u many r)
-      (ap (λ (g : Generator). fire (readable n) (state t (marking (n .places) counts) (timers ats owners k) g) o) draws
-      ∙ ap (λ (c : Option ℕ). fire (readable n) (state t (marking (n .places) counts) (timers ats owners k) (drawn (words ws))) c)
+      (ap (λ (g : Generator). fire (readable n) (state t (marking (n .places) counts) (timersOf ats owners ring) g) o) draws
+      ∙ ap (λ (c : Option ℕ). fire (readable n) (state t (marking (n .places) counts) (timersOf ats owners ring) (drawn (words ws))) c)
       (choice ∙ ap (λ (y : Float). chosen (mul binary64 y a0) xs) value))
       e
 
   pub race-none : (many : ℕ) → o ≡ none → many ≡ tokensOf (after counts)
-      → EventBy (raced (readable n) (stateOf n counts ats owners k t ws) a0 xs) (after counts) many true
+      → EventBy (raced (readable n) (stateOf n counts ats owners ring t ws) a0 xs) (after counts) many true
   race-none many h all =
       races (after counts) many true
       (happens (record { what = []; leaves = after counts }) (ap (λ (c : Option ℕ). fire (readable n) (after counts) c) h) refl all)
 
   module _ (j : ℕ) (h : o ≡ some j) where
     fires : (counts′ : List ℕ) (many : ℕ) (r : Bool) → PutBy r (move (readable n) (marking (n .places) counts) (fired j)) (marking (n .places) counts′)
-        → (r ≡ true → many ≡ tokensOf (after counts′)) → EventBy (raced (readable n) (stateOf n counts ats owners k t ws) a0 xs) (after counts′) many r
+        → (r ≡ true → many ≡ tokensOf (after counts′)) → EventBy (raced (readable n) (stateOf n counts ats owners ring t ws) a0 xs) (after counts′) many r
     fires counts′ many r p all =
         races (after counts′) many r
         (subst (λ (c : Option ℕ). EventBy (fire (readable n) (after counts) c) (after counts′) many r) (sym h)
-        (event-by (readable n) (after counts) (fired j) (timers ats owners k) (words ws′) r (marking (n .places) counts′) (after counts′) many p refl all))
+        (event-by (readable n) (after counts) (fired j) (timersOf ats owners ring) (words ws′) r (marking (n .places) counts′) (after counts′) many p refl all))
 
     pub race-at : j < n .transitions → (counts′ : List ℕ) (many : ℕ) (r : Bool)
         → PutBy r (putting (taking (marking (n .places) counts) (takesOf (slotsOf n j))) (arcsOf isPut (slotsOf n j))) (marking (n .places) counts′)
-        → (r ≡ true → many ≡ tokensOf (after counts′)) → EventBy (raced (readable n) (stateOf n counts ats owners k t ws) a0 xs) (after counts′) many r
+        → (r ≡ true → many ≡ tokensOf (after counts′)) → EventBy (raced (readable n) (stateOf n counts ats owners ring t ws) a0 xs) (after counts′) many r
     race-at i counts′ many r p all =
         fires counts′ many r
         (subst (λ (y : Transition). PutBy r (putting (taking (marking (n .places) counts) (y .takes)) (y .puts)) (marking (n .places) counts′)) (sym (transition-at n j i)) p)
         all
 
     pub race-past : (many : ℕ) → n .transitions ≤ j → Counts counts → many ≡ tokensOf (after counts)
-        → EventBy (raced (readable n) (stateOf n counts ats owners k t ws) a0 xs) (after counts) many true
+        → EventBy (raced (readable n) (stateOf n counts ats owners ring t ws) a0 xs) (after counts) many true
     race-past many i c all =
         fires counts many true
         (subst (λ (y : Transition). PutBy true (putting (taking (marking (n .places) counts) (y .takes)) (y .puts)) (marking (n .places) counts)) (sym (transition-past n j i))
@@ -170,39 +170,29 @@ left a0 t dt (y ∷ ys) h = go (le (y .at) (add binary64 t dt)) h
     go true e = absurd (let z : _≡_ {A = ℕ} 0 1 = cc in omega arith)
     go false e = absurd (let z : _≡_ {A = ℕ} 0 1 = cc in omega arith)
 
--- a completion is a running timer's
-runs-one : (a0 t dt : Float) (q : List Timer) (d : Float) → completion d ≡ next a0 t dt q → 0 < length q
-runs-one a0 t dt [] d h = absurd (go (le a0 zero64) h)
-  where
-    go : (b : Bool) → completion d ≡ pick b nothingLeft (race dt) → ⊥
-    go true e = let z : _≡_ {A = ℕ} 0 1 = cc in omega arith
-    go false e = let z : _≡_ {A = ℕ} 0 1 = cc in omega arith
-runs-one a0 t dt (y ∷ ys) d h = omega arith
-
 went : (n : Net) (js : List ℕ) (t : Float) (m : Marking) (q : List Timer) (g : Generator) (ps : List Float) (sum : Float) (rounds : Bool) (xs : List Float) (a0 : Float)
     (rounded : Bool) (dt : Float) (h : Generator) (x : Next)
     → xs ≡ ps → a0 ≡ sum → rounded ≡ rounds → dt ≡ waiting a0 g → h ≡ drawnFor a0 g → x ≡ next a0 t dt q
     → goOn n rounds js (state t m q (drawnFor sum g)) sum ps (next sum t (waiting sum g) q) ≡ goOn n rounded js (state t m q h) a0 xs x
 went n js t m q g ps sum rounds xs a0 rounded dt h x each all adds wait draws comes = rw (each, adds, comes, draws, wait, all)
 
--- the step after the starts: it goes on to x; where that is nothing the state is that before, and where it is a completion a timer runs
-pub record Going (room : ℕ) (n : NetRecord) (before : State) (counts : List ℕ) (ats : List Float) (owners : List ℕ) (k : ℕ) (props : List Float) (a0 : Float) (rounded : Bool) (ws : List ℕ) (x : Next) : Type 0 where
+-- the step after the starts: it goes on to x; where that is nothing the state is that before
+pub record Going (room : ℕ) (n : NetRecord) (before : State) (counts : List ℕ) (ats : List Float) (owners : List ℕ) (ring : Ring) (props : List Float) (a0 : Float) (rounded : Bool) (ws : List ℕ) (x : Next) : Type 0 where
   pub who : List ℕ
-  pub is : step room (readable n) before ≡ given (goOn (readable n) rounded who (stateOf n counts ats owners k (before .clock) ws) a0 (take (n .transitions) props) x)
-  pub same : x ≡ nothingLeft → stateOf n counts ats owners k (before .clock) ws ≡ before
-  pub runs : (d : Float) → x ≡ completion d → 0 < length (timers ats owners k)
+  pub is : step room (readable n) before ≡ given (goOn (readable n) rounded who (stateOf n counts ats owners ring (before .clock) ws) a0 (take (n .transitions) props) x)
+  pub same : x ≡ nothingLeft → stateOf n counts ats owners ring (before .clock) ws ≡ before
 
 module _ (room : ℕ) (n : NetRecord) (before : State) (counts : List ℕ) (ats : List Float) (owners : List ℕ) (r : Started)
-    (s : StartsAre (starts room (readable n) before) (marking (n .places) counts) (timers ats owners (r .timers)) r) where
+    (s : StartsAre (starts room (readable n) before) (marking (n .places) counts) (timersOf ats owners (r .timers)) r) where
   pub advance-full : r .full ≡ true → (u : State) (props : List Float) (a0 : Float) (rounded b : Bool) → AdvancedBy n (step room (readable n) before) before u props a0 rounded b Full
   advance-full h u props a0 rounded b = Stepping.full (ap (afterStarts (readable n) before) (go s))
     where
-      go : StartsAre (starts room (readable n) before) (marking (n .places) counts) (timers ats owners (r .timers)) r → starts room (readable n) before ≡ refused Refusal.tooManyTimers
+      go : StartsAre (starts room (readable n) before) (marking (n .places) counts) (timersOf ats owners (r .timers)) r → starts room (readable n) before ≡ refused Refusal.tooManyTimers
       go (full a e) = e
       go (done who a e b) = absurd (true≢false (sym h ∙ a))
 
   pub going : r .full ≡ false → length (before .timers) ≤ room → (props : List Float) (a0 : Float) (rounded : Bool) → Totalled n counts props a0 → rounded ≡ addsRounded (readable n) (marking (n .places) counts) → (dt : Float) (ws : List ℕ)
-      → dt ≡ waiting a0 (before .generator) → words ws ≡ drawnFor a0 (before .generator) → (x : Next) → x ≡ next a0 (before .clock) dt (timers ats owners (r .timers))
+      → dt ≡ waiting a0 (before .generator) → words ws ≡ drawnFor a0 (before .generator) → (x : Next) → x ≡ next a0 (before .clock) dt (timersOf ats owners (r .timers))
       → Going room n before counts ats owners (r .timers) props a0 rounded ws x
   going h few props a0 rounded all adds dt ws wait draws x comes = go s
     where
@@ -210,7 +200,7 @@ module _ (room : ℕ) (n : NetRecord) (before : State) (counts : List ℕ) (ats 
       m = marking (n .places) counts
 
       q : List Timer
-      q = timers ats owners (r .timers)
+      q = timersOf ats owners (r .timers)
 
       ps : List Float
       ps = propensities (readable n) m
@@ -234,25 +224,24 @@ module _ (room : ℕ) (n : NetRecord) (before : State) (counts : List ℕ) (ats 
                 (went (readable n) who (before .clock) m q (before .generator) ps (total ps) (addsRounded (readable n) m) (take (n .transitions) props) a0
                 rounded dt (words ws) x (all .each) (all .all) adds wait draws comes);
             same = as-before who e;
-            runs = λ d z. runs-one a0 (before .clock) dt q d (sym z ∙ comes);
           }
 
-module _ {room : ℕ} {n : NetRecord} {before : State} {counts : List ℕ} {ats : List Float} {owners : List ℕ} {k : ℕ} {props : List Float} {a0 : Float} {rounded : Bool} {ws : List ℕ}
-    {x : Next} (w : Going room n before counts ats owners k props a0 rounded ws x) where
+module _ {room : ℕ} {n : NetRecord} {before : State} {counts : List ℕ} {ats : List Float} {owners : List ℕ} {ring : Ring} {props : List Float} {a0 : Float} {rounded : Bool} {ws : List ℕ}
+    {x : Next} (w : Going room n before counts ats owners ring props a0 rounded ws x) where
   at-next : (y : Next) → x ≡ y
-      → step room (readable n) before ≡ given (goOn (readable n) rounded (w .who) (stateOf n counts ats owners k (before .clock) ws) a0 (take (n .transitions) props) y)
+      → step room (readable n) before ≡ given (goOn (readable n) rounded (w .who) (stateOf n counts ats owners ring (before .clock) ws) a0 (take (n .transitions) props) y)
   at-next y e =
-      w .is ∙ ap (λ (z : Next). given (goOn (readable n) rounded (w .who) (stateOf n counts ats owners k (before .clock) ws) a0 (take (n .transitions) props) z)) e
+      w .is ∙ ap (λ (z : Next). given (goOn (readable n) rounded (w .who) (stateOf n counts ats owners ring (before .clock) ws) a0 (take (n .transitions) props) z)) e
 
-  pub advance-nothing : x ≡ nothingLeft → AdvancedBy n (step room (readable n) before) before (stateOf n counts ats owners k (before .clock) ws) props a0 rounded false Nothing
+  pub advance-nothing : x ≡ nothingLeft → AdvancedBy n (step room (readable n) before) before (stateOf n counts ats owners ring (before .clock) ws) props a0 rounded false Nothing
   advance-nothing e = Stepping.nothing (at-next nothingLeft e) (w .same e)
 
   pub advance-race : (d : Float) → x ≡ race d
-      → AdvancedBy n (step room (readable n) before) before (stateOf n counts ats owners k (add binary64 (before .clock) d) ws) props a0 rounded false Follows
-  advance-race d e = Stepping.event (w .who) (λ z. absurd (true≢false (sym z))) (at-next (race d) e)
+      → AdvancedBy n (step room (readable n) before) before (stateOf n counts ats owners ring (add binary64 (before .clock) d) ws) props a0 rounded false Follows
+  advance-race d e = Stepping.event (w .who) (at-next (race d) e)
 
-  pub advance-completion : (d : Float) → x ≡ completion d → AdvancedBy n (step room (readable n) before) before (stateOf n counts ats owners k d ws) props a0 rounded true Follows
-  advance-completion d e = Stepping.event (w .who) (λ z. w .runs d e) (at-next (completion d) e)
+  pub advance-completion : (d : Float) → x ≡ completion d → AdvancedBy n (step room (readable n) before) before (stateOf n counts ats owners ring d ws) props a0 rounded true Follows
+  advance-completion d e = Stepping.event (w .who) (at-next (completion d) e)
 
 -- ---- the whole step
 
@@ -268,18 +257,17 @@ module _ {n : NetRecord} {spec : Answer Step} {before u : State} {props : List F
   pub if-full : {d : Due} → AdvancedBy n spec before u props a0 rounded completes d → d ≡ Full → spec ≡ refused Refusal.tooManyTimers
   if-full (Stepping.full h) e = h
   if-full (Stepping.nothing h k) e = never (cc)
-  if-full (Stepping.event js k h) e = never (cc)
+  if-full (Stepping.event js h) e = never (cc)
 
   pub if-nothing : {d : Due} → AdvancedBy n spec before u props a0 rounded completes d → d ≡ Nothing → (spec ≡ given (still rounded)) × (u ≡ before)
   if-nothing (Stepping.full h) e = never (cc)
   if-nothing (Stepping.nothing h k) e = (h, k)
-  if-nothing (Stepping.event js k h) e = never (cc)
+  if-nothing (Stepping.event js h) e = never (cc)
 
-  pub if-event : {d : Due} → AdvancedBy n spec before u props a0 rounded completes d → d ≡ Follows
-      → (completes ≡ true → 0 < length (u .timers)) × Sets spec rounded u (eventOf n u a0 props completes)
+  pub if-event : {d : Due} → AdvancedBy n spec before u props a0 rounded completes d → d ≡ Follows → Sets spec rounded u (eventOf n u a0 props completes)
   if-event (Stepping.full h) e = never (cc)
   if-event (Stepping.nothing h k) e = never (cc)
-  if-event (Stepping.event js k h) e = (k, record { who = js; is = h })
+  if-event (Stepping.event js h) e = record { who = js; is = h }
 
 module _ {spec : Answer Step} {rounded : Bool} {u : State} {e : Answer Event} (w : Sets spec rounded u e) {before : State} {last : Float} {shows : State → Type 0} {same : Type 0}
     {most most′ many : ℕ} where
@@ -296,8 +284,10 @@ module _ {spec : Answer Step} {rounded : Bool} {u : State} {e : Answer Event} (w
   step-large t (happens v a l k) z = absurd (true≢false z)
   step-large t (tooLarge a) z = Stepping.putting (w .who) u (w .is ∙ ap (λ (x : Answer Event). given (sets rounded (w .who) u x)) a) t
 
-pub timers-run : (ats : List Float) (owners : List ℕ) (k : ℕ) → 0 < length (timers ats owners k) → 0 < k
-timers-run ats owners k h = rw length-timers at h
+-- the rules' next looks at the first timer, where one runs
+pub told : (ats : List Float) (owners : List ℕ) (ring : Ring) (k : ℕ) (x : TimerStruct) → k ≡ running ring → timerOf x ≡ first (timersOf ats owners ring)
+    → Told (timersOf ats owners ring) k (x .at)
+told ats owners ring k x e f = record { many = length-timers ats owners ring ∙ sym e; leads = λ h. ap (λ (y : Timer). y .at) (sym f) }
 
 -- the starts of a step leave the tokens as they are
 pub tokens-stay : (room : ℕ) (n : NetRecord) → Tidy n → (before u : State) {rounded : Bool} {e : Answer Event} → Sets (step room (readable n) before) rounded u e

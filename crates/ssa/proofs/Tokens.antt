@@ -7,7 +7,7 @@ use mathlib.Core.Bool.{true}
 use mathlib.Core.List.{List, [], _∷_}
 use native.Mathlib.Nat.{not-suc-le-zero, le-of-suc-le-suc}
 use native.Mathlib.Omega.{arith}
-use lib.ListN.{length, getD, take}
+use lib.ListN.{getD, take}
 use lib.Ieee.{Float}
 use Rattle.net.specs.declared.Net.{Net as NetRecord}
 use Rattle.net.specs.Net.{Transition, Marking}
@@ -22,9 +22,10 @@ use Rattle.rules.specs.Demand3.{Ready as Allowed}
 use Rattle.rules.proofs.Counts.{once-each}
 use Rattle.rules.proofs.Peaks.{sum-taking}
 use Rattle.engine.specs.Engine.{AtMost, Tidy}
-use Rattle.ssa.specs.TimerArrays.{held, timers}
+use Rattle.timers.specs.declared.Ring.{Ring}
+use Rattle.timers.specs.Turning.{timersOf}
+use Rattle.timers.proofs.Rings.{length-timers}
 use Rattle.ssa.specs.Stepping.{Ready, stateOf, tokensOf}
-use Rattle.ssa.proofs.TimerList.{length-timers}
 use Rattle.ssa.proofs.Light.{light-taken}
 
 -- ---- the transition of a number
@@ -54,9 +55,9 @@ module _ (n : NetRecord) where
 
 -- ---- tokens
 
-pub taken-first : (q : List Timer) → 0 < length q → takenByTimers q ≡ first q .taken + takenByTimers (others q)
-taken-first [] h = absurd (not-suc-le-zero h)
-taken-first (z ∷ q) h = refl
+pub taken-first : (q : List Timer) → takenByTimers q ≡ first q .taken + takenByTimers (others q)
+taken-first [] = refl
+taken-first (z ∷ q) = refl
 
 -- 32 counts of at most 2^53
 sum-few : (k : ℕ) (counts : List ℕ) → AtMost (2 ^ 53) counts → sumOf (take k counts) ≤ 2 ^ 53 * k
@@ -64,11 +65,11 @@ sum-few zero counts h = omega arith
 sum-few (suc k) [] h = omega arith
 sum-few (suc k) (c ∷ cs) h = omega (arith, h 0, sum-few k cs (λ a. h (suc a)))
 
-pub tokens-few : {n : NetRecord} {limit counts : List ℕ} {ats : List Float} {owners : List ℕ} {room k : ℕ} (t : Float) (ws : List ℕ)
-    → Ready n limit counts ats owners room k → tokensOf (stateOf n counts ats owners k t ws) ≤ 2 ^ 59
-tokens-few {n} {limit} {counts} {ats} {owners} {room} {k} t ws r =
-    let q : List Timer = timers ats owners k in
-    omega (arith, sum-few (n .places) counts (r .small .small), r .tidy .places, light-taken q (r .light), length-timers (held ats owners) 0 k, r .few, r .most)
+pub tokens-few : {n : NetRecord} {limit counts : List ℕ} {ats : List Float} {owners : List ℕ} {ring : Ring} (t : Float) (ws : List ℕ)
+    → Ready n limit counts ats owners ring → tokensOf (stateOf n counts ats owners ring t ws) ≤ 2 ^ 59
+tokens-few {n} {limit} {counts} {ats} {owners} {ring} t ws r =
+    let q : List Timer = timersOf ats owners ring in
+    omega (arith, sum-few (n .places) counts (r .small .small), r .tidy .places, light-taken q (r .light), length-timers ats owners ring)
 
 -- a start of transition j, which is enabled: what it takes from the counts m
 pub start-takes : (n : NetRecord) → Tidy n → (j : ℕ) → j < n .transitions → (m m′ : Marking) (less : ℕ) → enabled (readable n) m (Record.transition n j) ≡ true

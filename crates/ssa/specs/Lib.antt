@@ -1,4 +1,3 @@
-pub mod TimerArrays
 pub mod Starts
 pub mod Cells
 pub mod Stepping

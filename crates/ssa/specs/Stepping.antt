@@ -1,9 +1,9 @@
 -- What a step of the program is, in the rules' words. The rules of a step are in the crate rules (Step, Run); nothing here adds to them.
-use Prim.Native.Nat.{ℕ, _≤_, _<_, max}
+use Prim.Native.Nat.{ℕ, _≤_, max}
 use mathlib.Core.Path.{_≡_}
 use mathlib.Core.Bool.{Bool, true, false}
 use mathlib.Core.List.{List, [], _∷_}
-use lib.ListN.{length, take}
+use lib.ListN.{take}
 use lib.Ieee.{Float, lt}
 use Rattle.refusals.specs as Refusal
 use Rattle.net.specs.declared.Net.{Net as NetRecord}
@@ -16,29 +16,34 @@ use Rattle.rules.specs.Step as Rule
 use Rattle.rules.specs.Step.{State, state, Answer, refused, given, Event, Step, still, sets}
 use Rattle.engine.specs.Engine.{Tidy, Counts, marking}
 use Rattle.engine.specs.Limits.{Limits}
+use Rattle.timers.specs.declared.Ring.{Ring}
+use Rattle.timers.specs.Turning.{running, timersOf, Sound}
 use Rattle.ssa.specs.declared.step.Ending.{Ending}
 use Rattle.ssa.specs.declared.step.Ending.the-variants.{GoesOn, Quiet, Reached, Refused}
 use Rattle.ssa.specs.declared.step.Due.{Due}
 use Rattle.ssa.specs.declared.step.Due.the-variants.{Nothing, Event as Follows, Full}
-use Rattle.ssa.specs.TimerArrays.{timers}
 
 -- no timer took more than 16 arcs of 1,000,000 do
 abbrev pub Light : List Timer → Type 0
 Light [] = Unit
 Light (z ∷ q) = (z .taken ≤ 16_000_000) × Light q
 
--- the arrays of a run hold what they should, with room for so many timers
-pub record Ready (n : NetRecord) (limit counts : List ℕ) (ats : List Float) (owners : List ℕ) (room running : ℕ) : Type 0 where
+-- the arrays of a run hold what they should
+pub record Ready (n : NetRecord) (limit counts : List ℕ) (ats : List Float) (owners : List ℕ) (ring : Ring) : Type 0 where
   pub tidy : Tidy n
   pub limits : Limits n limit
   pub small : Counts counts
+  pub light : Light (timersOf ats owners ring)
+  pub sound : Sound ats owners ring
+
+-- no more timers run than there is room for, which is at most 256
+pub record Roomy (room : ℕ) (ring : Ring) : Type 0 where
   pub most : room ≤ 256
-  pub few : running ≤ room
-  pub light : Light (timers ats owners running)
+  pub few : running ring ≤ room
 
 -- the state that they stand for
-abbrev pub stateOf : NetRecord → List ℕ → List Float → List ℕ → ℕ → Float → List ℕ → State
-stateOf n counts ats owners running clock words₄ = state clock (marking (n .places) counts) (timers ats owners running) (words words₄)
+abbrev pub stateOf : NetRecord → List ℕ → List Float → List ℕ → Ring → Float → List ℕ → State
+stateOf n counts ats owners ring clock words₄ = state clock (marking (n .places) counts) (timersOf ats owners ring) (words words₄)
 
 -- its tokens: all place counts plus the weights taken by each running timer
 abbrev pub tokensOf : State → ℕ
@@ -48,12 +53,12 @@ tokensOf s = tokens (moment s)
 abbrev pub eventOf : NetRecord → State → Float → List Float → Bool → Answer Event
 eventOf n u a0 props completes = pick completes (Rule.complete (readable n) u) (Rule.raced (readable n) u a0 (take (n .transitions) props))
 
--- A step up to the clock reading that it sets: refused by 15, nothing left and the state as before, or an event that follows in the state u, a completion
--- only where a timer runs; `rounded` says whether a0 adds a rounded propensity. The starts js leave no trace in the program.
+-- A step up to the clock reading that it sets: refused by 15, nothing left and the state as before, or an event that follows in the state u;
+-- `rounded` says whether a0 adds a rounded propensity. The starts js leave no trace in the program.
 pub data AdvancedBy (n : NetRecord) (spec : Answer Step) (before u : State) (props : List Float) (a0 : Float) (rounded completes : Bool) : Due → Type 0 where
   full : spec ≡ refused Refusal.tooManyTimers → AdvancedBy n spec before u props a0 rounded completes Full
   nothing : spec ≡ given (still rounded) → u ≡ before → AdvancedBy n spec before u props a0 rounded completes Nothing
-  event : (js : List ℕ) → (completes ≡ true → 0 < length (u .timers)) → spec ≡ given (sets rounded js u (eventOf n u a0 props completes))
+  event : (js : List ℕ) → spec ≡ given (sets rounded js u (eventOf n u a0 props completes))
       → AdvancedBy n spec before u props a0 rounded completes Follows
 
 -- the event that ends a step: it leaves the state u, with so many tokens, or a count would pass 2^53

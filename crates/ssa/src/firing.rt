@@ -1,22 +1,22 @@
 // The event that ends a step: a completion, or the firing of a race.
 ghost use mathlib.Core.Path.{_≡_};
-ghost use mathlib.Core.Bool.{true};
-ghost use Prim.Native.Nat.{_<_};
+ghost use Prim.Native.Nat.{_≤_};
 ghost use lib.ListN.{length};
 ghost use lib.ListN as ListN;
 ghost use Rattle.net.specs.Readable as Record;
 ghost use Rattle.net.specs.Record.{lent};
 ghost use Rattle.net.specs.declared.Net.{Net as NetRecord};
 ghost use Rattle.rules.specs.Step as Rule;
+ghost use Rattle.timers.specs.Turning as Turning;
 ghost use Rattle.ssa.specs.Stepping as Stepping;
-use crate::timers;
 use engine::marking;
 use jump::Choice;
 use rng::Xoshiro256;
+use timers::Ring;
 
-// How many timers run after the event, the generator after it, whether the counts fit, and where they do the tokens.
+// The timers' ring after the event, the generator after it, whether the counts fit, and where they do the tokens.
 pub struct Ended {
-    pub timers: usize,
+    pub timers: Ring,
     pub rng: Xoshiro256,
     pub fits: bool,
     pub tokens: u64,
@@ -36,36 +36,36 @@ fn complete<'a>(
     weight: &'a [u64; 1024],
     limit: &'a [u64; 1024],
     counts: &mut [u64; 32],
-    ats: &mut [f64; 256],
-    owners: &mut [u64; 256],
-    room: usize,
-    running: usize,
+    ats: &'a [f64; 256],
+    owners: &'a [u64; 512],
+    ring: Ring,
     clock: f64,
     rng: Xoshiro256,
     tokens: u64,
 ) -> Ended
     ghost { NetRecord }
     requires { λ net. ⌜ lent places transitions (now initial) (now capacity) (now rate) (now delay) (now arcs) (now kind) (now place) (now weight) ≡ net ⌝ }
-    requires { λ net. ⌜ Stepping.Ready net (now limit) (now counts) (now ats) (now owners) room running × (0 < running)
-        × (tokens ≡ Stepping.tokensOf (Stepping.stateOf net (now counts) (now ats) (now owners) running clock (rng .s))) ⌝ }
+    requires { λ net. ⌜ Stepping.Ready net (now limit) (now counts) (now ats) (now owners) ring
+        × (tokens ≡ Stepping.tokensOf (Stepping.stateOf net (now counts) (now ats) (now owners) ring clock (rng .s))) ⌝ }
     ensures is { λ net r. ⌜ Stepping.EventBy
-        (Rule.complete (Record.readable net) (Stepping.stateOf net (now (counts .entry)) (now (ats .entry)) (now (owners .entry)) running clock (rng .s)))
-        (Stepping.stateOf net (now (counts .exit)) (now (ats .exit)) (now (owners .exit)) (r .timers) clock (r .rng .s)) (r .tokens) (r .fits) ⌝ }
-    ensures ready { λ net r. ⌜ Stepping.Ready net (now (limit .entry)) (now (counts .exit)) (now (ats .exit)) (now (owners .exit)) room (r .timers) ⌝ }
+        (Rule.complete (Record.readable net) (Stepping.stateOf net (now (counts .entry)) (now (ats .entry)) (now (owners .entry)) ring clock (rng .s)))
+        (Stepping.stateOf net (now (counts .exit)) (now (ats .entry)) (now (owners .entry)) (r .timers) clock (r .rng .s)) (r .tokens) (r .fits) ⌝ }
+    ensures ready { λ net r. ⌜ Stepping.Ready net (now (limit .entry)) (now (counts .exit)) (now (ats .entry)) (now (owners .entry)) (r .timers)
+        × (Turning.running (r .timers) ≤ Turning.running ring) ⌝ }
 {
-    let x = timers::first(ats, owners, running);
-    timers::remove_first(ats, owners, running);
-    let left = running - 1;
+    let x = timers::first(ats, owners, ring);
+    let left = timers::remove_first(ring);
     let fewer = tokens - x.taken;
     let j = x.who;
     if j < transitions {
         let p = marking::put(places, arcs, kind, place, weight, counts, j);
         if p.fits {
+            let many = fewer + p.more;
             return Ended {
                 timers: left,
                 rng: rng,
                 fits: true,
-                tokens: fewer + p.more,
+                tokens: many,
             };
         }
         return Ended {
@@ -98,10 +98,9 @@ fn race<'a>(
     limit: &'a [u64; 1024],
     counts: &mut [u64; 32],
     ats: &'a [f64; 256],
-    owners: &'a [u64; 256],
+    owners: &'a [u64; 512],
     props: &[f64; 64],
-    room: usize,
-    running: usize,
+    ring: Ring,
     clock: f64,
     a0: f64,
     rng: Xoshiro256,
@@ -109,13 +108,14 @@ fn race<'a>(
 ) -> Ended
     ghost { NetRecord }
     requires { λ net. ⌜ lent places transitions (now initial) (now capacity) (now rate) (now delay) (now arcs) (now kind) (now place) (now weight) ≡ net ⌝ }
-    requires { λ net. ⌜ Stepping.Ready net (now limit) (now counts) (now ats) (now owners) room running × (length (now props) ≡ 64)
-        × (tokens ≡ Stepping.tokensOf (Stepping.stateOf net (now counts) (now ats) (now owners) running clock (rng .s))) ⌝ }
+    requires { λ net. ⌜ Stepping.Ready net (now limit) (now counts) (now ats) (now owners) ring × (length (now props) ≡ 64)
+        × (tokens ≡ Stepping.tokensOf (Stepping.stateOf net (now counts) (now ats) (now owners) ring clock (rng .s))) ⌝ }
     ensures is { λ net r. ⌜ Stepping.EventBy
-        (Rule.raced (Record.readable net) (Stepping.stateOf net (now (counts .entry)) (now (ats .entry)) (now (owners .entry)) running clock (rng .s)) a0
+        (Rule.raced (Record.readable net) (Stepping.stateOf net (now (counts .entry)) (now (ats .entry)) (now (owners .entry)) ring clock (rng .s)) a0
         (ListN.take transitions (now (props .entry))))
         (Stepping.stateOf net (now (counts .exit)) (now (ats .entry)) (now (owners .entry)) (r .timers) clock (r .rng .s)) (r .tokens) (r .fits) ⌝ }
-    ensures ready { λ net r. ⌜ Stepping.Ready net (now (limit .entry)) (now (counts .exit)) (now (ats .entry)) (now (owners .entry)) room (r .timers) ⌝ }
+    ensures ready { λ net r. ⌜ Stepping.Ready net (now (limit .entry)) (now (counts .exit)) (now (ats .entry)) (now (owners .entry)) (r .timers)
+        × (Turning.running (r .timers) ≤ Turning.running ring) ⌝ }
 {
     let d = rng.uniform();
     let g = d.rng;
@@ -123,7 +123,7 @@ fn race<'a>(
     let chosen = jump::choose(&all[..transitions], d.value * a0);
     match chosen {
         Choice::Nobody => Ended {
-            timers: running,
+            timers: ring,
             rng: g,
             fits: true,
             tokens: tokens,
@@ -132,22 +132,24 @@ fn race<'a>(
             if j < transitions {
                 let f = marking::fire(places, arcs, kind, place, weight, counts, j);
                 if f.fits {
+                    let more = tokens + f.more;
+                    let many = more - f.less;
                     return Ended {
-                        timers: running,
+                        timers: ring,
                         rng: g,
                         fits: true,
-                        tokens: tokens + f.more - f.less,
+                        tokens: many,
                     };
                 }
                 return Ended {
-                    timers: running,
+                    timers: ring,
                     rng: g,
                     fits: false,
                     tokens: 0,
                 };
             }
             Ended {
-                timers: running,
+                timers: ring,
                 rng: g,
                 fits: true,
                 tokens: tokens,
@@ -170,11 +172,10 @@ pub fn happen<'a>(
     weight: &'a [u64; 1024],
     limit: &'a [u64; 1024],
     counts: &mut [u64; 32],
-    ats: &mut [f64; 256],
-    owners: &mut [u64; 256],
+    ats: &'a [f64; 256],
+    owners: &'a [u64; 512],
     props: &[f64; 64],
-    room: usize,
-    running: usize,
+    ring: Ring,
     clock: f64,
     a0: f64,
     rng: Xoshiro256,
@@ -183,13 +184,14 @@ pub fn happen<'a>(
 ) -> Ended
     ghost { NetRecord }
     requires { λ net. ⌜ lent places transitions (now initial) (now capacity) (now rate) (now delay) (now arcs) (now kind) (now place) (now weight) ≡ net ⌝ }
-    requires { λ net. ⌜ Stepping.Ready net (now limit) (now counts) (now ats) (now owners) room running × (length (now props) ≡ 64) × (completes ≡ true → 0 < running)
-        × (tokens ≡ Stepping.tokensOf (Stepping.stateOf net (now counts) (now ats) (now owners) running clock (rng .s))) ⌝ }
+    requires { λ net. ⌜ Stepping.Ready net (now limit) (now counts) (now ats) (now owners) ring × (length (now props) ≡ 64)
+        × (tokens ≡ Stepping.tokensOf (Stepping.stateOf net (now counts) (now ats) (now owners) ring clock (rng .s))) ⌝ }
     ensures is { λ net r. ⌜ Stepping.EventBy
-        (Stepping.eventOf net (Stepping.stateOf net (now (counts .entry)) (now (ats .entry)) (now (owners .entry)) running clock (rng .s)) a0
+        (Stepping.eventOf net (Stepping.stateOf net (now (counts .entry)) (now (ats .entry)) (now (owners .entry)) ring clock (rng .s)) a0
         (now (props .entry)) completes)
-        (Stepping.stateOf net (now (counts .exit)) (now (ats .exit)) (now (owners .exit)) (r .timers) clock (r .rng .s)) (r .tokens) (r .fits) ⌝ }
-    ensures ready { λ net r. ⌜ Stepping.Ready net (now (limit .entry)) (now (counts .exit)) (now (ats .exit)) (now (owners .exit)) room (r .timers) ⌝ }
+        (Stepping.stateOf net (now (counts .exit)) (now (ats .entry)) (now (owners .entry)) (r .timers) clock (r .rng .s)) (r .tokens) (r .fits) ⌝ }
+    ensures ready { λ net r. ⌜ Stepping.Ready net (now (limit .entry)) (now (counts .exit)) (now (ats .entry)) (now (owners .entry)) (r .timers)
+        × (Turning.running (r .timers) ≤ Turning.running ring) ⌝ }
 {
     if completes {
         return complete(
@@ -207,8 +209,7 @@ pub fn happen<'a>(
             counts,
             ats,
             owners,
-            room,
-            running,
+            ring,
             clock,
             rng,
             tokens,
@@ -230,8 +231,7 @@ pub fn happen<'a>(
         ats,
         owners,
         props,
-        room,
-        running,
+        ring,
         clock,
         a0,
         rng,

@@ -7,7 +7,6 @@ mod run;
 mod shown;
 mod starts;
 mod step;
-mod timers;
 
 ghost use mathlib.Core.Path.{_≡_};
 ghost use Rattle.rng.specs.State as Random;

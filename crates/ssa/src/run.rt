@@ -70,7 +70,7 @@ fn take_steps<'a>(
     traits: Traits,
     counts: &mut [u64; 32],
     ats: &mut [f64; 256],
-    owners: &mut [u64; 256],
+    owners: &mut [u64; 512],
     props: &mut [f64; 64],
     room: usize,
     instants: &[f64],
@@ -81,7 +81,7 @@ fn take_steps<'a>(
 ) -> Walked
     ghost { NetRecord }
     requires { λ net. ⌜ lent places transitions (now initial) (now capacity) (now rate) (now delay) (now arcs) (now kind) (now place) (now weight) ≡ net ⌝ }
-    requires { λ net. ⌜ Stepping.Ready net (now limit) (now counts) (now ats) (now owners) room (s .timers) × Has.Of net (now sure) traits
+    requires { λ net. ⌜ Stepping.Ready net (now limit) (now counts) (now ats) (now owners) (s .timers) × Stepping.Roomy room (s .timers) × Has.Of net (now sure) traits
         × (length (now props) ≡ 64) × (s .next ≤ length (now instants)) × (length (now instants) ≤ 1024)
         × (places * length (now instants) ≤ length (now table)) × (s .tokens ≤ s .peak)
         × (s .tokens ≡ Stepping.tokensOf (Stepping.stateOf net (now counts) (now ats) (now owners) (s .timers) (s .clock) (s .rng .s))) ⌝ }
@@ -247,15 +247,16 @@ pub fn play<'a>(
         (Shown.worked (Record.readable net) (Random.words (rng .s)) (now (instants .entry)) steps) ⌝ }
 {
     let mut ats = [0.0; 256];
-    let mut owners = [0u64; 256];
+    let mut owners = [0u64; 512];
     let mut props = [0.0; 64];
     let n = instants.len();
     let last = instants[n - 1];
     let first = shown::show(instants, table, counts, places, 0.0, 0);
     let tokens = sum(counts, places);
+    let none = timers::empty();
     let s = Now {
         clock: 0.0,
-        timers: 0,
+        timers: none,
         next: first,
         tokens: tokens,
         peak: tokens,

@@ -9,20 +9,21 @@ ghost use Rattle.net.specs.declared.Net.{Net as NetRecord};
 ghost use Rattle.rules.specs.Step as Rule;
 ghost use Rattle.engine.specs.Engine as Engine;
 ghost use Rattle.ssa.specs.Starts as Starts;
-ghost use Rattle.ssa.specs.TimerArrays as TimerArrays;
+ghost use Rattle.timers.specs.Turning as Turning;
 ghost use Rattle.ssa.specs.Stepping as Stepping;
-use crate::timers;
-use crate::timers::Timer;
 use engine::marking;
+use timers::Ring;
+use timers::Timer;
 
-// How many timers run now, whether one has started, and whether one could not since there was no room for it.
+// The timers' ring now, whether a timer has started, and whether one could not since there was no room for it.
 pub struct Started {
-    pub timers: usize,
+    pub timers: Ring,
     pub any: bool,
     pub full: bool,
 }
 
-// Starts transition j if it is delayed and enabled.
+// Starts transition j if it is delayed and enabled. Its tokens are taken first, since its timer holds how many they were; where there is no room for the
+// timer the run is refused, and its counts matter no more.
 fn try_start<'a>(
     places: usize,
     transitions: usize,
@@ -37,20 +38,20 @@ fn try_start<'a>(
     limit: &'a [u64; 1024],
     counts: &mut [u64; 32],
     ats: &mut [f64; 256],
-    owners: &mut [u64; 256],
+    owners: &mut [u64; 512],
     room: usize,
-    n: usize,
+    ring: Ring,
     t: f64,
     j: usize,
 ) -> Started
     ghost { NetRecord }
     requires { λ net. ⌜ lent places transitions (now initial) (now capacity) (now rate) (now delay) (now arcs) (now kind) (now place) (now weight) ≡ net ⌝ }
-    requires { λ net. ⌜ (j < transitions) × Stepping.Ready net (now limit) (now counts) (now ats) (now owners) room n ⌝ }
+    requires { λ net. ⌜ (j < transitions) × Stepping.Ready net (now limit) (now counts) (now ats) (now owners) ring × Stepping.Roomy room ring ⌝ }
     ensures is { λ net r. ⌜ Starts.StartsAre
         (Rule.pass room (Record.readable net) t j (Record.transition net j ∷ [])
-        (Engine.marking places (now (counts .entry))) (TimerArrays.timers (now (ats .entry)) (now (owners .entry)) n))
-        (Engine.marking places (now (counts .exit))) (TimerArrays.timers (now (ats .exit)) (now (owners .exit)) (r .timers)) r ⌝ }
-    ensures ready { λ net r. ⌜ Stepping.Ready net (now (limit .entry)) (now (counts .exit)) (now (ats .exit)) (now (owners .exit)) room (r .timers) ⌝ }
+        (Engine.marking places (now (counts .entry))) (Turning.timersOf (now (ats .entry)) (now (owners .entry)) ring))
+        (Engine.marking places (now (counts .exit))) (Turning.timersOf (now (ats .exit)) (now (owners .exit)) (r .timers)) r ⌝ }
+    ensures ready { λ net r. ⌜ Stepping.Ready net (now (limit .entry)) (now (counts .exit)) (now (ats .exit)) (now (owners .exit)) (r .timers) × Stepping.Roomy room (r .timers) ⌝ }
 {
     let d = delay[j];
     if 0.0 < d {
@@ -69,29 +70,23 @@ fn try_start<'a>(
             counts,
             j,
         ) {
-            if room <= n {
-                return Started {
-                    timers: n,
-                    any: false,
-                    full: true,
-                };
-            }
             let taken = marking::take(places, arcs, kind, place, weight, counts, j);
             let x = Timer {
                 at: t + d,
                 who: j,
                 taken: taken,
             };
-            timers::insert(ats, owners, n, x);
+            let put = timers::insert(ats, owners, ring, room, x);
+            let after = put.ring;
             return Started {
-                timers: n + 1,
-                any: true,
-                full: false,
+                timers: after,
+                any: put.taken,
+                full: !put.taken,
             };
         }
     }
     Started {
-        timers: n,
+        timers: ring,
         any: false,
         full: false,
     }
@@ -112,21 +107,21 @@ fn pass<'a>(
     limit: &'a [u64; 1024],
     counts: &mut [u64; 32],
     ats: &mut [f64; 256],
-    owners: &mut [u64; 256],
+    owners: &mut [u64; 512],
     room: usize,
-    n: usize,
+    ring: Ring,
     t: f64,
 ) -> Started
     ghost { NetRecord }
     requires { λ net. ⌜ lent places transitions (now initial) (now capacity) (now rate) (now delay) (now arcs) (now kind) (now place) (now weight) ≡ net ⌝ }
-    requires { λ net. ⌜ Stepping.Ready net (now limit) (now counts) (now ats) (now owners) room n ⌝ }
+    requires { λ net. ⌜ Stepping.Ready net (now limit) (now counts) (now ats) (now owners) ring × Stepping.Roomy room ring ⌝ }
     ensures is { λ net r. ⌜ Starts.StartsAre
         (Rule.pass room (Record.readable net) t 0 (Record.readable net .transitions)
-        (Engine.marking places (now (counts .entry))) (TimerArrays.timers (now (ats .entry)) (now (owners .entry)) n))
-        (Engine.marking places (now (counts .exit))) (TimerArrays.timers (now (ats .exit)) (now (owners .exit)) (r .timers)) r ⌝ }
-    ensures ready { λ net r. ⌜ Stepping.Ready net (now (limit .entry)) (now (counts .exit)) (now (ats .exit)) (now (owners .exit)) room (r .timers) ⌝ }
+        (Engine.marking places (now (counts .entry))) (Turning.timersOf (now (ats .entry)) (now (owners .entry)) ring))
+        (Engine.marking places (now (counts .exit))) (Turning.timersOf (now (ats .exit)) (now (owners .exit)) (r .timers)) r ⌝ }
+    ensures ready { λ net r. ⌜ Stepping.Ready net (now (limit .entry)) (now (counts .exit)) (now (ats .exit)) (now (owners .exit)) (r .timers) × Stepping.Roomy room (r .timers) ⌝ }
 {
-    let mut k = n;
+    let mut k = ring;
     let mut any = false;
     let mut j: usize = 0;
     while j < transitions {
@@ -180,27 +175,27 @@ pub fn start_all<'a>(
     timed: bool,
     counts: &mut [u64; 32],
     ats: &mut [f64; 256],
-    owners: &mut [u64; 256],
+    owners: &mut [u64; 512],
     room: usize,
-    n: usize,
+    ring: Ring,
     t: f64,
 ) -> Started
     ghost { NetRecord }
     requires { λ net. ⌜ lent places transitions (now initial) (now capacity) (now rate) (now delay) (now arcs) (now kind) (now place) (now weight) ≡ net ⌝ }
-    requires { λ net. ⌜ Stepping.Ready net (now limit) (now counts) (now ats) (now owners) room n × (timed ≡ Engine.anyTimed transitions (now delay)) ⌝ }
+    requires { λ net. ⌜ Stepping.Ready net (now limit) (now counts) (now ats) (now owners) ring × Stepping.Roomy room ring × (timed ≡ Engine.anyTimed transitions (now delay)) ⌝ }
     ensures is { λ net r. ⌜ Starts.StartsAre
-        (Rule.passes (suc room) room (Record.readable net) t (Engine.marking places (now (counts .entry))) (TimerArrays.timers (now (ats .entry)) (now (owners .entry)) n))
-        (Engine.marking places (now (counts .exit))) (TimerArrays.timers (now (ats .exit)) (now (owners .exit)) (r .timers)) r ⌝ }
-    ensures ready { λ net r. ⌜ Stepping.Ready net (now (limit .entry)) (now (counts .exit)) (now (ats .exit)) (now (owners .exit)) room (r .timers) ⌝ }
+        (Rule.passes (suc room) room (Record.readable net) t (Engine.marking places (now (counts .entry))) (Turning.timersOf (now (ats .entry)) (now (owners .entry)) ring))
+        (Engine.marking places (now (counts .exit))) (Turning.timersOf (now (ats .exit)) (now (owners .exit)) (r .timers)) r ⌝ }
+    ensures ready { λ net r. ⌜ Stepping.Ready net (now (limit .entry)) (now (counts .exit)) (now (ats .exit)) (now (owners .exit)) (r .timers) × Stepping.Roomy room (r .timers) ⌝ }
 {
     if !timed {
         return Started {
-            timers: n,
+            timers: ring,
             any: false,
             full: false,
         };
     }
-    let mut k = n;
+    let mut k = ring;
     let mut any = false;
     let mut i: usize = 0;
     while i <= room {

@@ -17,12 +17,13 @@ use engine::rounding;
 use engine::traits::Traits;
 use jump::Next;
 use rng::Xoshiro256;
+use timers::Ring;
 
-// What a step begins with and leaves, beside the counts and the timers themselves: how many timers run, how many instants have been shown, the tokens (all
+// What a step begins with and leaves, beside the counts and the slots of the timers: the timers' ring, how many instants have been shown, the tokens (all
 // place counts plus the weights taken by the running timers), and the peak so far.
 pub struct Now {
     pub clock: f64,
-    pub timers: usize,
+    pub timers: Ring,
     pub next: usize,
     pub tokens: u64,
     pub peak: u64,
@@ -56,7 +57,7 @@ pub struct Advanced {
     pub due: Due,
     pub completes: bool,
     pub clock: f64,
-    pub timers: usize,
+    pub timers: Ring,
     pub a0: f64,
     pub rounded: bool,
     pub rng: Xoshiro256,
@@ -79,23 +80,23 @@ fn advance<'a>(
     traits: Traits,
     counts: &mut [u64; 32],
     ats: &mut [f64; 256],
-    owners: &mut [u64; 256],
+    owners: &mut [u64; 512],
     props: &mut [f64; 64],
     room: usize,
-    running: usize,
+    ring: Ring,
     t: f64,
     rng: Xoshiro256,
 ) -> Advanced
     ghost { NetRecord }
     requires { λ net. ⌜ lent places transitions (now initial) (now capacity) (now rate) (now delay) (now arcs) (now kind) (now place) (now weight) ≡ net ⌝ }
-    requires { λ net. ⌜ Stepping.Ready net (now limit) (now counts) (now ats) (now owners) room running × Has.Of net (now sure) traits
+    requires { λ net. ⌜ Stepping.Ready net (now limit) (now counts) (now ats) (now owners) ring × Stepping.Roomy room ring × Has.Of net (now sure) traits
         × (length (now props) ≡ 64) ⌝ }
-    ensures is { λ net r. let before = Stepping.stateOf net (now (counts .entry)) (now (ats .entry)) (now (owners .entry)) running t (rng .s) in
+    ensures is { λ net r. let before = Stepping.stateOf net (now (counts .entry)) (now (ats .entry)) (now (owners .entry)) ring t (rng .s) in
         ⌜ Stepping.AdvancedBy net (Rule.step room (Record.readable net) before) before
         (Stepping.stateOf net (now (counts .exit)) (now (ats .exit)) (now (owners .exit)) (r .timers) (r .clock) (r .rng .s))
         (now (props .exit)) (r .a0) (r .rounded) (r .completes) (r .due) ⌝ }
-    ensures ready { λ net r. ⌜ Stepping.Ready net (now (limit .entry)) (now (counts .exit)) (now (ats .exit)) (now (owners .exit)) room (r .timers)
-        × (length (now (props .exit)) ≡ 64) ⌝ }
+    ensures ready { λ net r. ⌜ Stepping.Ready net (now (limit .entry)) (now (counts .exit)) (now (ats .exit)) (now (owners .exit)) (r .timers)
+        × Stepping.Roomy room (r .timers) × (length (now (props .exit)) ≡ 64) ⌝ }
 {
     let timed = traits.timed;
     let s = starts::start_all(
@@ -115,16 +116,16 @@ fn advance<'a>(
         ats,
         owners,
         room,
-        running,
+        ring,
         t,
     );
-    let n = s.timers;
+    let left = s.timers;
     if s.full {
         return Advanced {
             due: Due::Full,
             completes: false,
             clock: t,
-            timers: n,
+            timers: left,
             a0: 0.0,
             rounded: false,
             rng: rng,
@@ -164,13 +165,14 @@ fn advance<'a>(
     let w = jump::waiting(a0, rng);
     let dt = w.dt;
     let g = w.rng;
-    let what = jump::next_event(a0, t, dt, n, ats[0]);
+    let x = timers::first(ats, owners, left);
+    let what = jump::next_event(a0, t, dt, timers::count(left), x.at);
     match what {
         Next::Nothing => Advanced {
             due: Due::Nothing,
             completes: false,
             clock: t,
-            timers: n,
+            timers: left,
             a0: a0,
             rounded: rounded,
             rng: g,
@@ -179,7 +181,7 @@ fn advance<'a>(
             due: Due::Event,
             completes: false,
             clock: t + wait,
-            timers: n,
+            timers: left,
             a0: a0,
             rounded: rounded,
             rng: g,
@@ -188,7 +190,7 @@ fn advance<'a>(
             due: Due::Event,
             completes: true,
             clock: at,
-            timers: n,
+            timers: left,
             a0: a0,
             rounded: rounded,
             rng: g,
@@ -223,7 +225,7 @@ pub fn one_step<'a>(
     traits: Traits,
     counts: &mut [u64; 32],
     ats: &mut [f64; 256],
-    owners: &mut [u64; 256],
+    owners: &mut [u64; 512],
     props: &mut [f64; 64],
     room: usize,
     instants: &[f64],
@@ -233,7 +235,7 @@ pub fn one_step<'a>(
 ) -> Stepped
     ghost { NetRecord }
     requires { λ net. ⌜ lent places transitions (now initial) (now capacity) (now rate) (now delay) (now arcs) (now kind) (now place) (now weight) ≡ net ⌝ }
-    requires { λ net. ⌜ Stepping.Ready net (now limit) (now counts) (now ats) (now owners) room (s .timers) × Has.Of net (now sure) traits
+    requires { λ net. ⌜ Stepping.Ready net (now limit) (now counts) (now ats) (now owners) (s .timers) × Stepping.Roomy room (s .timers) × Has.Of net (now sure) traits
         × (length (now props) ≡ 64) × (s .next ≤ length (now instants)) × (length (now instants) ≤ 1024)
         × (places * length (now instants) ≤ length (now table))
         × (s .tokens ≡ Stepping.tokensOf (Stepping.stateOf net (now counts) (now ats) (now owners) (s .timers) (s .clock) (s .rng .s))) ⌝ }
@@ -244,12 +246,13 @@ pub fn one_step<'a>(
         (s .peak) (r .now .peak) (r .now .tokens)
         (Stepping.stateOf net (now (counts .exit)) (now (ats .exit)) (now (owners .exit)) (r .now .timers) (r .now .clock) (r .now .rng .s))
         (r .rounded) (r .ending) ⌝ }
-    ensures ready { λ net r. ⌜ Stepping.Ready net (now (limit .entry)) (now (counts .exit)) (now (ats .exit)) (now (owners .exit)) room (r .now .timers)
-        × (length (now (props .exit)) ≡ 64) × (length (now (table .exit)) ≡ length (now (table .entry)))
+    ensures ready { λ net r. ⌜ Stepping.Ready net (now (limit .entry)) (now (counts .exit)) (now (ats .exit)) (now (owners .exit)) (r .now .timers)
+        × Stepping.Roomy room (r .now .timers) × (length (now (props .exit)) ≡ 64) × (length (now (table .exit)) ≡ length (now (table .entry)))
         × Cells.Stay places (length (now (instants .entry))) (now (table .entry)) (now (table .exit)) ⌝ }
 {
     let t = s.clock;
     let rng = s.rng;
+    let ring = s.timers;
     let d = advance(
         places,
         transitions,
@@ -269,11 +272,11 @@ pub fn one_step<'a>(
         owners,
         props,
         room,
-        s.timers,
+        ring,
         t,
         rng,
     );
-    let running = d.timers;
+    let left = d.timers;
     let rounded = d.rounded;
     let clock = d.clock;
     let g = d.rng;
@@ -282,7 +285,7 @@ pub fn one_step<'a>(
         Due::Full => {
             let now = Now {
                 clock: clock,
-                timers: running,
+                timers: left,
                 next: s.next,
                 tokens: s.tokens,
                 peak: s.peak,
@@ -297,7 +300,7 @@ pub fn one_step<'a>(
         Due::Nothing => {
             let now = Now {
                 clock: clock,
-                timers: running,
+                timers: left,
                 next: s.next,
                 tokens: s.tokens,
                 peak: s.peak,
@@ -314,7 +317,7 @@ pub fn one_step<'a>(
             if last < clock {
                 let now = Now {
                     clock: clock,
-                    timers: running,
+                    timers: left,
                     next: next,
                     tokens: s.tokens,
                     peak: s.peak,
@@ -342,8 +345,7 @@ pub fn one_step<'a>(
                 ats,
                 owners,
                 props,
-                room,
-                running,
+                left,
                 clock,
                 d.a0,
                 g,
@@ -351,9 +353,10 @@ pub fn one_step<'a>(
                 d.completes,
             );
             let h = e.rng;
+            let after = e.timers;
             let now = Now {
                 clock: clock,
-                timers: e.timers,
+                timers: after,
                 next: next,
                 tokens: e.tokens,
                 peak: higher(s.peak, e.tokens),

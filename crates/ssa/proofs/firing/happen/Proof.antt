@@ -14,27 +14,27 @@ net s =
 
 abbrev from : tie.Start → State
 from s =
-    stateOf (net s) (s .args .counts .now) (s .args .ats .now) (s .args .owners .now) (s .args .running) (s .args .clock) (s .args .rng .s)
+    stateOf (net s) (s .args .counts .now) (s .args .ats .now) (s .args .owners .now) (s .args .ring) (s .args .clock) (s .args .rng .s)
 
 complete-requires : tie.Need-complete-requires
 complete-requires c κs =
-    let p = c .before .before .before .before .pre in
-    (p .0, p .2 (c .before .before .before .if1 .taken), p .3)
+    let p = c .before .before .pre in
+    (p .0, p .2)
 
 returns : tie.Need-returns
 returns c =
-    let s = c .before .before .before .before .before in
-    (event-completes (net s) (from s) (s .args .a0) (s .args .props .now) _ _ _ (c .before .before .before .before .if1 .taken) (c .complete .ensures .0), c .complete .ensures .1)
+    let s = c .before .before .before in
+    (event-completes (net s) (from s) (s .args .a0) (s .args .props .now) _ _ _ (c .before .before .if1 .taken) (c .complete .ensures .0), c .complete .ensures .1)
 
 race-requires : tie.Need-race-requires
 race-requires c κs =
-    let p = c .before .before .before .before .pre in
-    (p .0, p .1, p .3)
+    let p = c .before .before .pre in
+    (p .0, p .1, p .2)
 
 returns-2 : tie.Need-returns-2
 returns-2 c =
-    let s = c .before .before .before .before .before in
-    (event-races (net s) (from s) (s .args .a0) (s .args .props .now) _ _ _ (c .before .before .before .before .if1 .left) (c .race .ensures .0), c .race .ensures .1)
+    let s = c .before .before .before in
+    (event-races (net s) (from s) (s .args .a0) (s .args .props .now) _ _ _ (c .before .before .if1 .left) (c .race .ensures .0), c .race .ensures .1)
 
 pub happen-spec : {M : Type 1} → statement M
 happen-spec =

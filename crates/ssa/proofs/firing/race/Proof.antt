@@ -5,12 +5,13 @@ use mathlib.Core.Path.{refl, sym, ap, _∙_}
 use mathlib.Core.Bool.{true, false, false≢true}
 use mathlib.Core.List.{List}
 use mathlib.Core.Option.{some, none}
-use Prim.Native.Nat.{ℕ}
+use Prim.Native.Nat.{ℕ, _≤_}
 use lib.ListN.{take}
 use lib.Seq.{length-take-le}
 use Rattle.net.specs.declared.Net.{Net as NetRecord}
 use Rattle.net.specs.Record.{lent}
 use Rattle.engine.specs.Engine.{Counts}
+use Rattle.timers.specs.Turning.{running}
 use Rattle.jump.specs.Answers.{choiceOf}
 use Rattle.ssa.specs.Stepping.{Ready}
 use Rattle.ssa.proofs.Tokens.{tokens-few}
@@ -48,18 +49,18 @@ fire-requires c κs =
 
 -- the arrays with other counts
 ready : (s : tie.Start) (counts : List ℕ) → Counts counts
-    → Ready (net s) (s .args .limit .now) counts (s .args .ats .now) (s .args .owners .now) (s .args .room) (s .args .running)
+    → Ready (net s) (s .args .limit .now) counts (s .args .ats .now) (s .args .owners .now) (s .args .ring) × (running (s .args .ring) ≤ running (s .args .ring))
 ready s counts h =
     let p = s .pre .0 in
-    record { tidy = p .tidy; limits = p .limits; small = h; most = p .most; few = p .few; light = p .light }
+    (record { tidy = p .tidy; limits = p .limits; small = h; light = p .light; sound = p .sound }, omega arith)
 
-add-t36 : tie.Need-add-t36
-add-t36 c =
+add-more : tie.Need-add-more
+add-more c =
     let s = c .before .before .before .before .before .before .before .before .before .before .before .before .before .before in
     omega (arith, s .pre .2, tokens-few (s .args .clock) (s .args .rng .s) (s .pre .0), c .before .before .fire .ensures .3)
 
-sub-t37 : tie.Need-sub-t37
-sub-t37 c =
+sub-many : tie.Need-sub-many
+sub-many c =
     let f = c .before .before .before in
     let s = f .before .before .before .before .before .before .before .before .before .before .before .before in
     omega (arith, s .pre .2, f .fire .ensures .2 (c .before .before .if2 .taken))
@@ -75,7 +76,7 @@ returns c =
     let j = k .chosen .given .0 .0 in
     let fits = c .before .before .if2 .taken in
     let counts′ = f .fire .last .1 .1 .1 .1 .1 .0 in (
-      race-at (net s) (a .counts .now) (a .ats .now) (a .owners .now) (a .running) (a .clock) (a .a0) (a .rng .s) (d .uniform .result .rng .s)
+      race-at (net s) (a .counts .now) (a .ats .now) (a .owners .now) (a .ring) (a .clock) (a .a0) (a .rng .s) (d .uniform .result .rng .s)
           (take (a .transitions) (a .props .now)) (d .uniform .result .value) (some j) (d .uniform .ensures .0) (d .uniform .ensures .1)
           (sym (ap choiceOf (k .chosen .given .1)) ∙ e .choose .ensures) j refl (f .before .before .if1 .taken) counts′ _ true (rw fits at (f .fire .ensures .0))
           (λ z. omega (arith, s .pre .2, f .fire .ensures .2 fits)),
@@ -92,7 +93,7 @@ returns-2 c =
     let a = s .args in
     let j = k .chosen .given .0 .0 in
     let counts′ = f .fire .last .1 .1 .1 .1 .1 .0 in (
-      race-at (net s) (a .counts .now) (a .ats .now) (a .owners .now) (a .running) (a .clock) (a .a0) (a .rng .s) (d .uniform .result .rng .s)
+      race-at (net s) (a .counts .now) (a .ats .now) (a .owners .now) (a .ring) (a .clock) (a .a0) (a .rng .s) (d .uniform .result .rng .s)
           (take (a .transitions) (a .props .now)) (d .uniform .result .value) (some j) (d .uniform .ensures .0) (d .uniform .ensures .1)
           (sym (ap choiceOf (k .chosen .given .1)) ∙ e .choose .ensures) j refl (f .before .before .if1 .taken) counts′ _ false (rw (c .if2 .left) at (f .fire .ensures .0))
           (λ z. absurd (false≢true z)),
@@ -105,7 +106,7 @@ returns-3 c =
     let d = e .before .before .before .before .before in
     let s = d .before in
     let a = s .args in (
-      race-none (net s) (a .counts .now) (a .ats .now) (a .owners .now) (a .running) (a .clock) (a .a0) (a .rng .s) (d .uniform .result .rng .s)
+      race-none (net s) (a .counts .now) (a .ats .now) (a .owners .now) (a .ring) (a .clock) (a .a0) (a .rng .s) (d .uniform .result .rng .s)
           (take (a .transitions) (a .props .now)) (d .uniform .result .value) none (d .uniform .ensures .0) (d .uniform .ensures .1)
           (sym (ap choiceOf (c .enum-told .given .1)) ∙ e .choose .ensures) _ refl (omega (arith, s .pre .2)),
       ready s (a .counts .now) (s .pre .0 .small),
@@ -119,7 +120,7 @@ returns-4 c =
     let s = d .before in
     let a = s .args in
     let j = k .chosen .given .0 .0 in (
-      race-past (net s) (a .counts .now) (a .ats .now) (a .owners .now) (a .running) (a .clock) (a .a0) (a .rng .s) (d .uniform .result .rng .s)
+      race-past (net s) (a .counts .now) (a .ats .now) (a .owners .now) (a .ring) (a .clock) (a .a0) (a .rng .s) (d .uniform .result .rng .s)
           (take (a .transitions) (a .props .now)) (d .uniform .result .value) (some j) (d .uniform .ensures .0) (d .uniform .ensures .1)
           (sym (ap choiceOf (k .chosen .given .1)) ∙ e .choose .ensures) j refl _ (c .if1 .left) (s .pre .0 .small) (omega (arith, s .pre .2)),
       ready s (a .counts .now) (s .pre .0 .small),
@@ -135,8 +136,8 @@ race-spec =
     enum-told
     enum-known-chosen
     fire-requires
-    add-t36
-    sub-t37
+    add-more
+    sub-many
     returns
     returns-2
     returns-3

@@ -1,9 +1,7 @@
 -- The step up to its clock reading, what is shown there, and the event make a step of the rules, arm by arm (proofs/Steps).
 use borrow.Author.Needs.{needs}
-use mathlib.Core.Path.{_≡_, refl, sym, _∙_}
-use mathlib.Core.Bool.{true}
+use mathlib.Core.Path.{refl, sym, _∙_}
 use mathlib.Core.List.{List}
-use Prim.Native.Nat.{_<_}
 use lib.Ieee.{Float}
 use Rattle.net.specs.declared.Net.{Net as NetRecord}
 use Rattle.net.specs.Readable.{readable}
@@ -11,14 +9,15 @@ use Rattle.net.specs.Record.{lent}
 use Rattle.rules.specs.Step.{State, Answer, Event, Step, step}
 use Rattle.ssa.specs.Stepping as Stepping
 use Rattle.ssa.specs.Stepping.{stateOf, eventOf, AdvancedBy}
-use Rattle.ssa.proofs.Steps.{Sets, if-full, if-nothing, if-event, step-reached, step-on, step-large, timers-run, tokens-stay}
+use Rattle.ssa.proofs.Rooms.{fits-still}
+use Rattle.ssa.proofs.Steps.{Sets, if-full, if-nothing, if-event, step-reached, step-on, step-large, tokens-stay}
 use Rattle.ssa.proofs.step.one_step.Statement.{statement}
 use Rattle.ssa.proofs.step.one_step.Tie as tie
 
 -- ---- the step up to its clock reading
 
 abbrev start : tie.After-advance → tie.Start
-start d = d .before .before .before .before .before .before .before .before
+start d = d .before .before .before .before .before .before .before .before .before
 
 abbrev net : tie.After-advance → NetRecord
 net d =
@@ -50,24 +49,19 @@ advanced : (d : tie.After-advance)
     → AdvancedBy (net d) (rule d) (from d) (reads d) (props d) (d .advance .result .a0) (d .advance .result .rounded) (d .advance .result .completes) (d .advance .result .due)
 advanced d = d .advance .ensures .0
 
--- an event, from where the counts have been shown: a completion only where a timer runs
+-- an event, from where the counts have been shown
 abbrev at-event : tie.After-show → tie.After-advance
-at-event w = w .before .before .before .before .before .before
+at-event w = w .before .before .before .before .before .before .before
 
-follows : (w : tie.After-show)
-    → (at-event w .advance .result .completes ≡ true → 0 < at-event w .advance .result .timers) × Sets (rule (at-event w)) (at-event w .advance .result .rounded) (reads (at-event w)) (event-of (at-event w))
-follows w =
-    let d = at-event w in
-    let l = d .advance .last .1 .1 .1 .1 .1 .1 .1 .1 .1 .1 .1 .1 .1 .1 in
-    let z = if-event (advanced d) (w .before .before .before .enum-told3 .given .1) in
-    (λ h. timers-run (l .0) (l .1 .0) (d .advance .result .timers) (z .0 h), z .1)
+follows : (w : tie.After-show) → Sets (rule (at-event w)) (at-event w .advance .result .rounded) (reads (at-event w)) (event-of (at-event w))
+follows w = if-event (advanced (at-event w)) (w .before .before .before .enum-told3 .given .1)
 
 -- ---- the needs
 
 advance-requires : tie.Need-advance-requires
 advance-requires c κs =
-    let p = c .before .before .before .before .before .before .before .pre in
-    (p .0, p .1, p .2)
+    let p = c .before .before .before .before .before .before .before .before .pre in
+    (p .0, p .1, p .2, p .3)
 
 enum-told : tie.Need-enum-told
 enum-told c = search needs
@@ -80,10 +74,10 @@ enum-told-3 c = search needs
 
 show-requires : tie.Need-show-requires
 show-requires c κs =
-    let d = c .before .before .before .before .before in
+    let d = c .before .before .before .before .before .before in
     let r = d .advance .ensures .1 .0 in
     let p = start d .pre in
-    (r .tidy .places, p .3, p .4, p .5, r .small)
+    (r .tidy .places, p .4, p .5, p .6, r .small)
 
 same-length : tie.Need-same-length
 same-length c = c .before .before .before .show .ensures .cells .long
@@ -92,54 +86,54 @@ returns : tie.Need-returns
 returns c =
     let w = c .before .before .before in
     let v = at-event w .advance .ensures .1 in (
-      step-reached {spec = rule (at-event w)} {rounded = at-event w .advance .result .rounded} {u = reads (at-event w)} {e = event-of (at-event w)} (follows w .1) (c .if1 .taken) (w .show .ensures) refl,
-      (v .0, v .1, w .show .ensures .cells .long, w .show .ensures .cells .further),
+      step-reached {spec = rule (at-event w)} {rounded = at-event w .advance .result .rounded} {u = reads (at-event w)} {e = event-of (at-event w)} (follows w) (c .if1 .taken) (w .show .ensures) refl,
+      (v .0, v .1, v .2, w .show .ensures .cells .long, w .show .ensures .cells .further),
     )
 
 happen-requires : tie.Need-happen-requires
 happen-requires c κs =
     let w = c .before .before .before .before .before .before .before in
     let v = at-event w .advance .ensures .1 in
-    (v .0, v .1, follows w .0, start (at-event w) .pre .6 ∙ sym (tokens-stay (start (at-event w) .args .room) (net (at-event w)) (v .0 .tidy) (from (at-event w)) (reads (at-event w)) (follows w .1)))
+    (v .0, v .2, start (at-event w) .pre .7 ∙ sym (tokens-stay (start (at-event w) .args .room) (net (at-event w)) (v .0 .tidy) (from (at-event w)) (reads (at-event w)) (follows w)))
 
 higher-requires : tie.Need-higher-requires
 higher-requires c κs = search needs
 
 same-length-2 : tie.Need-same-length-2
-same-length-2 c = c .before .before .before .before .before .before .before .before .before .before .before .show .ensures .cells .long
+same-length-2 c = c .before .before .before .before .before .before .before .before .before .before .before .before .show .ensures .cells .long
 
 returns-2 : tie.Need-returns-2
 returns-2 c =
-    let f = c .before .before .before in
+    let f = c .before .before .before .before in
     let b = f .before .before .before .before .before in
     let w = b .before .before .before in (
-      step-on {spec = rule (at-event w)} {rounded = at-event w .advance .result .rounded} {u = reads (at-event w)} {e = event-of (at-event w)} (follows w .1) (b .if1 .left) (w .show .ensures) (c .before .higher .ensures) (f .happen .ensures .0) (c .if2 .taken),
-      (f .happen .ensures .1, at-event w .advance .ensures .1 .1, w .show .ensures .cells .long, w .show .ensures .cells .further),
+      step-on {spec = rule (at-event w)} {rounded = at-event w .advance .result .rounded} {u = reads (at-event w)} {e = event-of (at-event w)} (follows w) (b .if1 .left) (w .show .ensures) (c .before .higher .ensures) (f .happen .ensures .0) (c .if2 .taken),
+      (f .happen .ensures .1 .0, fits-still (at-event w .advance .ensures .1 .1) (f .happen .ensures .1 .1), at-event w .advance .ensures .1 .2, w .show .ensures .cells .long, w .show .ensures .cells .further),
     )
 
 returns-3 : tie.Need-returns-3
 returns-3 c =
-    let d = c .before .before .before in
+    let d = c .before .before .before .before in
     let v = d .advance .ensures .1 in
-    (Stepping.starting (if-full (advanced d) (c .enum-told .given .1)), (v .0, v .1, refl, λ a h. refl))
+    (Stepping.starting (if-full (advanced d) (c .enum-told .given .1)), (v .0, v .1, v .2, refl, λ a h. refl))
 
 returns-4 : tie.Need-returns-4
 returns-4 c =
-    let d = c .before .before .before in
+    let d = c .before .before .before .before in
     let v = d .advance .ensures .1 in
     let q = if-nothing (advanced d) (c .enum-told2 .given .1) in
-    (Stepping.quiet (q .0) (q .1) (record { next = refl; table = refl }) refl, (v .0, v .1, refl, λ a h. refl))
+    (Stepping.quiet (q .0) (q .1) (record { next = refl; table = refl }) refl, (v .0, v .1, v .2, refl, λ a h. refl))
 
 same-length-3 : tie.Need-same-length-3
-same-length-3 c = c .before .before .before .before .before .before .before .before .before .before .before .show .ensures .cells .long
+same-length-3 c = c .before .before .before .before .before .before .before .before .before .before .before .before .show .ensures .cells .long
 
 returns-5 : tie.Need-returns-5
 returns-5 c =
-    let f = c .before .before .before in
+    let f = c .before .before .before .before in
     let b = f .before .before .before .before .before in
     let w = b .before .before .before in (
-      step-large {spec = rule (at-event w)} {rounded = at-event w .advance .result .rounded} {u = reads (at-event w)} {e = event-of (at-event w)} (follows w .1) (b .if1 .left) (f .happen .ensures .0) (c .if2 .left),
-      (f .happen .ensures .1, at-event w .advance .ensures .1 .1, w .show .ensures .cells .long, w .show .ensures .cells .further),
+      step-large {spec = rule (at-event w)} {rounded = at-event w .advance .result .rounded} {u = reads (at-event w)} {e = event-of (at-event w)} (follows w) (b .if1 .left) (f .happen .ensures .0) (c .if2 .left),
+      (f .happen .ensures .1 .0, fits-still (at-event w .advance .ensures .1 .1) (f .happen .ensures .1 .1), at-event w .advance .ensures .1 .2, w .show .ensures .cells .long, w .show .ensures .cells .further),
     )
 
 pub one-step-spec : {M : Type 1} → statement M
