@@ -5,18 +5,20 @@ use Prim.Native.Nat.{ℕ, zero, suc, _+_, _-_, _*_, _/_, _%_, _^_, _≤_, _<_}
 use native.Mathlib.Omega.{arith}
 use native.Mathlib.Nat.{lt-of-le-of-lt, lt-of-lt-of-le, mod-eq-of-lt, mul-pos, zero-mul, zero-div}
 use mir.Syntax.{w32}
-use mir.Val.{SFits}
+use mir.Val.{SFits, toZ, ofZ}
+use mir.Facts.{toZ-ofZ}
 use lib.Dec.{T, eqb, ltb, lt→ltb}
 use lib.Bits.{bitAnd, bitOr, or-mod, or-shr, and-mod, and-shr, and-zero-r, and-le-r, and-mask}
-use lib.IntN.{ℤ, pos, negsuc, _-ℤ_}
+use lib.IntN.{ℤ, pos, negsuc, _-ℤ_, +ℤ-idr}
 use lib.Signed.{mag}
 use Rattle.portable_log.specs.declared.Parts.{Parts}
-use Rattle.portable_log.specs.Log.{frexp, field, partsOf, ofParts, plog, combine, zero64, two64, two52, sqrt2over2}
+use Rattle.portable_log.specs.Log.{frexp, field, partsOf, ofParts, plog, combine, zero64, one64, two64, two52, sqrt2over2}
+use Rattle.portable_log.proofs.TimesOne.{times-one}
 use borrow.Author.Tests.{le-ltb, ne-eqb}
 use lib.Ieee.Compare.{differs-from-itself}
 use lib.Ieee.Fits.{up-pos}
 use lib.Ieee.Positive.{positive}
-use lib.Ieee.{Float, nan, inf, fin, Format, binary64, nanBits, isNan, mul, round, units, odd, ofBits, toBits, div, ne, eq, lt, low, emax, prec, size, span, climb, up, down}
+use lib.Ieee.{Float, nan, inf, fin, Format, binary64, nanBits, isNan, fits, mul, round, units, odd, ofBits, toBits, div, ne, eq, lt, low, emax, prec, size, span, climb, up, down}
 
 -- the exponent's field of the pattern with 1022 put there
 half-field : (b : ℕ) → bitOr (bitAnd b 0x800F_FFFF_FFFF_FFFF) (1022 * 2 ^ 52) % 2 ^ 63 / 2 ^ 52 ≡ 1022
@@ -133,14 +135,29 @@ mag-pred : (z : ℤ) (n : ℕ) → mag z < n → mag (z -ℤ pos 1) < n + 1
 mag-pred (pos a) n h = cond-mag (ltb a 1) (negsuc (1 - suc a)) (pos (a - 1)) (n + 1) (omega arith) (omega arith)
 mag-pred (negsuc a) n h = omega arith
 
--- a small exponent is read back of its bits, and one less fits too
+-- a small exponent is read back of its bits, and so is 1 or 0, and the exponent less by either
 pub exp-fits : (z : ℤ) → mag z < 65536 → SFits w32 z
 exp-fits z h = record { sfits = lt-of-lt-of-le h (omega arith) }
 
-pub pred-fits : (z : ℤ) → mag z < 65536 → SFits w32 (z -ℤ pos 1)
-pred-fits z h = record { sfits = lt-of-lt-of-le (mag-pred z 65536 h) (omega arith) }
+pub less-small : (t : Bool) → toZ w32 (ofZ w32 (cond t (pos 1) (pos 0))) ≡ cond t (pos 1) (pos 0)
+less-small true = toZ-ofZ (exp-fits (pos 1) (omega arith))
+less-small false = toZ-ofZ (exp-fits (pos 0) (omega arith))
 
--- the definition at each outcome of its tests on x, and of the one on the fraction
+pub less-fits : (z : ℤ) (t : Bool) → mag z < 65536 → SFits w32 (z -ℤ cond t (pos 1) (pos 0))
+less-fits z true h = record { sfits = lt-of-lt-of-le (mag-pred z 65536 h) (omega arith) }
+less-fits z false h = rw (+ℤ-idr z) (exp-fits z h)
+
+-- what the definition combines: the fraction twice and the exponent less by 1, or the fraction once and the exponent as it is
+pub combined : (p : Parts) → T (fits binary64 (p .frac))
+    → combine (mul binary64 (p .frac) (cond (lt (p .frac) sqrt2over2) two64 one64)) (p .exp -ℤ cond (lt (p .frac) sqrt2over2) (pos 1) (pos 0)) ≡ ofParts p
+combined p h = go (lt (p .frac) sqrt2over2)
+  where
+    go : (t : Bool) → combine (mul binary64 (p .frac) (cond t two64 one64)) (p .exp -ℤ cond t (pos 1) (pos 0))
+        ≡ cond t (combine (mul binary64 (p .frac) two64) (p .exp -ℤ pos 1)) (combine (p .frac) (p .exp))
+    go true = refl
+    go false = λ i. combine (times-one (p .frac) h i) (+ℤ-idr (p .exp) i)
+
+-- the definition at each outcome of its tests on x
 pub at-nan : (x : Float) → ne x x ≡ true → x ≡ plog x
 unfolding isNan
 at-nan x h = rw (nan-of-ne x h)
@@ -157,12 +174,6 @@ at-zero x h₁ h₂ h₃ h₄ = simp (number-of-eq x h₁, h₂, h₃, h₄)
 pub at-number : (x : Float) (p : Parts) → p ≡ frexp x → ne x x ≡ false → eq x (inf false) ≡ false → lt x zero64 ≡ false → eq x zero64 ≡ false
     → ofParts p ≡ plog x
 at-number x p e h₁ h₂ h₃ h₄ = simp (number-of-eq x h₁, h₂, h₃, h₄) (ap ofParts e)
-
-pub doubled : (p : Parts) → lt (p .frac) sqrt2over2 ≡ true → ofParts p ≡ combine (mul binary64 (p .frac) two64) (p .exp -ℤ pos 1)
-doubled p h = simp h
-
-pub kept : (p : Parts) → lt (p .frac) sqrt2over2 ≡ false → ofParts p ≡ combine (p .frac) (p .exp)
-kept p h = simp h
 
 -- without a sign, the bits above the lowest 52 are the exponent's field
 pub field-of : (b : ℕ) → b < 2 ^ 63 → field b ≡ b / 2 ^ 52

@@ -1,6 +1,7 @@
 // The portable natural logarithm: every operation is one binary64 operation, in a fixed order, so that its bits are the
 // same on every machine.
 ghost use mathlib.Core.Path.{_≡_};
+ghost use mathlib.Core.Bool.{cond};
 ghost use Prim.Native.Nat.{_<_};
 ghost use lib.IntN.{pos, _-ℤ_};
 ghost use lib.Signed.{mag};
@@ -108,15 +109,34 @@ fn combine(f1: f64, ki: i32) -> f64
     k * LN2_HI - (hfsq - (s * (hfsq + r) + k * LN2_LO) - f)
 }
 
-// The logarithm of f1 * 2^ki for f1 from 0.5 to 1: a fraction below sqrt(2)/2 is doubled.
+// What a fraction is multiplied by: 2 where it is to be doubled, else 1.
+fn factor(doubled: bool) -> f64
+    ensures { λ r. ⌜ r ≡ cond doubled Spec.two64 Spec.one64 ⌝ }
+{
+    if doubled {
+        return 2.0;
+    }
+    1.0
+}
+
+// What its exponent is less by.
+fn less(doubled: bool) -> i32
+    ensures { λ r. ⌜ r ≡ cond doubled (pos 1) (pos 0) ⌝ }
+{
+    if doubled {
+        return 1;
+    }
+    0
+}
+
+// The logarithm of f1 * 2^ki for f1 from 0.5 to 1: a fraction below sqrt(2)/2 is doubled. The others are multiplied by 1,
+// which changes no number: so nothing branches on a fraction, and no processor has to guess it.
 fn of_parts(f1: f64, ki: i32) -> f64
     requires { ⌜ mag ki < 65536 ⌝ }
     ensures { λ r. ⌜ r ≡ Spec.ofParts (record { frac = f1; exp = ki }) ⌝ }
 {
-    if f1 < SQRT2_OVER_2 {
-        return combine(f1 * 2.0, ki - 1);
-    }
-    combine(f1, ki)
+    let doubled = f1 < SQRT2_OVER_2;
+    combine(f1 * factor(doubled), ki - less(doubled))
 }
 
 // The logarithm of the normal number above 0 whose pattern is b: without a sign, b >> 52 is the exponent's field.
