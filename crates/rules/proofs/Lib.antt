@@ -23,3 +23,5 @@ pub mod Races
 pub mod Firings
 pub mod Shows
 pub mod Values
+pub mod Index
+pub mod RunningSums

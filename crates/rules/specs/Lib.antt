@@ -13,3 +13,5 @@ pub mod Shown
 pub mod Balance
 pub mod Demand3
 pub mod Tokens
+pub mod Index
+pub mod RunningSums
