@@ -10,3 +10,4 @@ pub mod Soaked
 pub mod Searched
 pub mod Weighed
 pub mod Listed
+pub mod Indexed

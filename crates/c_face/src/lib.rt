@@ -1,9 +1,10 @@
 // The leaf functions, the reader of net texts, the path, the ensemble, the diffusion and its objections to a net, the balance of weights, the soak load,
-// the game and the timer list under plain names, for a program in C or Rust to call. Those on slices do in one call what as many calls would.
+// the game, the timer list and the index under plain names, for a program in C or Rust to call. Those on slices do in one call what as many calls would.
 mod diffusion;
 mod ensemble;
 mod generator;
 mod leaves;
+mod listing;
 mod objections;
 mod path;
 mod reader;

@@ -1,5 +1,5 @@
--- A propensity, slot by slot: the factors of the slots that are left, on top of what is worked so far, come to the whole. Assumes nothing.
-use Prim.Native.Nat.{ℕ, zero, suc, _+_, _-_, _*_, _^_, _≤_, _<_}
+-- What the ways of takes multiply to, slot by slot: the factors of the slots that are left go on top of what is worked so far. Assumes nothing.
+use Prim.Native.Nat.{ℕ, _+_, _-_, _^_, _≤_, _<_}
 use mathlib.Core.Path.{_≡_, refl, sym, ap, _∙_}
 use mathlib.Core.Bool.{Bool, true, false}
 use mathlib.Core.List.{List, _∷_}
@@ -12,21 +12,17 @@ use mir.Syntax.{w64}
 use mir.Val.{toZ}
 use mir.Facts.{toZ-pos}
 use borrow.Author.Tests.{leb-false, eqb-true, ne-eqb}
-use Rattle.net.specs.declared.Net.{Net as NetRecord}
-use Rattle.net.specs.Net.{Marking, pick, zero64, amount, held, rateOf}
-use Rattle.net.specs.Readable.{Slot, slotAt, slots, slotsOf, takesOf, readable, transition}
-use Rattle.rules.specs.Enabled.{enabled}
+use Rattle.net.specs.Net.{Marking, pick, zero64, amount, held}
+use Rattle.net.specs.Readable.{Slot, slotAt, slots, takesOf}
 use Rattle.combinations.specs.declared.Ways.{Ways}
 use Rattle.combinations.specs.declared.RealWays.{RealWays}
 use Rattle.combinations.specs.Combinations.{Answer, value, refused, meaning, combinations}
 use Rattle.combinations.specs.Real as Real
 use Rattle.combinations.specs.Real.{unflagged}
-use Rattle.rules.specs.Propensity.{asFloat, ways, factored, propensity}
+use Rattle.rules.specs.Propensity.{asFloat, ways, factored}
 use Rattle.rules.specs.Exact.{asFlag, exactWays}
-use Rattle.engine.specs.Engine.{Below, marking}
 use Rattle.engine.specs.Limits.{atLeast}
-use Rattle.engine.proofs.Arcs.{ap-pick, on-bool, amount-most, slots-step, span, slots-of}
-use Rattle.engine.proofs.Marks.{held-marking}
+use Rattle.engine.proofs.Arcs.{ap-pick, on-bool, amount-most, slots-step}
 
 pub pick-true : {A : Type 0} (b : Bool) (x y : A) → b ≡ true → pick b x y ≡ x
 pick-true b x y e = ap (λ (t : Bool). pick t x y) e
@@ -96,35 +92,3 @@ pub factored-turn : (m : Marking) (x : Float) (k p w : List ℕ) (a e : ℕ) →
 factored-turn m x k p w a e h =
     ap (λ (ls : List Slot). factored m x (takesOf ls)) (slots-step k p w a e h)
     ∙ factored-slot m x (slotAt k p w a) (slots k p w (a + 1) (e - (a + 1)))
-
--- the marking is as good as the counts: the places of the slots stand in it
-module _ (places : ℕ) (counts k p w : List ℕ) (b : Below places p) where
-  factored-marking : (n a : ℕ) (x : Float)
-      → factored counts x (takesOf (slots k p w a n)) ≡ factored (marking places counts) x (takesOf (slots k p w a n))
-  factored-marking zero a x = refl
-  factored-marking (suc n) a x =
-      let ls = slots k p w (a + 1) n in
-      let l = slotAt k p w a in
-      factored-slot counts x l ls
-      ∙ factored-marking n (a + 1) _
-      ∙ ap (λ (c : ℕ). factored (marking places counts) (times x (l .kind) (l .weight) c) (takesOf ls)) (sym (held-marking places counts (l .place) (b a)))
-      ∙ sym (factored-slot (marking places counts) x l ls)
-
-module _ (n : NetRecord) (counts : List ℕ) (j : ℕ) where
-  abbrev worth : Float
-  worth = propensity (readable n) (marking (n .places) counts) (transition n j)
-
-  abbrev ready : Bool
-  ready = enabled (readable n) (marking (n .places) counts) (transition n j)
-
-  pub prop-stop : (r : Bool) → r ≡ ready → r ≡ false → zero64 ≡ worth
-  prop-stop r e f = sym (pick-false ready _ zero64 (sym e ∙ f))
-
-  pub prop-go : Below (n .places) (n .place) → (r : Bool) (x y : Float) → r ≡ ready → r ≡ true → x ≡ rateOf (transition n j)
-      → y ≡ factored counts x (takesOf (span n j)) → y ≡ worth
-  prop-go b r x y e f g h =
-      h
-      ∙ ap (λ (ls : List Slot). factored counts x (takesOf ls)) (slots-of n j)
-      ∙ factored-marking (n .places) counts (n .kind) (n .place) (n .weight) b (getD (n .arcs) j 0) (16 * j) x
-      ∙ ap (λ (z : Float). factored (marking (n .places) counts) z (takesOf (slotsOf n j))) g
-      ∙ sym (pick-true ready _ zero64 (sym e ∙ f))

@@ -6,8 +6,9 @@ pub mod Lists
 pub mod Copying
 pub mod Tidying
 pub mod Marks
+pub mod Moving
 pub mod Firing
+pub mod Touching
 pub mod OneWay
 pub mod Factors
-pub mod Totals
 pub mod Inexact

@@ -12,7 +12,6 @@ use Rattle.combinations.proofs.Laws.{one-is-exact, exact-up-to}
 use Rattle.net.specs.Net.{amount}
 use Rattle.rules.specs.Propensity.{float, asFloat, ways}
 use Rattle.rules.specs.Exact.{asFlag, exactWays}
-use Rattle.engine.specs.Traits.{ExactTo}
 
 -- a count is a whole number that the format holds
 pub count-fits : (n : ℕ) → n ≤ 2 ^ 53 → T (inFloat binary64 (pos n))
@@ -27,7 +26,7 @@ unfolding exactWays
 one-exact m h = ap asFlag (one-is-exact m h)
 
 -- a weight of 0 counts as 1
-pub exact-to : (w : ℕ) → ExactTo (getD unrounded w 0) (amount w)
+pub exact-to : (w m : ℕ) → m ≤ getD unrounded w 0 → exactWays m (amount w) ≡ true
 unfolding exactWays
 exact-to zero m h = one-exact m h
 exact-to (suc w) m h = ap asFlag (exact-up-to m (suc w) h)

@@ -1,10 +1,10 @@
-// The counts: which transitions they enable, with what propensity, and what a transition does to them.
+// The counts: which transitions they enable, in how many ways, and what a transition does to them.
 ghost use mathlib.Core.Path.{_≡_};
 ghost use mathlib.Core.Bool.{true};
 ghost use Prim.Native.Nat.{_+_, _-_, _*_, _^_, _<_, _≤_, min};
 ghost use lib.Dec.{eqb, leb};
 ghost use lib.Ieee.{binary64, mul, lt, eq};
-ghost use lib.ListN.{length, getD};
+ghost use lib.ListN.{getD};
 ghost use Rattle.net.specs.Net as Reader;
 ghost use Rattle.net.specs.Readable as Record;
 ghost use Rattle.net.specs.Record.{lent};
@@ -14,7 +14,9 @@ ghost use Rattle.rules.specs.Propensity as Propensity;
 ghost use Rattle.rules.specs.Moments as Moments;
 ghost use Rattle.rules.specs.Moves as Moves;
 ghost use Rattle.engine.specs.Engine as Engine;
+ghost use Rattle.engine.specs.Guards as Guards;
 ghost use Rattle.engine.specs.Limits as Limits;
+use crate::guards;
 use crate::slots;
 use combinations::RealWays;
 
@@ -91,7 +93,7 @@ pub fn rate_of(rate: f64, delay: f64) -> f64
 
 // x times the ways of one slot, at the count of its place: only a kinetic take has them. Its limit is 2^64 less what it takes (specs/Limits); a single token is
 // taken in as many ways as there are tokens.
-fn times(x: f64, kind: u64, limit: u64, count: u64) -> f64
+pub fn times(x: f64, kind: u64, limit: u64, count: u64) -> f64
     requires { ⌜ (count ≤ 2 ^ 53) × (kind ≡ 0 → Limits.atLeast 1_000_000 ≤ limit) ⌝ }
     ensures { λ r. ⌜ r ≡ Reader.pick (eqb kind 0) (mul binary64 x (Propensity.ways count (Limits.atLeast limit))) x ⌝ }
 {
@@ -104,96 +106,8 @@ fn times(x: f64, kind: u64, limit: u64, count: u64) -> f64
     x
 }
 
-// The propensity of transition j, at these counts: its rate times the ways of its slots, and 0 where one is not open.
-fn propensity<'a>(
-    places: usize,
-    transitions: usize,
-    initial: &'a [u64; 32],
-    capacity: &'a [u64; 32],
-    rate: &'a [f64; 64],
-    delay: &'a [f64; 64],
-    arcs: &'a [usize; 64],
-    kind: &'a [u64; 1024],
-    place: &'a [usize; 1024],
-    weight: &'a [u64; 1024],
-    limit: &'a [u64; 1024],
-    counts: &[u64; 32],
-    j: usize,
-) -> f64
-    ghost { NetRecord }
-    requires { λ net. ⌜ lent places transitions (now initial) (now capacity) (now rate) (now delay) (now arcs) (now kind) (now place) (now weight) ≡ net ⌝ }
-    requires { λ net. ⌜ (j < transitions) × Engine.Tidy net × Limits.Limits net (now limit) × Engine.Counts (now counts) ⌝ }
-    ensures { λ net r. ⌜ r ≡ Propensity.propensity (Record.readable net) (Engine.marking places (now (counts .entry))) (Record.transition net j) ⌝ }
-{
-    let from = 16 * j;
-    let end = from + arcs[j];
-    let mut x = rate_of(rate[j], delay[j]);
-    let mut a = from;
-    while a < end {
-        let p = place[a];
-        let c = counts[p];
-        let l = limit[a];
-        if !slot_open(l, c) {
-            if l == slots::STOP {
-                return x;
-            }
-            return 0.0;
-        }
-        x = times(x, kind[a], l, c);
-        a += 1;
-    }
-    x
-}
-
-// Fills the table of propensities, and answers their total.
-pub fn propensities<'a>(
-    places: usize,
-    transitions: usize,
-    initial: &'a [u64; 32],
-    capacity: &'a [u64; 32],
-    rate: &'a [f64; 64],
-    delay: &'a [f64; 64],
-    arcs: &'a [usize; 64],
-    kind: &'a [u64; 1024],
-    place: &'a [usize; 1024],
-    weight: &'a [u64; 1024],
-    limit: &'a [u64; 1024],
-    counts: &[u64; 32],
-    props: &mut [f64; 64],
-) -> f64
-    ghost { NetRecord }
-    requires { λ net. ⌜ lent places transitions (now initial) (now capacity) (now rate) (now delay) (now arcs) (now kind) (now place) (now weight) ≡ net ⌝ }
-    requires { λ net. ⌜ Engine.Tidy net × Limits.Limits net (now limit) × Engine.Counts (now counts) × (length (now props) ≡ 64) ⌝ }
-    ensures { λ net r. ⌜ Engine.Totalled net (now (counts .entry)) (now (props .exit)) r ⌝ }
-{
-    let mut sum = 0.0;
-    let mut j: usize = 0;
-    while j < transitions {
-        let k = j + 1;
-        let x = propensity(
-            places,
-            transitions,
-            initial,
-            capacity,
-            rate,
-            delay,
-            arcs,
-            kind,
-            place,
-            weight,
-            limit,
-            counts,
-            j,
-        );
-        props[j] = x;
-        sum = sum + x;
-        j = k;
-    }
-    sum
-}
-
 // What a slot takes from a count: all of it where that is less than it wants, as a difference of the rules stops at 0.
-fn taken(count: u64, kind: u64, weight: u64) -> u64
+fn taken_from(count: u64, kind: u64, weight: u64) -> u64
     ensures { λ r. ⌜ r ≡ min count (Reader.pick (leb kind 1) (Reader.amount weight) 0) ⌝ }
 {
     if kind <= 1 {
@@ -206,35 +120,56 @@ fn taken(count: u64, kind: u64, weight: u64) -> u64
     0
 }
 
-// Takes what transition j takes, and answers how much less the places hold.
+// How much less the places hold, the transitions whose ways that may change, and those of which it may open or shut a slot.
+pub struct Taken {
+    pub less: u64,
+    pub moved: u64,
+    pub crossed: u64,
+}
+
+// Takes what transition j takes.
 pub fn take<'a>(
     places: usize,
     arcs: &'a [usize; 64],
     kind: &'a [u64; 1024],
     place: &'a [usize; 1024],
     weight: &'a [u64; 1024],
+    guards: &'a [u64; 160],
     counts: &mut [u64; 32],
     j: usize,
-) -> u64
+) -> Taken
     requires { ⌜ (j < 64) × (places ≤ 32) × Engine.AtMost 16 (now arcs) × Engine.Below places (now place) × Engine.AtMost 1_000_000 (now weight) × Engine.Counts (now counts) ⌝ }
     ensures { λ r. ⌜ (Engine.marking places (now (counts .exit)) ≡ Moves.taking (Engine.marking places (now (counts .entry)))
         (Record.takesOf (Record.slots (now (kind .entry)) (now (place .entry)) (now (weight .entry)) (16 * j) (getD (now (arcs .entry)) j 0))))
-        × Engine.Counts (now (counts .exit)) × (r ≤ 16_000_000)
-        × (Moments.sumOf (Engine.marking places (now (counts .entry))) ≡ Moments.sumOf (Engine.marking places (now (counts .exit))) + r) ⌝ }
+        × Engine.Counts (now (counts .exit)) × (r .less ≤ 16_000_000)
+        × (Moments.sumOf (Engine.marking places (now (counts .entry))) ≡ Moments.sumOf (Engine.marking places (now (counts .exit))) + r .less)
+        × Guards.Told places (now (arcs .entry)) (now (kind .entry)) (now (place .entry)) (now (weight .entry)) (now (guards .entry))
+        (now (counts .entry)) (now (counts .exit)) (r .moved) (r .crossed) ⌝ }
 {
     let from = 16 * j;
     let end = from + arcs[j];
     let mut less: u64 = 0;
+    let mut moved: u64 = 0;
+    let mut crossed: u64 = 0;
     let mut a = from;
     while a < end {
         let p = place[a];
         let c = counts[p];
-        let x = taken(c, kind[a], weight[a]);
-        counts[p] = c - x;
-        less = less + x;
+        let x = taken_from(c, kind[a], weight[a]);
+        if 0 < x {
+            let low = c - x;
+            counts[p] = low;
+            less = less + x;
+            moved = moved | guards[p];
+            crossed = crossed | guards::crossed(guards, p, low, c);
+        }
         a += 1;
     }
-    less
+    Taken {
+        less: less,
+        moved: moved,
+        crossed: crossed,
+    }
 }
 
 // What a slot puts.
@@ -247,10 +182,12 @@ fn given(kind: u64, weight: u64) -> u64
     0
 }
 
-// Whether all counts stay at or below 2^53, and how much more the places hold.
+// Whether all counts stay at or below 2^53, how much more the places hold, and the transitions as for `Taken`.
 pub struct Added {
     pub fits: bool,
     pub more: u64,
+    pub moved: u64,
+    pub crossed: u64,
 }
 
 // Puts what transition j puts. Where a count would pass 2^53 the counts are of no use.
@@ -260,6 +197,7 @@ pub fn put<'a>(
     kind: &'a [u64; 1024],
     place: &'a [usize; 1024],
     weight: &'a [u64; 1024],
+    guards: &'a [u64; 160],
     counts: &mut [u64; 32],
     j: usize,
 ) -> Added
@@ -269,37 +207,52 @@ pub fn put<'a>(
         (Engine.marking places (now (counts .exit)))
         × Engine.Counts (now (counts .exit))
         × (r .fits ≡ true → Moments.sumOf (Engine.marking places (now (counts .exit))) ≡ Moments.sumOf (Engine.marking places (now (counts .entry))) + r .more)
-        × (r .more ≤ 16_000_000) ⌝ }
+        × (r .more ≤ 16_000_000)
+        × (r .fits ≡ true → Guards.Told places (now (arcs .entry)) (now (kind .entry)) (now (place .entry)) (now (weight .entry)) (now (guards .entry))
+        (now (counts .entry)) (now (counts .exit)) (r .moved) (r .crossed)) ⌝ }
 {
     let from = 16 * j;
     let end = from + arcs[j];
     let mut many: u64 = 0;
+    let mut moved: u64 = 0;
+    let mut crossed: u64 = 0;
     let mut a = from;
     while a < end {
         let p = place[a];
         let x = given(kind[a], weight[a]);
-        let c = counts[p] + x;
-        if 9_007_199_254_740_992 < c {
-            return Added {
-                fits: false,
-                more: 0,
-            };
+        if 0 < x {
+            let c = counts[p];
+            let d = c + x;
+            if 9_007_199_254_740_992 < d {
+                return Added {
+                    fits: false,
+                    more: 0,
+                    moved: 0,
+                    crossed: 0,
+                };
+            }
+            counts[p] = d;
+            many = many + x;
+            moved = moved | guards[p];
+            crossed = crossed | guards::crossed(guards, p, c, d);
         }
-        counts[p] = c;
-        many = many + x;
         a += 1;
     }
     Added {
         fits: true,
         more: many,
+        moved: moved,
+        crossed: crossed,
     }
 }
 
-// Whether all counts stay at or below 2^53, how much the places have lost, and how much they have got.
+// Whether all counts stay at or below 2^53, how much the places have lost, how much they have got, and the transitions as for `Taken`.
 pub struct Fired {
     pub fits: bool,
     pub less: u64,
     pub more: u64,
+    pub moved: u64,
+    pub crossed: u64,
 }
 
 // Transition j fires: it takes, and then it puts. One way through its slots does both, since its puts stand behind all others. Where a count would pass 2^53
@@ -310,6 +263,7 @@ pub fn fire<'a>(
     kind: &'a [u64; 1024],
     place: &'a [usize; 1024],
     weight: &'a [u64; 1024],
+    guards: &'a [u64; 160],
     counts: &mut [u64; 32],
     j: usize,
 ) -> Fired
@@ -321,12 +275,16 @@ pub fn fire<'a>(
         (Engine.marking places (now (counts .exit)))
         × Engine.Counts (now (counts .exit))
         × (r .fits ≡ true → Moments.sumOf (Engine.marking places (now (counts .exit))) + r .less ≡ Moments.sumOf (Engine.marking places (now (counts .entry))) + r .more)
-        × (r .more ≤ 16_000_000) ⌝ }
+        × (r .more ≤ 16_000_000)
+        × (r .fits ≡ true → Guards.Told places (now (arcs .entry)) (now (kind .entry)) (now (place .entry)) (now (weight .entry)) (now (guards .entry))
+        (now (counts .entry)) (now (counts .exit)) (r .moved) (r .crossed)) ⌝ }
 {
     let from = 16 * j;
     let end = from + arcs[j];
     let mut less: u64 = 0;
     let mut more: u64 = 0;
+    let mut moved: u64 = 0;
+    let mut crossed: u64 = 0;
     let mut a = from;
     while a < end {
         let p = place[a];
@@ -340,14 +298,23 @@ pub fn fire<'a>(
                     fits: false,
                     less: 0,
                     more: 0,
+                    moved: 0,
+                    crossed: 0,
                 };
             }
             counts[p] = d;
             more = more + x;
+            moved = moved | guards[p];
+            crossed = crossed | guards::crossed(guards, p, c, d);
         } else {
-            let y = taken(c, k, weight[a]);
-            counts[p] = c - y;
-            less = less + y;
+            let y = taken_from(c, k, weight[a]);
+            if 0 < y {
+                let low = c - y;
+                counts[p] = low;
+                less = less + y;
+                moved = moved | guards[p];
+                crossed = crossed | guards::crossed(guards, p, low, c);
+            }
         }
         a += 1;
     }
@@ -355,5 +322,7 @@ pub fn fire<'a>(
         fits: true,
         less: less,
         more: more,
+        moved: moved,
+        crossed: crossed,
     }
 }

@@ -4,16 +4,12 @@ ghost use mathlib.Core.Bool.{true, _&&_, not};
 ghost use Prim.Native.Nat.{_^_, _<_, _≤_};
 ghost use lib.Dec.{eqb};
 ghost use lib.Ieee.{lt};
-ghost use lib.ListN.{length, take};
 ghost use Rattle.net.specs.Net as Reader;
 ghost use Rattle.net.specs.Readable as Record;
 ghost use Rattle.net.specs.Record.{lent};
 ghost use Rattle.net.specs.declared.Net.{Net as NetRecord};
 ghost use Rattle.rules.specs.Exact as Exact;
-ghost use Rattle.rules.specs.Propensity as Propensity;
 ghost use Rattle.engine.specs.Engine as Engine;
-ghost use Rattle.engine.specs.Traits as Spec;
-use crate::traits::Traits;
 use combinations::Ways;
 
 // Does the float of the ways to choose w of m tokens differ from their number?
@@ -76,7 +72,7 @@ fn some_inexact<'a>(
 }
 
 // Is a propensity of transition j rounded: above 0, with an inexact binomial?
-fn rounded<'a>(
+pub fn rounded<'a>(
     places: usize,
     transitions: usize,
     initial: &'a [u64; 32],
@@ -111,75 +107,6 @@ fn rounded<'a>(
             counts,
             j,
         );
-    }
-    false
-}
-
-// Is no count above the sure one of its place?
-fn within<'a>(places: usize, counts: &[u64; 32], sure: &'a [u64; 32]) -> bool
-    requires { ⌜ places ≤ 32 ⌝ }
-    ensures { λ r. ⌜ (r ≡ true → Spec.Within places (now (sure .entry)) (now (counts .entry))) × (Spec.Within places (now (sure .entry)) (now (counts .entry)) → r ≡ true) ⌝ }
-{
-    let mut p: usize = 0;
-    while p < places {
-        if sure[p] < counts[p] {
-            return false;
-        }
-        p += 1;
-    }
-    true
-}
-
-// Does a0, the total of these propensities, add a rounded one? None is where no count is above its sure one, as almost always.
-pub fn adds_rounded<'a>(
-    places: usize,
-    transitions: usize,
-    initial: &'a [u64; 32],
-    capacity: &'a [u64; 32],
-    rate: &'a [f64; 64],
-    delay: &'a [f64; 64],
-    arcs: &'a [usize; 64],
-    kind: &'a [u64; 1024],
-    place: &'a [usize; 1024],
-    weight: &'a [u64; 1024],
-    sure: &'a [u64; 32],
-    traits: Traits,
-    counts: &[u64; 32],
-    props: &[f64; 64],
-) -> bool
-    ghost { NetRecord }
-    requires { λ net. ⌜ lent places transitions (now initial) (now capacity) (now rate) (now delay) (now arcs) (now kind) (now place) (now weight) ≡ net ⌝ }
-    requires { λ net. ⌜ Engine.Tidy net × Spec.Of net (now sure) traits × Engine.Counts (now counts) × (length (now props) ≡ 64)
-        × (take transitions (now props) ≡ Propensity.propensities (Record.readable net) (Engine.marking places (now counts))) ⌝ }
-    ensures { λ net r. ⌜ r ≡ Exact.addsRounded (Record.readable net) (Engine.marking places (now (counts .entry))) ⌝ }
-{
-    if !traits.heavy {
-        return false;
-    }
-    if within(places, counts, sure) {
-        return false;
-    }
-    let mut j: usize = 0;
-    while j < transitions {
-        let rounds = rounded(
-            places,
-            transitions,
-            initial,
-            capacity,
-            rate,
-            delay,
-            arcs,
-            kind,
-            place,
-            weight,
-            counts,
-            j,
-            props[j],
-        );
-        if rounds {
-            return true;
-        }
-        j += 1;
     }
     false
 }

@@ -123,6 +123,7 @@ fn lent_game<'a>(
         weight,
         &mut limit,
     );
+    let guards = [0u64; 160];
     let counts = slots::first_counts(places, initial);
     search::fault_move(
         places,
@@ -136,6 +137,7 @@ fn lent_game<'a>(
         place,
         weight,
         &limit,
+        &guards,
         sides,
         wanted,
         count,

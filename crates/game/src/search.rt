@@ -1,4 +1,5 @@
-// The two moves, which call each other while the turns left fall. A position is its counts, by value: each move gets a copy of its own.
+// The two moves, which call each other while the turns left fall. A position is its counts, by value: each move gets a copy of its own. A search keeps nothing
+// from one position to the next, so the table of guards that a firing asks for is a blank one.
 ghost use mathlib.Core.Path.{_≡_};
 ghost use Prim.Native.Nat.{_<_, _≤_};
 ghost use Rattle.net.specs.Readable as Record;
@@ -45,6 +46,7 @@ fn fired<'a>(
     place: &'a [usize; 1024],
     weight: &'a [u64; 1024],
     limit: &'a [u64; 1024],
+    guards: &'a [u64; 160],
     counts: [u64; 32],
     j: usize,
 ) -> Outcome
@@ -75,10 +77,9 @@ fn fired<'a>(
             counts: after,
         };
     }
-    marking::take(places, arcs, kind, place, weight, &mut after, j);
-    let p = marking::put(places, arcs, kind, place, weight, &mut after, j);
+    let f = marking::fire(places, arcs, kind, place, weight, guards, &mut after, j);
     Outcome {
-        may: p.fits,
+        may: f.fits,
         counts: after,
     }
 }
@@ -108,6 +109,7 @@ pub fn fault_move<'a>(
     place: &'a [usize; 1024],
     weight: &'a [u64; 1024],
     limit: &'a [u64; 1024],
+    guards: &'a [u64; 160],
     sides: &[u64],
     wanted: usize,
     count: u64,
@@ -150,6 +152,7 @@ pub fn fault_move<'a>(
                 place,
                 weight,
                 limit,
+                guards,
                 counts,
                 j,
             );
@@ -167,6 +170,7 @@ pub fn fault_move<'a>(
                     place,
                     weight,
                     limit,
+                    guards,
                     sides,
                     wanted,
                     count,
@@ -204,6 +208,7 @@ pub fn fault_move<'a>(
         place,
         weight,
         limit,
+        guards,
         sides,
         wanted,
         count,
@@ -236,6 +241,7 @@ fn recovery_move<'a>(
     place: &'a [usize; 1024],
     weight: &'a [u64; 1024],
     limit: &'a [u64; 1024],
+    guards: &'a [u64; 160],
     sides: &[u64],
     wanted: usize,
     count: u64,
@@ -278,6 +284,7 @@ fn recovery_move<'a>(
                 place,
                 weight,
                 limit,
+                guards,
                 counts,
                 j,
             );
@@ -295,6 +302,7 @@ fn recovery_move<'a>(
                     place,
                     weight,
                     limit,
+                    guards,
                     sides,
                     wanted,
                     count,
@@ -333,6 +341,7 @@ fn recovery_move<'a>(
         place,
         weight,
         limit,
+        guards,
         sides,
         wanted,
         count,

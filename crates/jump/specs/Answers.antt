@@ -1,10 +1,13 @@
 -- What a call is told of the running timers, and what its answer stands for in the rules' words (rules, Step and Jump).
 use Prim.Native.Nat.{ℕ, _<_}
 use mathlib.Core.Path.{_≡_}
+use mathlib.Core.Bool.{false}
 use mathlib.Core.List.{List}
 use mathlib.Core.Option.{Option, none, some}
-use lib.ListN.{length}
-use lib.Ieee.{Float}
+use lib.ListN.{length, getD}
+use lib.Ieee.{Float, nan, lt}
+use Rattle.net.specs.Net.{zero64}
+use Rattle.rules.specs.RunningSums.{LastPositive}
 use Rattle.rules.specs.Step as Step
 use Rattle.rules.specs.Timers.{Timer, first}
 use Rattle.jump.specs.declared.Next.{Next as NextEnum}
@@ -25,3 +28,12 @@ nextOf (Completion at) = Step.completion at
 abbrev pub choiceOf : Choice → Option ℕ
 choiceOf Nobody = none
 choiceOf (Chosen j) = some j
+
+-- no propensity is positive
+abbrev pub NonePositive : List Float → Type 0
+NonePositive xs = (i : ℕ) → i < length xs → lt zero64 (getD xs i nan) ≡ false
+
+-- the last positive propensity, where one is
+abbrev pub FindsLast : List Float → Choice → Type 0
+FindsLast xs Nobody = NonePositive xs
+FindsLast xs (Chosen j) = LastPositive xs j

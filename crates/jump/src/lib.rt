@@ -1,9 +1,10 @@
 // The jump of a race: how long until it, whether it or a completion comes first, and which transition it fires.
+pub mod sums;
+
 ghost use mathlib.Core.Path.{_≡_};
 ghost use mathlib.Core.List.{List};
 ghost use Rattle.rng.specs.State as Rng;
 ghost use Rattle.rules.specs.Step as Step;
-ghost use Rattle.rules.specs.Jump as Jump;
 ghost use Rattle.rules.specs.Timers.{Timer};
 ghost use Rattle.jump.specs.Answers as Answers;
 use rng::Xoshiro256;
@@ -60,26 +61,4 @@ pub fn next_event(a0: f64, t: f64, dt: f64, running: usize, at: f64) -> Next
         return Next::Completion(at);
     }
     Next::Race(dt)
-}
-
-// The first transition with positive propensity whose running sum is at least r; failing that, the last with positive propensity. The propensities are
-// those of all transitions, in order.
-pub fn choose(props: &[f64], r: f64) -> Choice
-    ensures { λ c. ⌜ Answers.choiceOf c ≡ Jump.chosen r (now (props .entry)) ⌝ }
-{
-    let mut sum = 0.0;
-    let mut last = Choice::Nobody;
-    let mut j: usize = 0;
-    while j < props.len() {
-        let a = props[j];
-        sum = sum + a;
-        if 0.0 < a {
-            if r <= sum {
-                return Choice::Chosen(j);
-            }
-            last = Choice::Chosen(j);
-        }
-        j += 1;
-    }
-    last
 }

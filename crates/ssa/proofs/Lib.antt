@@ -2,6 +2,10 @@ pub mod Light
 pub mod Tokens
 pub mod Rooms
 pub mod Passes
+pub mod Shut
+pub mod Ahead
+pub mod Passing
+pub mod Carrying
 pub mod Cells
 pub mod Playing
 pub mod Accepted

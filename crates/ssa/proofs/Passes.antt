@@ -5,13 +5,14 @@ use mathlib.Core.Path.{_≡_, refl, sym, ap, _∙_}
 use mathlib.Core.Bool.{Bool, true, false, not, _&&_, _||_, true≢false}
 use mathlib.Core.List.{List, [], _∷_, _++_, append-assoc}
 use native.Mathlib.Omega.{arith}
+use native.Mathlib.Decide.{decLe}
 use native.Mathlib.Numerals.{add-one}
 use lib.Dec.{ltb}
-use lib.ListN.{length, getD, take}
-use lib.Ieee.{Float, nan, ofBits, lt}
+use lib.ListN.{length}
+use lib.Ieee.{Float}
 use Rattle.refusals.specs as Refusal
 use Rattle.net.specs.declared.Net.{Net as NetRecord}
-use Rattle.net.specs.Net.{Transition, Net, Marking, pick, zero64, timed}
+use Rattle.net.specs.Net.{Transition, Net, Marking, pick, timed}
 use Rattle.net.specs.Readable.{readable, transition, transitionsFrom}
 use Rattle.rules.specs.Enabled.{enabled}
 use Rattle.rules.specs.Timers.{Timer, timerOf, insert}
@@ -19,7 +20,6 @@ use Rattle.rules.specs.Moves.{taking}
 use Rattle.rules.specs.Step.{Answer, refused, given, Starts, preceded, pass, nobody, unlessNone, passes}
 use Rattle.timers.specs.declared.Ring.{Ring}
 use Rattle.ssa.specs.declared.starts.Started.{Started}
-use Rattle.engine.specs.Engine.{someAbove}
 use Rattle.ssa.specs.Starts.{StartsAre, full, done}
 
 -- these starts, and the counts and timers that they leave
@@ -74,9 +74,9 @@ so-none whole rest e = record { who = []; so = sym (preceded-none rest ∙ e); n
 
 module _ {whole rest : Answer Starts} {any : Bool} (s : SoFar whole rest any) where
   -- nobody else starts
-  pub so-ended : (who : List ℕ) (m : Marking) (q : List Timer) (k : Ring) → rest ≡ left who m q → nobody who ≡ true
-      → StartsAre whole m q (record { timers = k; any = any; full = false })
-  so-ended who m q k e quiet =
+  pub so-ended : (who : List ℕ) (m : Marking) (q : List Timer) (k : Ring) (moved crossed : ℕ) → rest ≡ left who m q → nobody who ≡ true
+      → StartsAre whole m q (record { timers = k; any = any; full = false; moved = moved; crossed = crossed })
+  so-ended who m q k moved crossed e quiet =
       done (s .who ++ who) refl (s .so ∙ ap (preceded (s .who)) e)
       (nobody-append (s .who) who ∙ neither (nobody (s .who)) (nobody who) any false (s .none) quiet ∙ ap not (or-false any))
 
@@ -117,12 +117,12 @@ module _ {whole rest : Answer Starts} {any : Bool} (s : SoFar whole rest any) wh
           }
 
       -- one in which none starts is the last
-      pub again-ended : (k : Ring) → StartsAre one m q r → rest ≡ unlessNone further one → r .full ≡ false → r .any ≡ false
-          → StartsAre whole m q (record { timers = k; any = any; full = false })
-      again-ended k (full f p) e n y = absurd (true≢false (sym f ∙ n))
-      again-ended k (done who f p quiet) e n y =
+      pub again-ended : (k : Ring) (moved crossed : ℕ) → StartsAre one m q r → rest ≡ unlessNone further one → r .full ≡ false → r .any ≡ false
+          → StartsAre whole m q (record { timers = k; any = any; full = false; moved = moved; crossed = crossed })
+      again-ended k moved crossed (full f p) e n y = absurd (true≢false (sym f ∙ n))
+      again-ended k moved crossed (done who f p quiet) e n y =
           let none : nobody who ≡ true = quiet ∙ ap not y in
-          so-ended who m q k (e ∙ ap (unlessNone further) p ∙ rw none) none
+          so-ended who m q k moved crossed (e ∙ ap (unlessNone further) p ∙ rw none) none
 
 -- ---- one transition
 
@@ -145,11 +145,11 @@ module _ (room : ℕ) (n : Net) (t : Float) (j : ℕ) (x : Transition) (m : Mark
   try-disabled e = try-is false (ltb (length q) room) (and-off (timed x) (enabled n m x) e) refl
 
   -- whether its timer is taken decides
-  pub try-on : (m′ : Marking) (q′ : List Timer) (k : Ring) (b : Bool) → timed x ≡ true → enabled n m x ≡ true → b ≡ ltb (length q) room
+  pub try-on : (m′ : Marking) (q′ : List Timer) (k : Ring) (b : Bool) (moved crossed : ℕ) → timed x ≡ true → enabled n m x ≡ true → b ≡ ltb (length q) room
       → m′ ≡ taking m (x .takes) → (b ≡ true → q′ ≡ withTimer t j x q)
-      → StartsAre (pass room n t j (x ∷ []) m q) m′ q′ (record { timers = k; any = b; full = not b })
-  try-on m′ q′ k true d e h f g = done (j ∷ []) refl (rw (f, g refl) (try-is true true (rw (d, e)) (sym h))) refl
-  try-on m′ q′ k false d e h f g = full refl (try-is true false (rw (d, e)) (sym h))
+      → StartsAre (pass room n t j (x ∷ []) m q) m′ q′ (record { timers = k; any = b; full = not b; moved = moved; crossed = crossed })
+  try-on m′ q′ k true moved crossed d e h f g = done (j ∷ []) refl (rw (f, g refl) (try-is true true (rw (d, e)) (sym h))) refl
+  try-on m′ q′ k false moved crossed d e h f g = full refl (try-is true false (rw (d, e)) (sym h))
 
   -- a pass that begins with it
   pass-next : (xs : List Transition) → pass room n t j (x ∷ xs) m q ≡ onward (pass room n t (suc j) xs) (pass room n t j (x ∷ []) m q)
@@ -197,37 +197,38 @@ passes-next room n t m q all i h = let e : all - i ≡ suc (all - (i + 1)) = ome
 pub passes-end : (room : ℕ) (n : Net) (t : Float) (m : Marking) (q : List Timer) (all i : ℕ) → all ≤ i → passes (all - i) room n t m q ≡ left [] m q
 passes-end room n t m q all i h = let e : all - i ≡ 0 = omega arith in ap (λ (k : ℕ). passes k room n t m q) e
 
--- ---- where no transition is delayed
-
-not-above : lt zero64 nan ≡ false
-unfolding lt ofBits
-not-above = refl
-
-no-less : {j : ℕ} → j < 0 → ⊥
-no-less h = omega arith
-
-or-left : (a b : Bool) → (a || b) ≡ false → a ≡ false
-or-left true b e = e
-or-left false b e = refl
-
-or-right : (a b : Bool) → (a || b) ≡ false → b ≡ false
-or-right true b e = absurd (true≢false e)
-or-right false b e = e
-
-none-above : (k : ℕ) (ds : List Float) → someAbove (take k ds) ≡ false → (j : ℕ) → j < k → lt zero64 (getD ds j nan) ≡ false
-none-above zero ds e j h = absurd (no-less h)
-none-above (suc k) [] e j h = not-above
-none-above (suc k) (d ∷ ds) e zero h = or-left (lt zero64 d) (someAbove (take k ds)) e
-none-above (suc k) (d ∷ ds) e (suc j) h = none-above k ds (or-right (lt zero64 d) (someAbove (take k ds)) e) j (omega arith)
+-- ---- where none starts
 
 module _ (room : ℕ) (n : NetRecord) (t : Float) (m : Marking) (q : List Timer) where
-  quiet-from : (k j : ℕ) → ((i : ℕ) → i < j + k → lt zero64 (getD (n .delay) i nan) ≡ false) → pass room (readable n) t j (transitionsFrom n j k) m q ≡ left [] m q
-  quiet-from zero j h = refl
-  quiet-from (suc k) j h =
-      let off : lt zero64 (getD (n .delay) j nan) ≡ false = h j (omega arith) in
-      rw off (quiet-from k (suc j) (λ i l. h i (omega arith)))
+  -- transition j does not start now
+  abbrev pub Off : ℕ → Type 0
+  Off j = (timed (transition n j) && enabled (readable n) m (transition n j)) ≡ false
 
-  pub passes-quiet : (k : ℕ) → someAbove (take (n .transitions) (n .delay)) ≡ false → passes (suc k) room (readable n) t m q ≡ left [] m q
-  passes-quiet k e =
-      ap (unlessNone (passes k room (readable n) t))
-      (quiet-from (n .transitions) 0 (λ i l. none-above (n .transitions) (n .delay) e i (omega arith)))
+  from-off : (j : ℕ) → j < n .transitions → Off j → passFrom room n t j m q ≡ passFrom room n t (j + 1) m q
+  from-off j h e =
+      from-next room n t m q j h
+      ∙ ap (onward (passFrom room n t (j + 1))) (try-is room (readable n) t j (transition n j) m q false (ltb (length q) room) e refl)
+      ∙ preceded-none (passFrom room n t (j + 1) m q)
+
+  -- a pass goes on at the next one that may start
+  pub from-skip : (d j : ℕ) → j + d ≤ n .transitions → ((i : ℕ) → j ≤ i → i < j + d → Off i) → passFrom room n t j m q ≡ passFrom room n t (j + d) m q
+  from-skip zero j h f = let e : j + 0 ≡ j = omega arith in ap (λ (k : ℕ). passFrom room n t k m q) (sym e)
+  from-skip (suc d) j h f =
+      let e : (j + 1) + d ≡ j + suc d = omega arith in
+      from-off j (omega arith) (f j (omega arith) (omega arith))
+      ∙ from-skip d (j + 1) (omega arith) (λ i a b. f i (omega arith) (omega arith))
+      ∙ ap (λ (k : ℕ). passFrom room n t k m q) e
+
+  -- and ends where none is left
+  pub from-none : (j : ℕ) → ((i : ℕ) → j ≤ i → i < n .transitions → Off i) → passFrom room n t j m q ≡ left [] m q
+  from-none j f = go (decLe j (n .transitions))
+    where
+      go : Dec (j ≤ n .transitions) → passFrom room n t j m q ≡ left [] m q
+      go (yes h) =
+          from-skip (n .transitions - j) j (omega arith) (λ i a b. f i a (omega arith))
+          ∙ from-end room n t m q (j + (n .transitions - j)) (omega arith)
+      go (no h) = from-end room n t m q j (omega arith)
+
+  pub passes-none : (k : ℕ) → ((i : ℕ) → i < n .transitions → Off i) → passes (suc k) room (readable n) t m q ≡ left [] m q
+  passes-none k f =
+      ap (unlessNone (passes k room (readable n) t)) (sym (from-first room n t m q) ∙ from-none 0 (λ i a b. f i b))

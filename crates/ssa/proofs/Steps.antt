@@ -39,7 +39,8 @@ use Rattle.ssa.specs.Starts.{StartsAre, full, done}
 use Rattle.ssa.specs.Stepping as Stepping
 use Rattle.ssa.specs.Stepping.{stateOf, tokensOf, eventOf, AdvancedBy, EventBy, happens, tooLarge, StepBy}
 use Rattle.engine.proofs.Marks.{fit-all}
-use Rattle.ssa.proofs.Tokens.{transition-at, transition-past, taken-first}
+use Rattle.engine.proofs.Touching.{transition-at}
+use Rattle.ssa.proofs.Tokens.{transition-past, taken-first}
 
 -- ---- events
 

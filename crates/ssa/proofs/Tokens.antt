@@ -1,6 +1,5 @@
 -- What a start, a completion and a firing do to the tokens: all place counts plus the weights taken by the running timers. What a start takes from the counts
--- is what the rules say that its timer took, and the tokens of a run never come near 2^64. And the transition that a number names: that of the record, or one
--- without arcs.
+-- is what the rules say that its timer took, and the tokens of a run never come near 2^64. And the transition of a number that none has.
 use Prim.Native.Nat.{ℕ, zero, suc, _+_, _*_, _^_, _≤_, _<_}
 use mathlib.Core.Path.{_≡_, ap, subst, refl, _∙_}
 use mathlib.Core.Bool.{true}
@@ -22,6 +21,7 @@ use Rattle.rules.specs.Demand3.{Ready as Allowed}
 use Rattle.rules.proofs.Counts.{once-each}
 use Rattle.rules.proofs.Peaks.{sum-taking}
 use Rattle.engine.specs.Engine.{AtMost, Tidy}
+use Rattle.engine.proofs.Touching.{transition-at}
 use Rattle.timers.specs.declared.Ring.{Ring}
 use Rattle.timers.specs.Turning.{timersOf}
 use Rattle.timers.proofs.Rings.{length-timers}
@@ -31,24 +31,10 @@ use Rattle.ssa.proofs.Light.{light-taken}
 -- ---- the transition of a number
 
 module _ (n : NetRecord) where
-  at : (k i j : ℕ) → j < k → getD (transitionsFrom n i k) j withoutArcs ≡ Record.transition n (i + j)
-  at zero i j h = absurd (not-suc-le-zero h)
-  at (suc k) i zero h =
-      let e : i ≡ i + 0 = omega arith in
-      ap (λ (x : ℕ). Record.transition n x) e
-  at (suc k) i (suc j) h =
-      let e : suc i + j ≡ i + suc j = omega arith in
-      at k (suc i) j (le-of-suc-le-suc h) ∙ ap (λ (x : ℕ). Record.transition n x) e
-
   past : (k i j : ℕ) → k ≤ j → getD (transitionsFrom n i k) j withoutArcs ≡ withoutArcs
   past zero i j h = refl
   past (suc k) i zero h = absurd (not-suc-le-zero h)
   past (suc k) i (suc j) h = past k (suc i) j (le-of-suc-le-suc h)
-
-  pub transition-at : (j : ℕ) → j < n .transitions → transition (readable n) j ≡ Record.transition n j
-  transition-at j h =
-      let e : 0 + j ≡ j = omega arith in
-      at (n .transitions) 0 j h ∙ ap (λ (x : ℕ). Record.transition n x) e
 
   pub transition-past : (j : ℕ) → n .transitions ≤ j → transition (readable n) j ≡ withoutArcs
   transition-past j h = past (n .transitions) 0 j h

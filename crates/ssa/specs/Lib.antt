@@ -1,4 +1,5 @@
 pub mod Starts
+pub mod Keeping
 pub mod Cells
 pub mod Stepping
 pub mod Path

@@ -23,17 +23,16 @@ use Rattle.ssa.specs.declared.members.Summed.{Summed}
 use Rattle.ssa.specs.declared.members.Summed.the-variants as Summed
 use Rattle.engine.specs.Engine.{Tidy}
 use Rattle.engine.specs.Limits.{Limits}
-use Rattle.engine.specs.Traits.{Of}
-use Rattle.engine.specs.declared.traits.Traits.{Traits}
+use Rattle.ssa.specs.Keeping.{Tables}
 use Rattle.ssa.specs.Cells.{tableOf, cleared}
 use Rattle.ssa.specs.Ensemble.{oneIfSpent, spentOf, cellsOf, lastShown}
 
--- what every path is lent: a tidy net with small initial counts, its limits and traits, and instants that fit
-pub record Lent (n : NetRecord) (limit sure : List ℕ) (traits : Traits) (xs : List Float) : Type 0 where
+-- what every path is lent: a tidy net with small initial counts, its limits and tables, and instants that fit
+pub record Lent (n : NetRecord) (limit : List ℕ) (rates : List Float) (ends guards : List ℕ) (delayed several : ℕ) (xs : List Float) : Type 0 where
   pub tidy : Tidy n
   pub limits : Limits n limit
   pub small : (p : ℕ) → p < n .places → getD (n .initial) p 0 ≤ 2 ^ 53
-  pub traits-of : Of n sure traits
+  pub tables : Tables n rates ends guards delayed several
   pub fit : instantsFit xs ≡ true
 
 -- path k, from the seed, the instants and the step limit that the program has at hand

@@ -16,8 +16,8 @@ ghost use Rattle.ssa.specs.Path as Path;
 use crate::PathAnswer;
 use crate::PathEnd;
 use crate::run;
+use crate::tables;
 use engine::slots;
-use engine::traits;
 use net::Net;
 use rng::Xoshiro256;
 
@@ -112,7 +112,10 @@ fn lent_path<'a>(
         (now (table .entry)) (Shown.worked (Record.readable net) (Random.words (generator .s)) (now (instants .entry)) steps) ⌝ }
 {
     let mut limit = [0u64; 1024];
-    slots::fill_limits(
+    let mut rates = [0.0; 64];
+    let mut ends = [0usize; 64];
+    let mut guards = [0u64; 160];
+    let kinds = tables::fill_tables(
         places,
         transitions,
         initial,
@@ -124,22 +127,11 @@ fn lent_path<'a>(
         place,
         weight,
         &mut limit,
+        &mut rates,
+        &mut ends,
+        &mut guards,
     );
     let mut counts = slots::first_counts(places, initial);
-    let mut sure = [0u64; 32];
-    let traits = traits::traits_of(
-        places,
-        transitions,
-        initial,
-        capacity,
-        rate,
-        delay,
-        arcs,
-        kind,
-        place,
-        weight,
-        &mut sure,
-    );
     run::play(
         places,
         transitions,
@@ -152,8 +144,11 @@ fn lent_path<'a>(
         place,
         weight,
         &limit,
-        &sure,
-        traits,
+        &rates,
+        &ends,
+        &guards,
+        kinds.timed,
+        kinds.heavy,
         &mut counts,
         instants,
         steps,

@@ -24,9 +24,8 @@ use crate::members::Summed;
 use crate::shown;
 use averages::moments;
 use averages::request;
+use crate::tables;
 use engine::slots;
-use engine::traits;
-use engine::traits::Traits;
 use net::Net;
 
 // The step limit of an ensemble's paths.
@@ -63,8 +62,11 @@ fn averaged<'a>(
     place: &'a [usize; 1024],
     weight: &'a [u64; 1024],
     limit: &'a [u64; 1024],
-    sure: &'a [u64; 32],
-    traits: Traits,
+    rates: &'a [f64; 64],
+    ends: &'a [usize; 64],
+    guards: &'a [u64; 160],
+    timed: u64,
+    heavy: u64,
     instants: &[f64],
     steps: u64,
     seed: u64,
@@ -75,7 +77,7 @@ fn averaged<'a>(
 ) -> EnsembleAnswer
     ghost { NetRecord }
     requires { λ net. ⌜ lent places transitions (now initial) (now capacity) (now rate) (now delay) (now arcs) (now kind) (now place) (now weight) ≡ net ⌝ }
-    requires { λ net. ⌜ Summing.Lent net (now limit) (now sure) traits (now instants) × (realizations ≤ 65_535) × (places * length (now instants) ≤ length (now mean))
+    requires { λ net. ⌜ Summing.Lent net (now limit) (now rates) (now ends) (now guards) timed heavy (now instants) × (realizations ≤ 65_535) × (places * length (now instants) ≤ length (now mean))
         × (places * length (now instants) ≤ length (now deviation)) × (places * length (now instants) ≤ length (now path)) ⌝ }
     ensures { λ net r. ⌜ Ensemble.callOf r (now (mean .exit)) (now (deviation .exit)) (now (path .exit))
         ≡ Ensemble.tabulated places (length (now (instants .entry)))
@@ -97,8 +99,11 @@ fn averaged<'a>(
         place,
         weight,
         limit,
-        sure,
-        traits,
+        rates,
+        ends,
+        guards,
+        timed,
+        heavy,
         instants,
         steps,
         seed,
@@ -150,7 +155,10 @@ fn lent_ensemble<'a>(
         (Ensemble.membersFrom (Record.readable net) (record { samples = samples; realizations = realizations; seed = seed; horizon = horizon }) 0 realizations) ⌝ }
 {
     let mut limit = [0u64; 1024];
-    slots::fill_limits(
+    let mut rates = [0.0; 64];
+    let mut ends = [0usize; 64];
+    let mut guards = [0u64; 160];
+    let kinds = tables::fill_tables(
         places,
         transitions,
         initial,
@@ -162,20 +170,9 @@ fn lent_ensemble<'a>(
         place,
         weight,
         &mut limit,
-    );
-    let mut sure = [0u64; 32];
-    let traits = traits::traits_of(
-        places,
-        transitions,
-        initial,
-        capacity,
-        rate,
-        delay,
-        arcs,
-        kind,
-        place,
-        weight,
-        &mut sure,
+        &mut rates,
+        &mut ends,
+        &mut guards,
     );
     let mut grid = [0.0; 1024];
     let few = samples as u32;
@@ -193,8 +190,11 @@ fn lent_ensemble<'a>(
         place,
         weight,
         &limit,
-        &sure,
-        traits,
+        &rates,
+        &ends,
+        &guards,
+        kinds.timed,
+        kinds.heavy,
         &grid[..n],
         MOST_STEPS,
         seed,

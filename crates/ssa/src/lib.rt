@@ -7,6 +7,7 @@ mod run;
 mod shown;
 mod starts;
 mod step;
+mod tables;
 
 ghost use mathlib.Core.Path.{_≡_};
 ghost use Rattle.rng.specs.State as Random;

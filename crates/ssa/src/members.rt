@@ -16,7 +16,6 @@ use crate::run;
 use averages::moments;
 use averages::request;
 use engine::slots;
-use engine::traits::Traits;
 use rng::Xoshiro256;
 
 // A path was refused by that number, or it was added, and so many are spent so far.
@@ -44,8 +43,11 @@ fn one_path<'a>(
     place: &'a [usize; 1024],
     weight: &'a [u64; 1024],
     limit: &'a [u64; 1024],
-    sure: &'a [u64; 32],
-    traits: Traits,
+    rates: &'a [f64; 64],
+    ends: &'a [usize; 64],
+    guards: &'a [u64; 160],
+    timed: u64,
+    heavy: u64,
     instants: &[f64],
     steps: u64,
     seed: u64,
@@ -54,7 +56,7 @@ fn one_path<'a>(
 ) -> PathAnswer
     ghost { NetRecord }
     requires { λ net. ⌜ lent places transitions (now initial) (now capacity) (now rate) (now delay) (now arcs) (now kind) (now place) (now weight) ≡ net ⌝ }
-    requires { λ net. ⌜ Summing.Lent net (now limit) (now sure) traits (now instants) × (places * length (now instants) ≤ length (now path)) ⌝ }
+    requires { λ net. ⌜ Summing.Lent net (now limit) (now rates) (now ends) (now guards) timed heavy (now instants) × (places * length (now instants) ≤ length (now path)) ⌝ }
     ensures { λ net r. ⌜ Path.callOf r (now (path .exit)) ≡ Path.played places (length (now (instants .entry))) (Seeding.seeded (Request.seedOf seed k))
         (now (path .entry)) (Summing.drawn (Record.readable net) seed (now (instants .entry)) steps k) ⌝ }
 {
@@ -72,8 +74,11 @@ fn one_path<'a>(
         place,
         weight,
         limit,
-        sure,
-        traits,
+        rates,
+        ends,
+        guards,
+        timed,
+        heavy,
         &mut counts,
         instants,
         steps,
@@ -107,8 +112,11 @@ fn member_turn<'a>(
     place: &'a [usize; 1024],
     weight: &'a [u64; 1024],
     limit: &'a [u64; 1024],
-    sure: &'a [u64; 32],
-    traits: Traits,
+    rates: &'a [f64; 64],
+    ends: &'a [usize; 64],
+    guards: &'a [u64; 160],
+    timed: u64,
+    heavy: u64,
     instants: &[f64],
     steps: u64,
     seed: u64,
@@ -120,7 +128,7 @@ fn member_turn<'a>(
 ) -> Turn
     ghost { NetRecord }
     requires { λ net. ⌜ lent places transitions (now initial) (now capacity) (now rate) (now delay) (now arcs) (now kind) (now place) (now weight) ≡ net ⌝ }
-    requires { λ net. ⌜ Summing.Lent net (now limit) (now sure) traits (now instants) × (places * length (now instants) ≤ length (now path)) × (spent < 65_535) ⌝ }
+    requires { λ net. ⌜ Summing.Lent net (now limit) (now rates) (now ends) (now guards) timed heavy (now instants) × (places * length (now instants) ≤ length (now path)) × (spent < 65_535) ⌝ }
     ensures { λ net r. ⌜ Summing.TurnBy (Summing.drawn (Record.readable net) seed (now (instants .entry)) steps k) places (length (now (instants .entry))) spent
         (now (mean .entry)) (now (mean .exit)) (now (deviation .entry)) (now (deviation .exit)) (now (path .entry)) (now (path .exit)) r ⌝ }
 {
@@ -136,8 +144,11 @@ fn member_turn<'a>(
         place,
         weight,
         limit,
-        sure,
-        traits,
+        rates,
+        ends,
+        guards,
+        timed,
+        heavy,
         instants,
         steps,
         seed,
@@ -168,8 +179,11 @@ pub fn sum_paths<'a>(
     place: &'a [usize; 1024],
     weight: &'a [u64; 1024],
     limit: &'a [u64; 1024],
-    sure: &'a [u64; 32],
-    traits: Traits,
+    rates: &'a [f64; 64],
+    ends: &'a [usize; 64],
+    guards: &'a [u64; 160],
+    timed: u64,
+    heavy: u64,
     instants: &[f64],
     steps: u64,
     seed: u64,
@@ -180,7 +194,7 @@ pub fn sum_paths<'a>(
 ) -> Summed
     ghost { NetRecord }
     requires { λ net. ⌜ lent places transitions (now initial) (now capacity) (now rate) (now delay) (now arcs) (now kind) (now place) (now weight) ≡ net ⌝ }
-    requires { λ net. ⌜ Summing.Lent net (now limit) (now sure) traits (now instants) × (realizations ≤ 65_535) × (places * length (now instants) ≤ length (now path))
+    requires { λ net. ⌜ Summing.Lent net (now limit) (now rates) (now ends) (now guards) timed heavy (now instants) × (realizations ≤ 65_535) × (places * length (now instants) ≤ length (now path))
         × (now mean ≡ Cells.cleared (places * length (now instants)) (now mean))
         × (now deviation ≡ Cells.cleared (places * length (now instants)) (now deviation)) ⌝ }
     ensures { λ net r. ⌜ Summing.SummedBy (Summing.pathsFrom (Summing.drawn (Record.readable net) seed (now (instants .entry)) steps) 0 realizations)
@@ -203,8 +217,11 @@ pub fn sum_paths<'a>(
             place,
             weight,
             limit,
-            sure,
-            traits,
+            rates,
+            ends,
+            guards,
+            timed,
+            heavy,
             instants,
             steps,
             seed,

@@ -1,7 +1,7 @@
 // The loop of a path: steps while the clock is below the last instant and the limit allows; then the instants that are left are shown.
 ghost use mathlib.Core.Path.{_≡_};
 ghost use mathlib.Core.Bool.{true};
-ghost use Prim.Native.Nat.{_+_, _*_, _<_, _≤_};
+ghost use Prim.Native.Nat.{ℕ, _+_, _*_, _<_, _≤_};
 ghost use lib.ListN.{length};
 ghost use lib.ListN as ListN;
 ghost use Rattle.net.specs.Net as Net;
@@ -15,7 +15,9 @@ ghost use Rattle.rules.specs.Shown as Shown;
 ghost use Rattle.rules.proofs.Play as Play;
 ghost use Rattle.engine.specs.Engine as Engine;
 ghost use Rattle.engine.specs.Limits as Limits;
-ghost use Rattle.engine.specs.Traits as Has;
+ghost use Rattle.words.specs.Bits.{bit};
+ghost use lib.Dec.{ltb};
+ghost use Rattle.ssa.specs.Keeping as Keeps;
 ghost use Rattle.ssa.specs.Cells as Cells;
 ghost use Rattle.ssa.specs.Stepping as Stepping;
 ghost use Rattle.ssa.specs.Playing as Playing;
@@ -25,8 +27,8 @@ use crate::PathEnd;
 use crate::shown;
 use crate::step;
 use crate::step::Ending;
+use crate::step::Keeping;
 use crate::step::Now;
-use engine::traits::Traits;
 use rng::Xoshiro256;
 
 // How many timers may run in a path.
@@ -66,12 +68,16 @@ fn take_steps<'a>(
     place: &'a [usize; 1024],
     weight: &'a [u64; 1024],
     limit: &'a [u64; 1024],
-    sure: &'a [u64; 32],
-    traits: Traits,
+    rates: &'a [f64; 64],
+    ends: &'a [usize; 64],
+    guards: &'a [u64; 160],
+    timed: u64,
+    heavy: u64,
     counts: &mut [u64; 32],
     ats: &mut [f64; 256],
     owners: &mut [u64; 512],
     props: &mut [f64; 64],
+    sums: &mut [f64; 64],
     room: usize,
     instants: &[f64],
     last: f64,
@@ -81,8 +87,9 @@ fn take_steps<'a>(
 ) -> Walked
     ghost { NetRecord }
     requires { λ net. ⌜ lent places transitions (now initial) (now capacity) (now rate) (now delay) (now arcs) (now kind) (now place) (now weight) ≡ net ⌝ }
-    requires { λ net. ⌜ Stepping.Ready net (now limit) (now counts) (now ats) (now owners) (s .timers) × Stepping.Roomy room (s .timers) × Has.Of net (now sure) traits
-        × (length (now props) ≡ 64) × (s .next ≤ length (now instants)) × (length (now instants) ≤ 1024)
+    requires { λ net. ⌜ Stepping.Ready net (now limit) (now counts) (now ats) (now owners) (s .timers) × Stepping.Roomy room (s .timers)
+        × Keeps.Tables net (now rates) (now ends) (now guards) timed heavy × Keeps.Carried net (Engine.marking places (now counts)) (s .kept) (now props) (now sums)
+        × (s .next ≤ length (now instants)) × (length (now instants) ≤ 1024)
         × (places * length (now instants) ≤ length (now table)) × (s .tokens ≤ s .peak)
         × (s .tokens ≡ Stepping.tokensOf (Stepping.stateOf net (now counts) (now ats) (now owners) (s .timers) (s .clock) (s .rng .s))) ⌝ }
     ensures is { λ net r. ⌜ Playing.WalkBy
@@ -113,12 +120,16 @@ fn take_steps<'a>(
                 place,
                 weight,
                 limit,
-                sure,
-                traits,
+                rates,
+                ends,
+                guards,
+                timed,
+                heavy,
                 counts,
                 ats,
                 owners,
                 props,
+                sums,
                 room,
                 instants,
                 last,
@@ -216,6 +227,17 @@ fn sum(counts: &[u64; 32], places: usize) -> u64
     total
 }
 
+// All of so many transitions.
+fn all_of(transitions: usize) -> u64
+    requires { ⌜ transitions ≤ 64 ⌝ }
+    ensures { λ r. ⌜ ((j : ℕ) → bit r j ≡ ltb j transitions) ⌝ }
+{
+    if transitions == 64 {
+        return 0xFFFF_FFFF_FFFF_FFFF;
+    }
+    (1u64 << transitions) - 1
+}
+
 // A path from the initial counts: its answer, and the table filled, or cleared where the run is refused.
 pub fn play<'a>(
     places: usize,
@@ -229,8 +251,11 @@ pub fn play<'a>(
     place: &'a [usize; 1024],
     weight: &'a [u64; 1024],
     limit: &'a [u64; 1024],
-    sure: &'a [u64; 32],
-    traits: Traits,
+    rates: &'a [f64; 64],
+    ends: &'a [usize; 64],
+    guards: &'a [u64; 160],
+    timed: u64,
+    heavy: u64,
     counts: &mut [u64; 32],
     instants: &[f64],
     steps: u64,
@@ -240,7 +265,7 @@ pub fn play<'a>(
     ghost { NetRecord }
     requires { λ net. ⌜ lent places transitions (now initial) (now capacity) (now rate) (now delay) (now arcs) (now kind) (now place) (now weight) ≡ net ⌝ }
     requires { λ net. ⌜ Engine.Tidy net × Limits.Limits net (now limit) × Engine.Counts (now counts)
-        × (Engine.marking places (now counts) ≡ Moves.initialCounts (Record.readable net)) × Has.Of net (now sure) traits
+        × (Engine.marking places (now counts) ≡ Moves.initialCounts (Record.readable net)) × Keeps.Tables net (now rates) (now ends) (now guards) timed heavy
         × (0 < length (now instants)) × (length (now instants) ≤ 1024) × (Shown.rising Net.zero64 (now instants) ≡ true)
         × (places * length (now instants) ≤ length (now table)) ⌝ }
     ensures { λ net r. ⌜ Path.callOf r (now (table .exit)) ≡ Path.played places (length (now (instants .entry))) (Random.words (rng .s)) (now (table .entry))
@@ -249,11 +274,19 @@ pub fn play<'a>(
     let mut ats = [0.0; 256];
     let mut owners = [0u64; 512];
     let mut props = [0.0; 64];
+    let mut sums = [0.0; 64];
     let n = instants.len();
     let last = instants[n - 1];
     let first = shown::show(instants, table, counts, places, 0.0, 0);
     let tokens = sum(counts, places);
     let none = timers::empty();
+    let kept = Keeping {
+        moved: 0,
+        crossed: all_of(transitions),
+        able: 0,
+        marks: 0,
+        a0: 0.0,
+    };
     let s = Now {
         clock: 0.0,
         timers: none,
@@ -261,6 +294,7 @@ pub fn play<'a>(
         tokens: tokens,
         peak: tokens,
         rng: rng,
+        kept: kept,
     };
     let w = take_steps(
         places,
@@ -274,12 +308,16 @@ pub fn play<'a>(
         place,
         weight,
         limit,
-        sure,
-        traits,
+        rates,
+        ends,
+        guards,
+        timed,
+        heavy,
         counts,
         &mut ats,
         &mut owners,
         &mut props,
+        &mut sums,
         ROOM,
         instants,
         last,

@@ -2,12 +2,18 @@
 ghost use mathlib.Core.Path.{_≡_};
 ghost use mathlib.Core.Bool.{true, false};
 ghost use mathlib.Core.List.{[], _∷_};
-ghost use Prim.Native.Nat.{suc, _+_, _<_};
+ghost use Prim.Native.Nat.{ℕ, suc, _+_, _^_, _<_, _≤_};
+ghost use lib.Dec.{leb};
+ghost use mathlib.Core.Bool.{_&&_};
 ghost use Rattle.net.specs.Readable as Record;
 ghost use Rattle.net.specs.Record.{lent};
 ghost use Rattle.net.specs.declared.Net.{Net as NetRecord};
 ghost use Rattle.rules.specs.Step as Rule;
+ghost use Rattle.words.specs.Bits.{bit};
 ghost use Rattle.engine.specs.Engine as Engine;
+ghost use Rattle.engine.specs.Guards as Guards;
+ghost use Rattle.kept.specs.Kept as Kept;
+ghost use Rattle.ssa.specs.Keeping as Keeping;
 ghost use Rattle.ssa.specs.Starts as Starts;
 ghost use Rattle.timers.specs.Turning as Turning;
 ghost use Rattle.ssa.specs.Stepping as Stepping;
@@ -15,11 +21,14 @@ use engine::marking;
 use timers::Ring;
 use timers::Timer;
 
-// The timers' ring now, whether a timer has started, and whether one could not since there was no room for it.
+// The timers' ring now, whether a timer has started, and whether one could not since there was no room for it; and what the starts have changed, as two words
+// of transitions (engine, specs/Guards).
 pub struct Started {
     pub timers: Ring,
     pub any: bool,
     pub full: bool,
+    pub moved: u64,
+    pub crossed: u64,
 }
 
 // Starts transition j if it is delayed and enabled. Its tokens are taken first, since its timer holds how many they were; where there is no room for the
@@ -36,6 +45,7 @@ fn try_start<'a>(
     place: &'a [usize; 1024],
     weight: &'a [u64; 1024],
     limit: &'a [u64; 1024],
+    guards: &'a [u64; 160],
     counts: &mut [u64; 32],
     ats: &mut [f64; 256],
     owners: &mut [u64; 512],
@@ -46,12 +56,15 @@ fn try_start<'a>(
 ) -> Started
     ghost { NetRecord }
     requires { λ net. ⌜ lent places transitions (now initial) (now capacity) (now rate) (now delay) (now arcs) (now kind) (now place) (now weight) ≡ net ⌝ }
-    requires { λ net. ⌜ (j < transitions) × Stepping.Ready net (now limit) (now counts) (now ats) (now owners) ring × Stepping.Roomy room ring ⌝ }
+    requires { λ net. ⌜ (j < transitions) × Stepping.Ready net (now limit) (now counts) (now ats) (now owners) ring × Stepping.Roomy room ring
+        × Guards.Guards net (now guards) ⌝ }
     ensures is { λ net r. ⌜ Starts.StartsAre
         (Rule.pass room (Record.readable net) t j (Record.transition net j ∷ [])
         (Engine.marking places (now (counts .entry))) (Turning.timersOf (now (ats .entry)) (now (owners .entry)) ring))
         (Engine.marking places (now (counts .exit))) (Turning.timersOf (now (ats .exit)) (now (owners .exit)) (r .timers)) r ⌝ }
     ensures ready { λ net r. ⌜ Stepping.Ready net (now (limit .entry)) (now (counts .exit)) (now (ats .exit)) (now (owners .exit)) (r .timers) × Stepping.Roomy room (r .timers) ⌝ }
+    ensures quiet { λ net r. ⌜ (r .full ≡ false → Guards.Quiet (Record.readable net) (Engine.marking places (now (counts .entry))) (Engine.marking places (now (counts .exit)))
+        (r .moved) (r .crossed)) ⌝ }
 {
     let d = delay[j];
     if 0.0 < d {
@@ -70,11 +83,11 @@ fn try_start<'a>(
             counts,
             j,
         ) {
-            let taken = marking::take(places, arcs, kind, place, weight, counts, j);
+            let took = marking::take(places, arcs, kind, place, weight, guards, counts, j);
             let x = Timer {
                 at: t + d,
                 who: j,
-                taken: taken,
+                taken: took.less,
             };
             let put = timers::insert(ats, owners, ring, room, x);
             let after = put.ring;
@@ -82,6 +95,8 @@ fn try_start<'a>(
                 timers: after,
                 any: put.taken,
                 full: !put.taken,
+                moved: took.moved,
+                crossed: took.crossed,
             };
         }
     }
@@ -89,10 +104,24 @@ fn try_start<'a>(
         timers: ring,
         any: false,
         full: false,
+        moved: 0,
+        crossed: 0,
     }
 }
 
-// One pass through the transitions.
+// The part of a word from bit k on.
+fn from_bit(word: u64, k: usize) -> u64
+    requires { ⌜ k ≤ 64 ⌝ }
+    ensures { λ r. ⌜ ((j : ℕ) → bit r j ≡ (leb k j && bit word j)) × (r < 2 ^ 64) ⌝ }
+{
+    if k == 64 {
+        return 0;
+    }
+    (word >> k) << k
+}
+
+// One pass through the transitions. Only those in the word `asked` are looked at, and those that a start of this pass may have opened: every other delayed one is
+// not enabled.
 fn pass<'a>(
     places: usize,
     transitions: usize,
@@ -105,26 +134,37 @@ fn pass<'a>(
     place: &'a [usize; 1024],
     weight: &'a [u64; 1024],
     limit: &'a [u64; 1024],
+    guards: &'a [u64; 160],
+    timed: u64,
     counts: &mut [u64; 32],
     ats: &mut [f64; 256],
     owners: &mut [u64; 512],
     room: usize,
     ring: Ring,
     t: f64,
+    asked: u64,
 ) -> Started
     ghost { NetRecord }
     requires { λ net. ⌜ lent places transitions (now initial) (now capacity) (now rate) (now delay) (now arcs) (now kind) (now place) (now weight) ≡ net ⌝ }
-    requires { λ net. ⌜ Stepping.Ready net (now limit) (now counts) (now ats) (now owners) ring × Stepping.Roomy room ring ⌝ }
+    requires { λ net. ⌜ Stepping.Ready net (now limit) (now counts) (now ats) (now owners) ring × Stepping.Roomy room ring × Guards.Guards net (now guards)
+        × Kept.Timed net timed × ((j : ℕ) → bit asked j ≡ true → bit timed j ≡ true) × Keeping.ShutBut asked (Record.readable net) (Engine.marking places (now counts)) ⌝ }
     ensures is { λ net r. ⌜ Starts.StartsAre
         (Rule.pass room (Record.readable net) t 0 (Record.readable net .transitions)
         (Engine.marking places (now (counts .entry))) (Turning.timersOf (now (ats .entry)) (now (owners .entry)) ring))
         (Engine.marking places (now (counts .exit))) (Turning.timersOf (now (ats .exit)) (now (owners .exit)) (r .timers)) r ⌝ }
     ensures ready { λ net r. ⌜ Stepping.Ready net (now (limit .entry)) (now (counts .exit)) (now (ats .exit)) (now (owners .exit)) (r .timers) × Stepping.Roomy room (r .timers) ⌝ }
+    ensures quiet { λ net r. ⌜ (r .full ≡ false → Guards.Quiet (Record.readable net) (Engine.marking places (now (counts .entry))) (Engine.marking places (now (counts .exit)))
+        (r .moved) (r .crossed)) ⌝ }
 {
     let mut k = ring;
     let mut any = false;
-    let mut j: usize = 0;
-    while j < transitions {
+    let mut moved: u64 = 0;
+    let mut crossed: u64 = 0;
+    let mut tried = asked;
+    let mut from: usize = 0;
+    let mut ahead = asked;
+    while ahead != 0 {
+        let j = u64::trailing_zeros(ahead) as usize;
         let s = try_start(
             places,
             transitions,
@@ -137,6 +177,7 @@ fn pass<'a>(
             place,
             weight,
             limit,
+            guards,
             counts,
             ats,
             owners,
@@ -150,16 +191,22 @@ fn pass<'a>(
         }
         k = s.timers;
         any = any | s.any;
-        j += 1;
+        moved = moved | s.moved;
+        crossed = crossed | s.crossed;
+        tried = tried | (s.crossed & timed);
+        from = j + 1;
+        ahead = from_bit(tried, from);
     }
     Started {
         timers: k,
         any: any,
         full: false,
+        moved: moved,
+        crossed: crossed,
     }
 }
 
-// Passes until none starts. Where no transition is delayed there is none.
+// Passes until none starts. A delayed transition outside the word `before` is not enabled.
 pub fn start_all<'a>(
     places: usize,
     transitions: usize,
@@ -172,31 +219,41 @@ pub fn start_all<'a>(
     place: &'a [usize; 1024],
     weight: &'a [u64; 1024],
     limit: &'a [u64; 1024],
-    timed: bool,
+    guards: &'a [u64; 160],
+    timed: u64,
     counts: &mut [u64; 32],
     ats: &mut [f64; 256],
     owners: &mut [u64; 512],
     room: usize,
     ring: Ring,
     t: f64,
+    before: u64,
 ) -> Started
     ghost { NetRecord }
     requires { λ net. ⌜ lent places transitions (now initial) (now capacity) (now rate) (now delay) (now arcs) (now kind) (now place) (now weight) ≡ net ⌝ }
-    requires { λ net. ⌜ Stepping.Ready net (now limit) (now counts) (now ats) (now owners) ring × Stepping.Roomy room ring × (timed ≡ Engine.anyTimed transitions (now delay)) ⌝ }
+    requires { λ net. ⌜ Stepping.Ready net (now limit) (now counts) (now ats) (now owners) ring × Stepping.Roomy room ring × Guards.Guards net (now guards)
+        × Kept.Timed net timed × Keeping.ShutBut before (Record.readable net) (Engine.marking places (now counts)) ⌝ }
     ensures is { λ net r. ⌜ Starts.StartsAre
         (Rule.passes (suc room) room (Record.readable net) t (Engine.marking places (now (counts .entry))) (Turning.timersOf (now (ats .entry)) (now (owners .entry)) ring))
         (Engine.marking places (now (counts .exit))) (Turning.timersOf (now (ats .exit)) (now (owners .exit)) (r .timers)) r ⌝ }
     ensures ready { λ net r. ⌜ Stepping.Ready net (now (limit .entry)) (now (counts .exit)) (now (ats .exit)) (now (owners .exit)) (r .timers) × Stepping.Roomy room (r .timers) ⌝ }
+    ensures quiet { λ net r. ⌜ (r .full ≡ false → Guards.Quiet (Record.readable net) (Engine.marking places (now (counts .entry))) (Engine.marking places (now (counts .exit)))
+        (r .moved) (r .crossed)) ⌝ }
 {
-    if !timed {
+    let mut asked = before & timed;
+    if asked == 0 {
         return Started {
             timers: ring,
             any: false,
             full: false,
+            moved: 0,
+            crossed: 0,
         };
     }
     let mut k = ring;
     let mut any = false;
+    let mut moved: u64 = 0;
+    let mut crossed: u64 = 0;
     let mut i: usize = 0;
     while i <= room {
         let s = pass(
@@ -211,24 +268,32 @@ pub fn start_all<'a>(
             place,
             weight,
             limit,
+            guards,
+            timed,
             counts,
             ats,
             owners,
             room,
             k,
             t,
+            asked,
         );
         if s.full {
             return s;
         }
         k = s.timers;
+        moved = moved | s.moved;
+        crossed = crossed | s.crossed;
         if !s.any {
             return Started {
                 timers: k,
                 any: any,
                 full: false,
+                moved: moved,
+                crossed: crossed,
             };
         }
+        asked = asked | (s.crossed & timed);
         any = true;
         i += 1;
     }
@@ -236,5 +301,7 @@ pub fn start_all<'a>(
         timers: k,
         any: any,
         full: false,
+        moved: moved,
+        crossed: crossed,
     }
 }

@@ -6,18 +6,27 @@ ghost use Rattle.net.specs.Readable as Record;
 ghost use Rattle.net.specs.Record.{lent};
 ghost use Rattle.net.specs.declared.Net.{Net as NetRecord};
 ghost use Rattle.rules.specs.Step as Rule;
-ghost use Rattle.engine.specs.Traits as Has;
+ghost use Rattle.engine.specs.Engine as Engine;
+ghost use Rattle.ssa.specs.Keeping as Keeps;
 ghost use Rattle.ssa.specs.Cells as Cells;
 ghost use Rattle.ssa.specs.Stepping as Stepping;
 use crate::firing;
 use crate::shown;
 use crate::starts;
-use engine::marking;
-use engine::rounding;
-use engine::traits::Traits;
 use jump::Next;
+use kept::refresh;
 use rng::Xoshiro256;
 use timers::Ring;
+
+// What is carried from step to step about propensities (kept, specs/Kept): the transitions whose ways may have changed since, those that may have been opened or
+// shut, those that are enabled, the rounded ones, and the total.
+pub struct Keeping {
+    pub moved: u64,
+    pub crossed: u64,
+    pub able: u64,
+    pub marks: u64,
+    pub a0: f64,
+}
 
 // What a step begins with and leaves, beside the counts and the slots of the timers: the timers' ring, how many instants have been shown, the tokens (all
 // place counts plus the weights taken by the running timers), and the peak so far.
@@ -28,6 +37,7 @@ pub struct Now {
     pub tokens: u64,
     pub peak: u64,
     pub rng: Xoshiro256,
+    pub kept: Keeping,
 }
 
 // Whether the run goes on, and how it ends where it does not.
@@ -52,13 +62,13 @@ pub enum Due {
     Full,
 }
 
-// A step up to the clock reading that it sets, whether the event is a completion, and the total of the propensities with whether it adds a rounded one.
+// A step up to the clock reading that it sets, whether the event is a completion, and what is kept with whether its total adds a rounded propensity.
 pub struct Advanced {
     pub due: Due,
     pub completes: bool,
     pub clock: f64,
     pub timers: Ring,
-    pub a0: f64,
+    pub kept: Keeping,
     pub rounded: bool,
     pub rng: Xoshiro256,
 }
@@ -76,29 +86,36 @@ fn advance<'a>(
     place: &'a [usize; 1024],
     weight: &'a [u64; 1024],
     limit: &'a [u64; 1024],
-    sure: &'a [u64; 32],
-    traits: Traits,
+    rates: &'a [f64; 64],
+    ends: &'a [usize; 64],
+    guards: &'a [u64; 160],
+    timed: u64,
+    heavy: u64,
     counts: &mut [u64; 32],
     ats: &mut [f64; 256],
     owners: &mut [u64; 512],
     props: &mut [f64; 64],
+    sums: &mut [f64; 64],
     room: usize,
     ring: Ring,
     t: f64,
     rng: Xoshiro256,
+    kept: Keeping,
 ) -> Advanced
     ghost { NetRecord }
     requires { λ net. ⌜ lent places transitions (now initial) (now capacity) (now rate) (now delay) (now arcs) (now kind) (now place) (now weight) ≡ net ⌝ }
-    requires { λ net. ⌜ Stepping.Ready net (now limit) (now counts) (now ats) (now owners) ring × Stepping.Roomy room ring × Has.Of net (now sure) traits
-        × (length (now props) ≡ 64) ⌝ }
+    requires { λ net. ⌜ Stepping.Ready net (now limit) (now counts) (now ats) (now owners) ring × Stepping.Roomy room ring × Keeps.Tables net (now rates) (now ends) (now guards) timed heavy
+        × Keeps.Carried net (Engine.marking places (now counts)) kept (now props) (now sums) ⌝ }
     ensures is { λ net r. let before = Stepping.stateOf net (now (counts .entry)) (now (ats .entry)) (now (owners .entry)) ring t (rng .s) in
         ⌜ Stepping.AdvancedBy net (Rule.step room (Record.readable net) before) before
         (Stepping.stateOf net (now (counts .exit)) (now (ats .exit)) (now (owners .exit)) (r .timers) (r .clock) (r .rng .s))
-        (now (props .exit)) (r .a0) (r .rounded) (r .completes) (r .due) ⌝ }
+        (now (props .exit)) (r .kept .a0) (r .rounded) (r .completes) (r .due) ⌝ }
     ensures ready { λ net r. ⌜ Stepping.Ready net (now (limit .entry)) (now (counts .exit)) (now (ats .exit)) (now (owners .exit)) (r .timers)
-        × Stepping.Roomy room (r .timers) × (length (now (props .exit)) ≡ 64) ⌝ }
+        × Stepping.Roomy room (r .timers)
+        × (r .due ≡ Due.Event → Keeps.Carried net (Engine.marking places (now (counts .exit))) (r .kept) (now (props .exit)) (now (sums .exit))
+        × (r .kept .moved ≡ 0) × (r .kept .crossed ≡ 0)) ⌝ }
 {
-    let timed = traits.timed;
+    let before = kept.crossed;
     let s = starts::start_all(
         places,
         transitions,
@@ -111,6 +128,7 @@ fn advance<'a>(
         place,
         weight,
         limit,
+        guards,
         timed,
         counts,
         ats,
@@ -118,6 +136,7 @@ fn advance<'a>(
         room,
         ring,
         t,
+        before,
     );
     let left = s.timers;
     if s.full {
@@ -126,12 +145,14 @@ fn advance<'a>(
             completes: false,
             clock: t,
             timers: left,
-            a0: 0.0,
+            kept: kept,
             rounded: false,
             rng: rng,
         };
     }
-    let a0 = marking::propensities(
+    let moved = kept.moved | s.moved;
+    let crossed = before | s.crossed;
+    let fresh = refresh::refresh(
         places,
         transitions,
         initial,
@@ -143,25 +164,28 @@ fn advance<'a>(
         place,
         weight,
         limit,
+        rates,
+        ends,
+        timed,
+        heavy,
         counts,
+        moved,
+        crossed,
+        kept.able,
+        kept.marks,
+        kept.a0,
         props,
+        sums,
     );
-    let rounded = rounding::adds_rounded(
-        places,
-        transitions,
-        initial,
-        capacity,
-        rate,
-        delay,
-        arcs,
-        kind,
-        place,
-        weight,
-        sure,
-        traits,
-        counts,
-        props,
-    );
+    let a0 = fresh.a0;
+    let rounded = fresh.marks != 0;
+    let now = Keeping {
+        moved: 0,
+        crossed: 0,
+        able: fresh.able,
+        marks: fresh.marks,
+        a0: a0,
+    };
     let w = jump::waiting(a0, rng);
     let dt = w.dt;
     let g = w.rng;
@@ -173,7 +197,7 @@ fn advance<'a>(
             completes: false,
             clock: t,
             timers: left,
-            a0: a0,
+            kept: now,
             rounded: rounded,
             rng: g,
         },
@@ -182,7 +206,7 @@ fn advance<'a>(
             completes: false,
             clock: t + wait,
             timers: left,
-            a0: a0,
+            kept: now,
             rounded: rounded,
             rng: g,
         },
@@ -191,7 +215,7 @@ fn advance<'a>(
             completes: true,
             clock: at,
             timers: left,
-            a0: a0,
+            kept: now,
             rounded: rounded,
             rng: g,
         },
@@ -221,12 +245,16 @@ pub fn one_step<'a>(
     place: &'a [usize; 1024],
     weight: &'a [u64; 1024],
     limit: &'a [u64; 1024],
-    sure: &'a [u64; 32],
-    traits: Traits,
+    rates: &'a [f64; 64],
+    ends: &'a [usize; 64],
+    guards: &'a [u64; 160],
+    timed: u64,
+    heavy: u64,
     counts: &mut [u64; 32],
     ats: &mut [f64; 256],
     owners: &mut [u64; 512],
     props: &mut [f64; 64],
+    sums: &mut [f64; 64],
     room: usize,
     instants: &[f64],
     last: f64,
@@ -235,8 +263,9 @@ pub fn one_step<'a>(
 ) -> Stepped
     ghost { NetRecord }
     requires { λ net. ⌜ lent places transitions (now initial) (now capacity) (now rate) (now delay) (now arcs) (now kind) (now place) (now weight) ≡ net ⌝ }
-    requires { λ net. ⌜ Stepping.Ready net (now limit) (now counts) (now ats) (now owners) (s .timers) × Stepping.Roomy room (s .timers) × Has.Of net (now sure) traits
-        × (length (now props) ≡ 64) × (s .next ≤ length (now instants)) × (length (now instants) ≤ 1024)
+    requires { λ net. ⌜ Stepping.Ready net (now limit) (now counts) (now ats) (now owners) (s .timers) × Stepping.Roomy room (s .timers)
+        × Keeps.Tables net (now rates) (now ends) (now guards) timed heavy × Keeps.Carried net (Engine.marking places (now counts)) (s .kept) (now props) (now sums)
+        × (s .next ≤ length (now instants)) × (length (now instants) ≤ 1024)
         × (places * length (now instants) ≤ length (now table))
         × (s .tokens ≡ Stepping.tokensOf (Stepping.stateOf net (now counts) (now ats) (now owners) (s .timers) (s .clock) (s .rng .s))) ⌝ }
     ensures is { λ net r. let before = Stepping.stateOf net (now (counts .entry)) (now (ats .entry)) (now (owners .entry)) (s .timers) (s .clock) (s .rng .s) in
@@ -247,12 +276,15 @@ pub fn one_step<'a>(
         (Stepping.stateOf net (now (counts .exit)) (now (ats .exit)) (now (owners .exit)) (r .now .timers) (r .now .clock) (r .now .rng .s))
         (r .rounded) (r .ending) ⌝ }
     ensures ready { λ net r. ⌜ Stepping.Ready net (now (limit .entry)) (now (counts .exit)) (now (ats .exit)) (now (owners .exit)) (r .now .timers)
-        × Stepping.Roomy room (r .now .timers) × (length (now (props .exit)) ≡ 64) × (length (now (table .exit)) ≡ length (now (table .entry)))
+        × Stepping.Roomy room (r .now .timers)
+        × (r .ending ≡ Ending.GoesOn → Keeps.Carried net (Engine.marking places (now (counts .exit))) (r .now .kept) (now (props .exit)) (now (sums .exit)))
+        × (length (now (table .exit)) ≡ length (now (table .entry)))
         × Cells.Stay places (length (now (instants .entry))) (now (table .entry)) (now (table .exit)) ⌝ }
 {
     let t = s.clock;
     let rng = s.rng;
     let ring = s.timers;
+    let kept = s.kept;
     let d = advance(
         places,
         transitions,
@@ -265,22 +297,28 @@ pub fn one_step<'a>(
         place,
         weight,
         limit,
-        sure,
-        traits,
+        rates,
+        ends,
+        guards,
+        timed,
+        heavy,
         counts,
         ats,
         owners,
         props,
+        sums,
         room,
         ring,
         t,
         rng,
+        kept,
     );
     let left = d.timers;
     let rounded = d.rounded;
     let clock = d.clock;
     let g = d.rng;
     let due = d.due;
+    let fresh = d.kept;
     match due {
         Due::Full => {
             let now = Now {
@@ -290,6 +328,7 @@ pub fn one_step<'a>(
                 tokens: s.tokens,
                 peak: s.peak,
                 rng: g,
+                kept: fresh,
             };
             Stepped {
                 now: now,
@@ -305,6 +344,7 @@ pub fn one_step<'a>(
                 tokens: s.tokens,
                 peak: s.peak,
                 rng: g,
+                kept: fresh,
             };
             Stepped {
                 now: now,
@@ -322,6 +362,7 @@ pub fn one_step<'a>(
                     tokens: s.tokens,
                     peak: s.peak,
                     rng: g,
+                    kept: fresh,
                 };
                 return Stepped {
                     now: now,
@@ -341,19 +382,28 @@ pub fn one_step<'a>(
                 place,
                 weight,
                 limit,
+                guards,
                 counts,
                 ats,
                 owners,
                 props,
+                sums,
                 left,
                 clock,
-                d.a0,
+                fresh.a0,
                 g,
                 s.tokens,
                 d.completes,
             );
             let h = e.rng;
             let after = e.timers;
+            let later = Keeping {
+                moved: e.moved,
+                crossed: e.crossed,
+                able: fresh.able,
+                marks: fresh.marks,
+                a0: fresh.a0,
+            };
             let now = Now {
                 clock: clock,
                 timers: after,
@@ -361,6 +411,7 @@ pub fn one_step<'a>(
                 tokens: e.tokens,
                 peak: higher(s.peak, e.tokens),
                 rng: h,
+                kept: later,
             };
             if e.fits {
                 return Stepped {

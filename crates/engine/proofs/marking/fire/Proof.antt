@@ -1,5 +1,6 @@
--- What is left to take and to put comes to the whole (proofs/Firing). Assumes nothing.
-use Prim.Native.Nat.{_-_, _*_, _<_}
+-- What is left to take and to put comes to the whole (proofs/Firing), and the words hold what it may have changed (proofs/Touching). Assumes nothing.
+use Prim.Native.Nat.{_+_, _-_, _*_, _<_}
+use mathlib.Core.Path.{_≡_, sym, _∙_}
 use mathlib.Core.Bool.{false≢true}
 use mathlib.Core.Logic.{⊎-elim}
 use native.Mathlib.Omega.{arith}
@@ -8,18 +9,21 @@ use borrow.Author.Needs.{needs}
 use borrow.Author.Tests.{eq-eqb, ne-eqb}
 use Rattle.net.specs.Readable.{slots}
 use Rattle.engine.specs.Engine.{marking}
+use Rattle.engine.specs.Guards.{Told}
 use Rattle.engine.proofs.Arcs.{amount-most}
-use Rattle.engine.proofs.Marks.{takes-most}
+use Rattle.engine.proofs.Marks.{takes-most, set-same}
 use Rattle.engine.proofs.Firing.{firingOf, Firing, firing-none, firing-take, firing-put, firing-stop, firing-all}
+use Rattle.engine.proofs.Touching.{told-none, told-same, told-more}
 use Rattle.engine.proofs.marking.fire.Statement.{statement}
 use Rattle.engine.proofs.marking.fire.Tie as tie
 
 abbrev Inv-loop : tie.InvT-loop
-Inv-loop places arcs kind place weight counts₀ j from end less₀ more₀ a₀ counts less more a =
+Inv-loop places arcs kind place weight guards counts₀ j from end less₀ more₀ moved₀ crossed₀ a₀ counts less more moved crossed a =
     Firing places kind place weight end (marking places counts₀) (firingOf (marking places counts₀) (slots kind place weight (16 * j) (getD arcs j 0))) counts less more a
+    × Told places arcs kind place weight guards counts₀ counts moved crossed
 
 abbrev μ-loop : tie.MeasureT-loop
-μ-loop places arcs kind place weight counts₀ j from end less₀ more₀ a₀ counts less more a = end - a
+μ-loop places arcs kind place weight guards counts₀ j from end less₀ more₀ moved₀ crossed₀ a₀ counts less more moved crossed a = end - a
 
 -- the slot is one of the table, and its place one of the counts
 in-table : (c : tie.In-loop Inv-loop μ-loop) → c .before .loop .a < 1024
@@ -47,8 +51,10 @@ add-end c = omega (arith, c .before .pre .2 (c .before .args .j))
 loop-holds : tie.Need-loop-holds Inv-loop μ-loop
 loop-holds c =
     let s = c .before .args in
-    let pre = c .before .pre in
-    firing-none (s .places) (s .kind .now) (s .place .now) (s .weight .now) (s .counts .now) (16 * s .j) (getD (s .arcs .now) (s .j) 0) (pre .5) (pre .6) (pre .2 (s .j))
+    let pre = c .before .pre in (
+      firing-none (s .places) (s .kind .now) (s .place .now) (s .weight .now) (s .counts .now) (16 * s .j) (getD (s .arcs .now) (s .j) 0) (pre .5) (pre .6) (pre .2 (s .j)),
+      told-none (s .places) (s .arcs .now) (s .kind .now) (s .place .now) (s .weight .now) (s .guards .now) (s .counts .now),
+    )
 
 mul-p : tie.Need-mul-p Inv-loop μ-loop
 mul-p c = omega (arith, in-table c)
@@ -81,7 +87,7 @@ add-d : tie.Need-add-d Inv-loop μ-loop
 add-d c =
     let l = c .before .before .before .before .before .before .before in
     let s = l .before .before in
-    let small = l .loop .inv .good .small (getD (s .args .place .now) (l .loop .a) 0) in
+    let small = l .loop .inv .0 .good .small (getD (s .args .place .now) (l .loop .a) 0) in
     omega (arith, c .amount .ensures, amount-most (getD (s .args .weight .now) (l .loop .a) 0) (s .pre .4 (l .loop .a)))
 
 returns : tie.Need-returns Inv-loop μ-loop
@@ -90,11 +96,12 @@ returns c =
     let l = i .before in
     let pre = l .before .before .pre in
     let x = c .before .amount in (
-      firing-stop _ _ _ _ _ _ _ _ _ _ _ (l .loop .inv) (i .loop-test .taken) (pre .1) (pre .3 (l .loop .a)) (pre .4 (l .loop .a))
+      firing-stop _ _ _ _ _ _ _ _ _ _ _ (l .loop .inv .0) (i .loop-test .taken) (pre .1) (pre .3 (l .loop .a)) (pre .4 (l .loop .a))
           (eq-eqb _ 2 (c .before .before .before .if1 .taken)) (x .result) (x .ensures) (c .if2 .taken) _,
-      l .loop .inv .good,
+      l .loop .inv .0 .good,
       λ t. absurd (false≢true t),
       omega arith,
+      λ t. absurd (false≢true t),
     )
 
 mul-counts : tie.Need-mul-counts Inv-loop μ-loop
@@ -106,31 +113,49 @@ element-write-counts c = omega (arith, at-place (c .before .before .before .befo
 add-more : tie.Need-add-more Inv-loop μ-loop
 add-more c =
     let l = c .before .before .before .before .before .before .before .before in
-    omega (arith, c .if2 .left, l .loop .inv .few)
+    omega (arith, c .if2 .left, l .loop .inv .0 .few)
 
-mul-taken : tie.Need-mul-taken Inv-loop μ-loop
-mul-taken c = omega (arith, in-table (c .before .before .before .before))
+mul-moved : tie.Need-mul-moved Inv-loop μ-loop
+mul-moved c = omega (arith, at-place (c .before .before .before .before .before .before .before))
 
-element-copy-out-taken : tie.Need-element-copy-out-taken Inv-loop μ-loop
-element-copy-out-taken c = omega (arith, in-table (c .before .before .before .before))
+element-copy-out-moved : tie.Need-element-copy-out-moved Inv-loop μ-loop
+element-copy-out-moved c = omega (arith, at-place (c .before .before .before .before .before .before .before))
 
-taken-requires : tie.Need-taken-requires Inv-loop μ-loop
-taken-requires c κs = search needs
+crossed-requires : tie.Need-crossed-requires Inv-loop μ-loop
+crossed-requires c κs = at-place (c .before .before .before .before .before .before .before .before)
 
-sub-counts : tie.Need-sub-counts Inv-loop μ-loop
-sub-counts c = omega (arith, c .taken .ensures)
+mul-taken-from : tie.Need-mul-taken-from Inv-loop μ-loop
+mul-taken-from c = omega (arith, in-table (c .before .before .before .before))
+
+element-copy-out-taken-from : tie.Need-element-copy-out-taken-from Inv-loop μ-loop
+element-copy-out-taken-from c = omega (arith, in-table (c .before .before .before .before))
+
+taken-from-requires : tie.Need-taken-from-requires Inv-loop μ-loop
+taken-from-requires c κs = search needs
+
+sub-low : tie.Need-sub-low Inv-loop μ-loop
+sub-low c = omega (arith, c .before .taken-from .ensures)
 
 mul-counts-2 : tie.Need-mul-counts-2 Inv-loop μ-loop
-mul-counts-2 c = omega (arith, at-place (c .before .before .before .before .before .before))
+mul-counts-2 c = omega (arith, at-place (c .before .before .before .before .before .before .before))
 
 element-write-counts-2 : tie.Need-element-write-counts-2 Inv-loop μ-loop
-element-write-counts-2 c = omega (arith, at-place (c .before .before .before .before .before .before))
+element-write-counts-2 c = omega (arith, at-place (c .before .before .before .before .before .before .before))
 
 add-less : tie.Need-add-less Inv-loop μ-loop
 add-less c =
-    let l = c .before .before .before .before .before .before .before in
+    let l = c .before .before .before .before .before .before .before .before in
     let s = l .before .before in
-    omega (arith, c .taken .ensures, takes-most (getD (s .args .kind .now) (l .loop .a) 0) (getD (s .args .weight .now) (l .loop .a) 0) (s .pre .4 (l .loop .a)), l .loop .inv .few)
+    omega (arith, c .before .taken-from .ensures, takes-most (getD (s .args .kind .now) (l .loop .a) 0) (getD (s .args .weight .now) (l .loop .a) 0) (s .pre .4 (l .loop .a)), l .loop .inv .0 .few)
+
+mul-moved-2 : tie.Need-mul-moved-2 Inv-loop μ-loop
+mul-moved-2 c = omega (arith, at-place (c .before .before .before .before .before .before .before))
+
+element-copy-out-moved-2 : tie.Need-element-copy-out-moved-2 Inv-loop μ-loop
+element-copy-out-moved-2 c = omega (arith, at-place (c .before .before .before .before .before .before .before))
+
+crossed-requires-2 : tie.Need-crossed-requires-2 Inv-loop μ-loop
+crossed-requires-2 c κs = at-place (c .before .before .before .before .before .before .before .before)
 
 add-a : tie.Need-add-a Inv-loop μ-loop
 add-a c = omega (arith, in-table (c .before .before .before .before))
@@ -142,20 +167,38 @@ loop-again : tie.Need-loop-again Inv-loop μ-loop
 loop-again c =
     let i = c .before .before .before .before in
     let l = i .before in
-    let pre = l .before .before .pre in
+    let s = l .before .before in
+    let p = getD (s .args .place .now) (l .loop .a) 0 in
+    let count = getD (l .loop .counts) p 0 in
+    let small = l .loop .inv .0 .good .small p in
     ⊎-elim
+    (λ w. (
+      firing-put _ _ _ _ _ _ _ _ _ _ _ (l .loop .inv .0) (i .loop-test .taken) (s .pre .1) (s .pre .3 (l .loop .a)) (s .pre .4 (l .loop .a))
+          (eq-eqb _ 2 (w .0 .taken)) (w .2 .result) (w .2 .ensures) (w .3 .left) _ _ _ (w .6) (w .7) (w .8),
+      told-more _ _ _ _ _ _ _ _ _ _ (l .loop .inv .1) (l .loop .inv .0 .good) p (count + w .2 .result) count (count + w .2 .result) (w .5 .result) (s .pre .3 (l .loop .a))
+          (omega arith) (omega arith) (omega arith) (omega arith) (w .3 .left) (w .5 .ensures) _ _ _ (w .6) (w .9) (w .10),
+    ))
+    (⊎-elim
+    (λ w. (
+      firing-take _ _ _ _ _ _ _ _ _ _ _ (l .loop .inv .0) (i .loop-test .taken) (s .pre .1) (s .pre .3 (l .loop .a)) (s .pre .4 (l .loop .a))
+          (ne-eqb _ 2 (w .0 .left)) (w .2 .result) (w .2 .ensures) _ _ _ (w .6) (w .7) (w .8),
+      told-more _ _ _ _ _ _ _ _ _ _ (l .loop .inv .1) (l .loop .inv .0 .good) p (count - w .2 .result) (count - w .2 .result) count (w .5 .result) (s .pre .3 (l .loop .a))
+          (omega arith) (omega arith) (omega arith) (omega arith) small (w .5 .ensures) _ _ _ (w .6) (w .9) (w .10),
+    ))
     (λ w.
-    firing-put _ _ _ _ _ _ _ _ _ _ _ (l .loop .inv) (i .loop-test .taken) (pre .1) (pre .3 (l .loop .a)) (pre .4 (l .loop .a))
-    (eq-eqb _ 2 (w .0 .taken)) (w .2 .result) (w .2 .ensures) (w .3 .left) _ _ _ (w .4) (w .5) (w .6))
-    (λ w.
-    firing-take _ _ _ _ _ _ _ _ _ _ _ (l .loop .inv) (i .loop-test .taken) (pre .1) (pre .3 (l .loop .a)) (pre .4 (l .loop .a))
-    (ne-eqb _ 2 (w .0 .left)) (w .2 .result) (w .2 .ensures) _ _ _ (w .3) (w .4) (w .5))
+    let none : count - w .2 .result ≡ count = omega (arith, w .3 .left) in (
+      firing-take _ _ _ _ _ _ _ _ _ _ _ (l .loop .inv .0) (i .loop-test .taken) (s .pre .1) (s .pre .3 (l .loop .a)) (s .pre .4 (l .loop .a))
+          (ne-eqb _ 2 (w .0 .left)) (w .2 .result) (w .2 .ensures) _ _ _ (w .4 ∙ sym (set-same (l .loop .counts) p (count - w .2 .result) none))
+          (omega (arith, w .3 .left, w .5)) (w .6),
+      told-same _ _ _ _ _ _ _ _ _ _ (l .loop .inv .1) _ _ _ (w .4) (w .7) (w .8),
+    )))
     (c .if1 .came)
 
 returns-2 : tie.Need-returns-2 Inv-loop μ-loop
 returns-2 c =
     let l = c .before in
-    (firing-all _ _ _ _ _ _ _ _ _ _ _ (l .loop .inv) (c .loop-test .left), l .loop .inv .good, λ t. l .loop .inv .sums, omega (arith, l .loop .inv .few))
+    let f = l .loop .inv .0 in
+    (firing-all _ _ _ _ _ _ _ _ _ _ _ f (c .loop-test .left), f .good, λ t. f .sums, omega (arith, f .few), λ t. l .loop .inv .1)
 
 pub fire-spec : {M : Type 1} → statement M
 fire-spec =
@@ -182,13 +225,19 @@ fire-spec =
     mul-counts
     element-write-counts
     add-more
-    mul-taken
-    element-copy-out-taken
-    taken-requires
-    sub-counts
+    mul-moved
+    element-copy-out-moved
+    crossed-requires
+    mul-taken-from
+    element-copy-out-taken-from
+    taken-from-requires
+    sub-low
     mul-counts-2
     element-write-counts-2
     add-less
+    mul-moved-2
+    element-copy-out-moved-2
+    crossed-requires-2
     add-a
     loop-less
     loop-again

@@ -21,7 +21,7 @@ fault-move-requires c κs = search needs
 
 returns : tie.Need-returns
 returns c =
-    let f = c .before .before in
+    let f = c .before .before .before in
     let a = f .before .before .before .before .args in
     let n = lent (a .places) (a .transitions) (a .initial .now) (a .capacity .now) (a .rate .now) (a .delay .now) (a .arcs .now) (a .kind .now) (a .place .now) (a .weight .now) in
     c .fault-move .ensures

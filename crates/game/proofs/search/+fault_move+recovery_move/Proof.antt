@@ -28,10 +28,10 @@ use Rattle.game.proofs.search.+fault_move+recovery_move.Tie.{close}
 -- ---- the measures: the turns left, the last parameter of each
 
 abbrev μ-fault-move : Measures 2 fault-move-kinds.ps ℕ
-μ-fault-move κs a = a .1 .1 .1 .1 .1 .1 .1 .1 .1 .1 .1 .1 .1 .1 .1 .0
+μ-fault-move κs a = a .1 .1 .1 .1 .1 .1 .1 .1 .1 .1 .1 .1 .1 .1 .1 .1 .0
 
 abbrev μ-recovery-move : Measures 2 recovery-move-kinds.ps ℕ
-μ-recovery-move κs a = a .1 .1 .1 .1 .1 .1 .1 .1 .1 .1 .1 .1 .1 .1 .1 .0
+μ-recovery-move κs a = a .1 .1 .1 .1 .1 .1 .1 .1 .1 .1 .1 .1 .1 .1 .1 .1 .0
 
 -- what each is given at the measure t, and what a call of it asks below t
 abbrev fault-move-at : ℕ → In 2 fault-move-kinds.ps
@@ -56,12 +56,12 @@ recovery-calls t = (fired-reads.Asked, fired-reads.Learnt, fault-move-below t, f
 -- ---- the fault side
 
 abbrev fault-Inv : fault-lts.InvT-loop
-fault-Inv places transitions initial capacity rate delay arcs kind place weight limit sides wanted count left counts less examined₀ moved₀ j₀ examined moved j =
+fault-Inv places transitions initial capacity rate delay arcs kind place weight limit guards sides wanted count left counts less examined₀ moved₀ j₀ examined moved j =
     Turns.FaultTurn (gameOf (readable (lent places transitions initial capacity rate delay arcs kind place weight)) sides wanted count) left (marking places counts)
     sides transitions examined moved j
 
 abbrev fault-μ : fault-lts.MeasureT-loop
-fault-μ places transitions initial capacity rate delay arcs kind place weight limit sides wanted count left counts less examined₀ moved₀ j₀ examined moved j = transitions - j
+fault-μ places transitions initial capacity rate delay arcs kind place weight limit guards sides wanted count left counts less examined₀ moved₀ j₀ examined moved j = transitions - j
 
 fault-mul-if1 : (t : ℕ) → fault-lts.Need-mul-if1 (fault-calls t) (fault-move-at t) fault-move.Post fault-Inv fault-μ
 fault-mul-if1 t c = omega (arith, c .before .pre .1 .1 .place, c .before .pre .1 .1 .tidy .places)
@@ -72,12 +72,12 @@ fault-array-read-if1 t c = omega (arith, c .before .pre .1 .1 .place, c .before 
 fault-returns : (t : ℕ) → fault-lts.Need-returns (fault-calls t) (fault-move-at t) fault-move.Post fault-Inv fault-μ
 fault-returns t c =
     let s = c .before .before in
-    Turns.fault-met (s .pre .1 .1) (s .args .count) (s .args .left) (s .args .t15) (c .if1 .taken)
+    Turns.fault-met (s .pre .1 .1) (s .args .count) (s .args .left) (s .args .t16) (c .if1 .taken)
 
 fault-returns-2 : (t : ℕ) → fault-lts.Need-returns-2 (fault-calls t) (fault-move-at t) fault-move.Post fault-Inv fault-μ
 fault-returns-2 t c =
     let s = c .before .before .before in
-    Turns.fault-used (s .pre .1 .1) (s .args .count) (s .args .left) (s .args .t15) (c .before .if1 .left) (c .if2 .taken)
+    Turns.fault-used (s .pre .1 .1) (s .args .count) (s .args .left) (s .args .t16) (c .before .if1 .left) (c .if2 .taken)
 
 fault-sub-less : (t : ℕ) → fault-lts.Need-sub-less (fault-calls t) (fault-move-at t) fault-move.Post fault-Inv fault-μ
 fault-sub-less t c = omega arith
@@ -85,7 +85,7 @@ fault-sub-less t c = omega arith
 fault-loop-holds : (t : ℕ) → fault-lts.Need-loop-holds (fault-calls t) (fault-move-at t) fault-move.Post fault-Inv fault-μ
 fault-loop-holds t c =
     let s = c .before .before .before in
-    Turns.fault-begins (s .pre .1 .1) (s .args .count) (s .args .left) (s .args .t15) (c .before .if1 .left) (c .if2 .left)
+    Turns.fault-begins (s .pre .1 .1) (s .args .count) (s .args .left) (s .args .t16) (c .before .if1 .left) (c .if2 .left)
 
 fault-add-k : (t : ℕ) → fault-lts.Need-add-k (fault-calls t) (fault-move-at t) fault-move.Post fault-Inv fault-μ
 fault-add-k t c = omega (arith, c .before .before .before .before .before .pre .1 .1 .tidy .transitions)
@@ -120,7 +120,7 @@ fault-add-e t c =
     let s = l .before .before .before .before in
     omega (
       arith,
-      Turns.fault-fits (s .pre .1 .1) (s .args .count) (s .args .left) (marking (s .args .places) (s .args .t15)) (s .pre .1 .0) _
+      Turns.fault-fits (s .pre .1 .1) (s .args .count) (s .args .left) (marking (s .args .places) (s .args .t16)) (s .pre .1 .0) _
           (Turns.fault-room (l .loop .inv) (i .loop-test .taken) (o .if3 .taken) (f .fired .ensures .0) (y .if4 .taken) (recoveryOf (r .recovery-move .result))
           (r .recovery-move .ensures)),
     )
@@ -185,7 +185,7 @@ fault-add-e-2 t c =
     let s = l .before .before .before .before in
     omega (
       arith,
-      Turns.fault-fits (s .pre .1 .1) (s .args .count) (s .args .left) (marking (s .args .places) (s .args .t15)) (s .pre .1 .0) _
+      Turns.fault-fits (s .pre .1 .1) (s .args .count) (s .args .left) (marking (s .args .places) (s .args .t16)) (s .pre .1 .0) _
           (Turns.fault-pass-room (l .loop .inv) (n .before .loop-test .left) (n .if6 .left) (recoveryOf (r .recovery-move2 .result)) (r .recovery-move2 .ensures)),
     )
 
@@ -206,12 +206,12 @@ fault-returns-6 t c =
 -- ---- the recovery side
 
 abbrev recovery-Inv : recovery-lts.InvT-loop
-recovery-Inv places transitions initial capacity rate delay arcs kind place weight limit sides wanted count left counts less examined₀ moved₀ j₀ examined moved j =
+recovery-Inv places transitions initial capacity rate delay arcs kind place weight limit guards sides wanted count left counts less examined₀ moved₀ j₀ examined moved j =
     Turns.RecoveryTurn (gameOf (readable (lent places transitions initial capacity rate delay arcs kind place weight)) sides wanted count) left (marking places counts)
     sides transitions examined moved j
 
 abbrev recovery-μ : recovery-lts.MeasureT-loop
-recovery-μ places transitions initial capacity rate delay arcs kind place weight limit sides wanted count left counts less examined₀ moved₀ j₀ examined moved j = transitions - j
+recovery-μ places transitions initial capacity rate delay arcs kind place weight limit guards sides wanted count left counts less examined₀ moved₀ j₀ examined moved j = transitions - j
 
 recovery-mul-if1 : (t : ℕ) → recovery-lts.Need-mul-if1 (recovery-calls t) (recovery-move-at t) recovery-move.Post recovery-Inv recovery-μ
 recovery-mul-if1 t c = omega (arith, c .before .pre .1 .1 .place, c .before .pre .1 .1 .tidy .places)
@@ -222,12 +222,12 @@ recovery-array-read-if1 t c = omega (arith, c .before .pre .1 .1 .place, c .befo
 recovery-returns : (t : ℕ) → recovery-lts.Need-returns (recovery-calls t) (recovery-move-at t) recovery-move.Post recovery-Inv recovery-μ
 recovery-returns t c =
     let s = c .before .before in
-    Turns.recovery-met (s .pre .1 .1) (s .args .count) (s .args .left) (s .args .t15) (c .if1 .taken)
+    Turns.recovery-met (s .pre .1 .1) (s .args .count) (s .args .left) (s .args .t16) (c .if1 .taken)
 
 recovery-returns-2 : (t : ℕ) → recovery-lts.Need-returns-2 (recovery-calls t) (recovery-move-at t) recovery-move.Post recovery-Inv recovery-μ
 recovery-returns-2 t c =
     let s = c .before .before .before in
-    Turns.recovery-used (s .pre .1 .1) (s .args .count) (s .args .left) (s .args .t15) (c .before .if1 .left) (c .if2 .taken)
+    Turns.recovery-used (s .pre .1 .1) (s .args .count) (s .args .left) (s .args .t16) (c .before .if1 .left) (c .if2 .taken)
 
 recovery-sub-less : (t : ℕ) → recovery-lts.Need-sub-less (recovery-calls t) (recovery-move-at t) recovery-move.Post recovery-Inv recovery-μ
 recovery-sub-less t c = omega arith
@@ -235,7 +235,7 @@ recovery-sub-less t c = omega arith
 recovery-loop-holds : (t : ℕ) → recovery-lts.Need-loop-holds (recovery-calls t) (recovery-move-at t) recovery-move.Post recovery-Inv recovery-μ
 recovery-loop-holds t c =
     let s = c .before .before .before in
-    Turns.recovery-begins (s .pre .1 .1) (s .args .count) (s .args .left) (s .args .t15) (c .before .if1 .left) (c .if2 .left)
+    Turns.recovery-begins (s .pre .1 .1) (s .args .count) (s .args .left) (s .args .t16) (c .before .if1 .left) (c .if2 .left)
 
 recovery-add-k : (t : ℕ) → recovery-lts.Need-add-k (recovery-calls t) (recovery-move-at t) recovery-move.Post recovery-Inv recovery-μ
 recovery-add-k t c = omega (arith, c .before .before .before .before .before .pre .1 .1 .tidy .transitions)
@@ -270,7 +270,7 @@ recovery-add-e t c =
     let s = l .before .before .before .before in
     omega (
       arith,
-      Turns.recovery-fits (s .pre .1 .1) (s .args .count) (s .args .left) (marking (s .args .places) (s .args .t15)) (s .pre .1 .0) _
+      Turns.recovery-fits (s .pre .1 .1) (s .args .count) (s .args .left) (marking (s .args .places) (s .args .t16)) (s .pre .1 .0) _
           (Turns.recovery-room (l .loop .inv) (i .loop-test .taken) (o .if3 .taken) (f .fired .ensures .0) (y .if4 .taken) (faultOf (r .fault-move .result)) (r .fault-move .ensures)),
     )
 
@@ -334,15 +334,15 @@ recovery-fault-move-requires-2 t c κs =
 recovery-wins-requires-2 : (t : ℕ) → recovery-lts.Need-wins-requires-2 (recovery-calls t) (recovery-move-at t) recovery-move.Post recovery-Inv recovery-μ
 recovery-wins-requires-2 t c κs = search needs
 
-recovery-add-t33 : (t : ℕ) → recovery-lts.Need-add-t33 (recovery-calls t) (recovery-move-at t) recovery-move.Post recovery-Inv recovery-μ
-recovery-add-t33 t c =
+recovery-add-t34 : (t : ℕ) → recovery-lts.Need-add-t34 (recovery-calls t) (recovery-move-at t) recovery-move.Post recovery-Inv recovery-μ
+recovery-add-t34 t c =
     let r = c .before .before in
     let n = r .before in
     let l = n .before .before in
     let s = l .before .before .before .before in
     omega (
       arith,
-      Turns.recovery-fits (s .pre .1 .1) (s .args .count) (s .args .left) (marking (s .args .places) (s .args .t15)) (s .pre .1 .0) _
+      Turns.recovery-fits (s .pre .1 .1) (s .args .count) (s .args .left) (marking (s .args .places) (s .args .t16)) (s .pre .1 .0) _
           (Turns.recovery-pass-room (l .loop .inv) (n .before .loop-test .left) (n .if6 .left) (faultOf (r .fault-move2 .result)) (r .fault-move2 .ensures)),
     )
 
@@ -407,5 +407,5 @@ pub +fault-move+recovery-move-spec : {M : Type 1} → statement M
     (recovery-returns-4 t)
     (recovery-fault-move-requires-2 t)
     (recovery-wins-requires-2 t)
-    (recovery-add-t33 t)
+    (recovery-add-t34 t)
     (recovery-returns-5 t))

@@ -1,7 +1,8 @@
--- Enabled by the table of limits, then the takes and the puts: the game's firing.
+-- Enabled by the table of limits, then its takes and puts: the game's firing. Assumes nothing.
 use borrow.Author.Needs.{needs}
 use borrow.Author.Tests.{not-true, not-false}
 use mathlib.Core.Path.{sym, _∙_}
+use native.Mathlib.Omega.{arith}
 use Rattle.net.specs.declared.Net.{Net as NetRecord}
 use Rattle.net.specs.Record.{lent}
 use Rattle.engine.specs.Engine.{marking}
@@ -27,23 +28,21 @@ returns c =
       s .pre .3,
     )
 
-take-requires : tie.Need-take-requires
-take-requires c κs = search needs
-
-put-requires : tie.Need-put-requires
-put-requires c κs = search needs
+fire-requires : tie.Need-fire-requires
+fire-requires c κs =
+    let s = c .before .before .before .before in
+    (omega (arith, s .pre .0, s .pre .1 .transitions), s .pre .1 .places, s .pre .1 .arcs, s .pre .1 .place, s .pre .1 .weight, s .pre .3, s .pre .1 .order (s .args .j) (s .pre .0))
 
 returns-2 : tie.Need-returns-2
 returns-2 c =
-    let t = c .before .before in
-    let e = t .before .before .before in
+    let i = c .before .before in
+    let e = i .before in
     let s = e .before .before in
     let a = s .args in (
-      is-fired (net s) (marking (a .places) (a .counts)) (a .j) (s .pre .0)
-          (marking (a .places) (t .take .last .1 .1 .1 .1 .1 .0)) (marking (a .places) (c .put .last .1 .1 .1 .1 .1 .0)) (c .put .result .fits)
-          (sym (e .enabled .ensures) ∙ not-false _ (t .before .before .if1 .left)) (t .take .ensures .0) (c .put .ensures .0),
-      c .put .ensures .1,
+      is-fired (net s) (marking (a .places) (a .counts)) (a .j) (s .pre .0) (marking (a .places) (c .fire .last .1 .1 .1 .1 .1 .1 .0)) (c .fire .result .fits)
+          (sym (e .enabled .ensures) ∙ not-false _ (i .if1 .left)) (c .fire .ensures .0),
+      c .fire .ensures .1,
     )
 
 pub fired-spec : {M : Type 1} → statement M
-fired-spec = tie.close (tie.spec enabled-requires returns take-requires put-requires returns-2)
+fired-spec = tie.close (tie.spec enabled-requires returns fire-requires returns-2)

@@ -64,7 +64,7 @@ returns c =
     let a = c .before .before .before .before .before .before .before .before .before .before .before .before .before .before .before .before .before .before .before .before .before .before .before .before .before .before .before .before .before .before .before .before .before .args in
     let net = readable (lent (a .places) (a .transitions) (a .initial .now) (a .capacity .now) (a .rate .now) (a .delay .now) (a .arcs .now) (a .kind .now) (a .place .now) (a .weight .now)) in
     stopped-call (pathsFrom (drawn net (a .seed) (a .instants .now) (a .steps)) 0 (a .realizations)) (a .places) (length (a .instants .now)) (a .realizations) (a .mean .now) (a .deviation .now) (a .path .now)
-    (m .last .0) (d .last .0) (p .last .1 .1 .1 .1 .1 .1 .1 .1 .1 .1 .1 .1 .1 .1 .1 .1 .1 .0) (p .last .1 .1 .1 .1 .1 .1 .1 .1 .1 .1 .1 .1 .1 .1 .1 .1 .1 .1 .0) (p .last .1 .1 .1 .1 .1 .1 .1 .1 .1 .1 .1 .1 .1 .1 .1 .1 .1 .1 .1 .0) (m .ensures) (d .ensures)
+    (m .last .0) (d .last .0) (p .last .1 .1 .1 .1 .1 .1 .1 .1 .1 .1 .1 .1 .1 .1 .1 .1 .1 .1 .1 .1 .0) (p .last .1 .1 .1 .1 .1 .1 .1 .1 .1 .1 .1 .1 .1 .1 .1 .1 .1 .1 .1 .1 .1 .0) (p .last .1 .1 .1 .1 .1 .1 .1 .1 .1 .1 .1 .1 .1 .1 .1 .1 .1 .1 .1 .1 .1 .1 .0) (m .ensures) (d .ensures)
     _ _ (c .before .before .before .before .before .before .clear3 .last .0) (c .before .before .clear4 .last .0) (p .result) (c .before .before .before .before .before .before .before .before .before .s .given .1) (p .ensures) (c .before .before .before .before .before .before .clear3 .ensures) (c .before .before .clear4 .ensures)
 
 same-length-4 : tie.Need-same-length-4
@@ -86,7 +86,7 @@ returns-2 c =
     let a = s .args in
     let net = readable (lent (a .places) (a .transitions) (a .initial .now) (a .capacity .now) (a .rate .now) (a .delay .now) (a .arcs .now) (a .kind .now) (a .place .now) (a .weight .now)) in
     finished-call (pathsFrom (drawn net (a .seed) (a .instants .now) (a .steps)) 0 (a .realizations)) (a .places) (length (a .instants .now)) (a .realizations) (a .mean .now) (a .deviation .now) (a .path .now)
-    (m .last .0) (d .last .0) (p .last .1 .1 .1 .1 .1 .1 .1 .1 .1 .1 .1 .1 .1 .1 .1 .1 .1 .0) (p .last .1 .1 .1 .1 .1 .1 .1 .1 .1 .1 .1 .1 .1 .1 .1 .1 .1 .1 .0) (p .last .1 .1 .1 .1 .1 .1 .1 .1 .1 .1 .1 .1 .1 .1 .1 .1 .1 .1 .1 .0) (m .ensures) (d .ensures)
+    (m .last .0) (d .last .0) (p .last .1 .1 .1 .1 .1 .1 .1 .1 .1 .1 .1 .1 .1 .1 .1 .1 .1 .1 .1 .1 .0) (p .last .1 .1 .1 .1 .1 .1 .1 .1 .1 .1 .1 .1 .1 .1 .1 .1 .1 .1 .1 .1 .1 .0) (p .last .1 .1 .1 .1 .1 .1 .1 .1 .1 .1 .1 .1 .1 .1 .1 .1 .1 .1 .1 .1 .1 .1 .0) (m .ensures) (d .ensures)
     _ (f .result) (f .last .1 .1 .0) (f .last .1 .1 .1 .0) (p .result) (c .before .before .before .before .before .before .before .before .s2 .given .1) (s .pre .3) (p .ensures) (f .ensures .0) (f .ensures .1) (f .ensures .2)
 
 pub averaged-spec : {M : Type 1} → statement M

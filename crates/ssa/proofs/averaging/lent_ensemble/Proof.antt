@@ -26,15 +26,12 @@ blank = replicate 1024 zero64
 long : (s : tie.Start) → wanted s .samples ≤ length blank
 long s = let f = passing (wanted s) (s .pre .2) in omega (arith, f .few, length-replicate 1024 zero64)
 
-fill-limits-requires : tie.Need-fill-limits-requires
-fill-limits-requires c κs = search needs
-
-traits-of-requires : tie.Need-traits-of-requires
-traits-of-requires c κs = search needs
+fill-tables-requires : tie.Need-fill-tables-requires
+fill-tables-requires c κs = search needs
 
 cast-few : tie.Need-cast-few
 cast-few c =
-    let f = passing (wanted (c .before .before .before .before .before .before .before)) (c .before .before .before .before .before .before .before .pre .2) in
+    let f = passing (wanted (c .before .before .before .before .before .before .before .before)) (c .before .before .before .before .before .before .before .before .pre .2) in
     omega (arith, f .few)
 
 interval-requires : tie.Need-interval-requires
@@ -48,24 +45,24 @@ fill-grid-requires c κs = search needs
 
 array-share-prefix-grid : tie.Need-array-share-prefix-grid
 array-share-prefix-grid c =
-    grid-room (wanted (c .before .before .before .before .before .before .before .before .before .before .before .before .before)) (c .before .before .before .before .before .interval .result) blank (c .before .before .before .fill-grid .last .1 .1 .0) (c .before .before .before .before .before .interval .ensures) (c .before .before .before .fill-grid .ensures) (long (c .before .before .before .before .before .before .before .before .before .before .before .before .before))
+    grid-room (wanted (c .before .before .before .before .before .before .before .before .before .before .before .before .before .before .before .before)) (c .before .before .before .before .before .before .before .interval .result) blank (c .before .before .before .before .before .fill-grid .last .1 .1 .0) (c .before .before .before .before .before .before .before .interval .ensures) (c .before .before .before .before .before .fill-grid .ensures) (long (c .before .before .before .before .before .before .before .before .before .before .before .before .before .before .before .before))
 
 slice-aggregate-averaged : tie.Need-slice-aggregate-averaged
 slice-aggregate-averaged c =
-    sym (grid-many (wanted (c .before .before .before .before .before .before .before .before .before .before .before .before .before .before)) (c .before .before .before .before .before .before .interval .result) blank (c .before .before .before .before .fill-grid .last .1 .1 .0) (c .before .before .before .before .before .before .interval .ensures) (c .before .before .before .before .fill-grid .ensures) (long (c .before .before .before .before .before .before .before .before .before .before .before .before .before .before)))
+    sym (grid-many (wanted (c .before .before .before .before .before .before .before .before .before .before .before .before .before .before .before .before .before)) (c .before .before .before .before .before .before .before .before .interval .result) blank (c .before .before .before .before .before .before .fill-grid .last .1 .1 .0) (c .before .before .before .before .before .before .before .before .interval .ensures) (c .before .before .before .before .before .before .fill-grid .ensures) (long (c .before .before .before .before .before .before .before .before .before .before .before .before .before .before .before .before .before)))
 
 averaged-requires : tie.Need-averaged-requires
 averaged-requires c κs =
-    let s = c .before .before .before .before .before .before .before .before .before .before .before .before .before .before .before .before .before in
-    let i = c .before .before .before .before .before .before .before .before .before .interval in
-    let g = c .before .before .before .before .before .before .before .fill-grid in
+    let s = c .before .before .before .before .before .before .before .before .before .before .before .before .before .before .before .before .before .before .before .before in
+    let i = c .before .before .before .before .before .before .before .before .before .before .before .interval in
+    let g = c .before .before .before .before .before .before .before .before .before .fill-grid in
     let f = passing (wanted s) (s .pre .2) in
     let many = grid-many (wanted s) (i .result) blank (g .last .1 .1 .0) (i .ensures) (g .ensures) (long s) in (
       record {
         tidy = s .pre .0;
-        limits = c .before .before .before .before .before .before .before .before .before .before .before .before .fill-limits .ensures;
+        limits = c .before .before .before .before .before .before .before .before .before .before .before .before .fill-tables .ensures .0;
         small = s .pre .1;
-        traits-of = c .before .before .before .before .before .before .before .before .before .before .traits-of .ensures;
+        tables = c .before .before .before .before .before .before .before .before .before .before .before .before .fill-tables .ensures .1;
         fit = grid-passes (wanted s) (i .result) blank (g .last .1 .1 .0) (i .ensures) (g .ensures) (long s) f;
       },
       f .repeated,
@@ -85,10 +82,10 @@ same-length-3 c = search needs
 
 returns : tie.Need-returns
 returns c =
-    let s = c .before .before .before .before .before .before .before .before .before .before .before .before .before .before .before .before .before .before .before .before .before .before .before .before in
+    let s = c .before .before .before .before .before .before .before .before .before .before .before .before .before .before .before .before .before .before .before .before .before .before .before .before .before .before .before in
     let a = s .args in
-    let i = c .before .before .before .before .before .before .before .before .before .before .before .before .before .before .before .before .interval in
-    let g = c .before .before .before .before .before .before .before .before .before .before .before .before .before .before .fill-grid in
+    let i = c .before .before .before .before .before .before .before .before .before .before .before .before .before .before .before .before .before .before .interval in
+    let g = c .before .before .before .before .before .before .before .before .before .before .before .before .before .before .before .before .fill-grid in
     let net = readable (lent (a .places) (a .transitions) (a .initial .now) (a .capacity .now) (a .rate .now) (a .delay .now) (a .arcs .now) (a .kind .now) (a .place .now) (a .weight .now)) in
     asked net (wanted s) (take (a .samples) (g .last .1 .1 .0)) (a .places) (record { mean = a .mean .now; deviation = a .deviation .now; path = a .path .now })
     (grid-is (wanted s) (i .result) blank (g .last .1 .1 .0) (i .ensures) (g .ensures) (long s)) (c .before .before .before .before .before .before .averaged .ensures)
@@ -97,8 +94,7 @@ pub lent-ensemble-spec : {M : Type 1} → statement M
 lent-ensemble-spec =
     tie.close
     (tie.spec
-    fill-limits-requires
-    traits-of-requires
+    fill-tables-requires
     cast-few
     interval-requires
     slice-aggregate-fill-grid

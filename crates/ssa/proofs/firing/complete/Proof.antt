@@ -7,9 +7,11 @@ use mathlib.Core.Bool.{true, false, false≢true}
 use mathlib.Core.List.{List}
 use Prim.Native.Nat.{ℕ, _+_, _≤_}
 use Rattle.net.specs.declared.Net.{Net as NetRecord}
+use Rattle.net.specs.Readable.{readable}
 use Rattle.net.specs.Record.{lent}
 use Rattle.rules.specs.Timers.{others}
-use Rattle.engine.specs.Engine.{Counts}
+use Rattle.engine.specs.Engine.{Counts, marking}
+use Rattle.engine.proofs.Touching.{quiet-none}
 use Rattle.timers.specs.Turning.{running, timersOf}
 use Rattle.ssa.specs.Stepping.{Light, Ready, stateOf, tokensOf}
 use Rattle.ssa.proofs.Light.{light-others}
@@ -84,11 +86,11 @@ returns c =
     let x = r .before .first in
     let p = c .before .before .put in
     let fits = c .before .if2 .taken in
-    let counts′ = p .last .1 .1 .1 .1 .1 .0 in (
+    let counts′ = p .last .1 .1 .1 .1 .1 .1 .0 in (
       complete-at (net (start r)) (a .counts .now) (a .ats .now) (a .owners .now) (a .ring) (r .remove-first .result) (a .clock) (a .rng .s)
           (x .result) (x .ensures) (others-left r) counts′ true _ (c .before .before .before .before .if1 .taken) (rw fits at (p .ensures .0))
           (λ e. omega (arith, left-less r, p .ensures .2 fits)),
-      ready r counts′ (p .ensures .1),
+      (ready r counts′ (p .ensures .1), λ f. p .ensures .4 fits (a .transitions) (a .initial .now) (a .capacity .now) (a .rate .now) (a .delay .now) (start r .pre .0 .tidy) (start r .pre .2)),
     )
 
 returns-2 : tie.Need-returns-2
@@ -97,11 +99,11 @@ returns-2 c =
     let a = start r .args in
     let x = r .before .first in
     let p = c .before .put in
-    let counts′ = p .last .1 .1 .1 .1 .1 .0 in (
+    let counts′ = p .last .1 .1 .1 .1 .1 .1 .0 in (
       complete-at (net (start r)) (a .counts .now) (a .ats .now) (a .owners .now) (a .ring) (r .remove-first .result) (a .clock) (a .rng .s)
           (x .result) (x .ensures) (others-left r) counts′ false _ (c .before .before .before .if1 .taken) (rw (c .if2 .left) at (p .ensures .0))
           (λ e. absurd (false≢true e)),
-      ready r counts′ (p .ensures .1),
+      (ready r counts′ (p .ensures .1), λ f. absurd (false≢true f)),
     )
 
 returns-3 : tie.Need-returns-3
@@ -112,7 +114,7 @@ returns-3 c =
     let h = start r .pre .0 .small in (
       complete-past (net (start r)) (a .counts .now) (a .ats .now) (a .owners .now) (a .ring) (r .remove-first .result) (a .clock) (a .rng .s)
           (x .result) (x .ensures) (others-left r) _ (c .if1 .left) h (omega (arith, left-less r)),
-      ready r (a .counts .now) h,
+      (ready r (a .counts .now) h, λ f. quiet-none (readable (net (start r))) (marking (a .places) (a .counts .now))),
     )
 
 pub complete-spec : {M : Type 1} → statement M

@@ -19,7 +19,7 @@ from s =
 complete-requires : tie.Need-complete-requires
 complete-requires c κs =
     let p = c .before .before .pre in
-    (p .0, p .2)
+    (p .0, p .3, p .4)
 
 returns : tie.Need-returns
 returns c =
@@ -29,7 +29,7 @@ returns c =
 race-requires : tie.Need-race-requires
 race-requires c κs =
     let p = c .before .before .pre in
-    (p .0, p .1, p .2)
+    (p .0, p .1, p .2, p .3, p .4)
 
 returns-2 : tie.Need-returns-2
 returns-2 c =

@@ -28,7 +28,7 @@ returns c =
     let a = c .before .before .before .before .before .before .before .before .before .before .before .args in
     let net = readable (lent (a .places) (a .transitions) (a .initial .now) (a .capacity .now) (a .rate .now) (a .delay .now) (a .arcs .now) (a .kind .now) (a .place .now) (a .weight .now)) in
     let xs = a .instants .now in
-    turn-stops (a .places) (length xs) (a .spent) (seeded (seedOf (a .seed) (a .k))) (a .mean .now) (a .mean .now) (a .deviation .now) (a .deviation .now) (a .path .now) (p .last .1 .1 .1 .1 .1 .1 .1 .1 .1 .1 .1 .1 .1 .1 .1 .1 .1 .0) (p .result)
+    turn-stops (a .places) (length xs) (a .spent) (seeded (seedOf (a .seed) (a .k))) (a .mean .now) (a .mean .now) (a .deviation .now) (a .deviation .now) (a .path .now) (p .last .1 .1 .1 .1 .1 .1 .1 .1 .1 .1 .1 .1 .1 .1 .1 .1 .1 .1 .1 .1 .0) (p .result)
     (c .before .end .given .0 .0) (drawn net (a .seed) xs (a .steps) (a .k)) (p .ensures) (c .before .end .given .1) refl refl
 
 mul-cells : tie.Need-mul-cells
@@ -65,7 +65,7 @@ returns-2 c =
     let a = c .before .before .before .before .before .before .before .before .before .before .before .before .before .before .before .before .before .before .before .before .args in
     let net = readable (lent (a .places) (a .transitions) (a .initial .now) (a .capacity .now) (a .rate .now) (a .delay .now) (a .arcs .now) (a .kind .now) (a .place .now) (a .weight .now)) in
     let xs = a .instants .now in
-    turn-goes (a .places) (length xs) (a .spent) (seeded (seedOf (a .seed) (a .k))) (a .mean .now) (m .last .1 .1 .0) (a .deviation .now) (d .last .1 .1 .0) (a .path .now) (p .last .1 .1 .1 .1 .1 .1 .1 .1 .1 .1 .1 .1 .1 .1 .1 .1 .1 .0) (p .result)
+    turn-goes (a .places) (length xs) (a .spent) (seeded (seedOf (a .seed) (a .k))) (a .mean .now) (m .last .1 .1 .0) (a .deviation .now) (d .last .1 .1 .0) (a .path .now) (p .last .1 .1 .1 .1 .1 .1 .1 .1 .1 .1 .1 .1 .1 .1 .1 .1 .1 .1 .1 .1 .0) (p .result)
     (c .one-if-spent .result) _ (drawn net (a .seed) xs (a .steps) (a .k)) (p .ensures) (not-refused (p .result .end) (c .before .before .before .before .before .before .before .before .before .before .before .match .keys2)) (c .one-if-spent .ensures) refl (m .ensures) (d .ensures)
 
 pub member-turn-spec : {M : Type 1} → statement M

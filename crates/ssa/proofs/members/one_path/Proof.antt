@@ -31,7 +31,7 @@ play-requires c κs =
       l .limits,
       counts .1,
       counts .0 ∙ initial-is (lent (a .places) (a .transitions) (a .initial .now) (a .capacity .now) (a .rate .now) (a .delay .now) (a .arcs .now) (a .kind .now) (a .place .now) (a .weight .now)),
-      l .traits-of,
+      l .tables,
       f .some-instant,
       f .few,
       f .risen,

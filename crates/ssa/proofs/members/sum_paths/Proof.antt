@@ -11,12 +11,12 @@ use Rattle.ssa.proofs.members.sum_paths.Statement.{statement}
 use Rattle.ssa.proofs.members.sum_paths.Tie as tie
 
 abbrev Inv-loop : tie.InvT-loop
-Inv-loop places transitions initial capacity rate delay arcs kind place weight limit sure traits instants steps seed realizations mean₀ deviation₀ path₀ spent₀ k₀ mean deviation path spent k =
+Inv-loop places transitions initial capacity rate delay arcs kind place weight limit rates ends guards timed heavy instants steps seed realizations mean₀ deviation₀ path₀ spent₀ k₀ mean deviation path spent k =
     SumsAt (drawn (readable (lent places transitions initial capacity rate delay arcs kind place weight)) seed instants steps) places (length instants) realizations k spent
     mean₀ mean deviation₀ deviation path₀ path
 
 abbrev μ-loop : tie.MeasureT-loop
-μ-loop places transitions initial capacity rate delay arcs kind place weight limit sure traits instants steps seed realizations mean₀ deviation₀ path₀ spent₀ k₀ mean deviation path spent k =
+μ-loop places transitions initial capacity rate delay arcs kind place weight limit rates ends guards timed heavy instants steps seed realizations mean₀ deviation₀ path₀ spent₀ k₀ mean deviation path spent k =
     realizations - k
 
 loop-holds : tie.Need-loop-holds Inv-loop μ-loop
@@ -58,7 +58,7 @@ returns c =
     let net = readable (lent (a .places) (a .transitions) (a .initial .now) (a .capacity .now) (a .rate .now) (a .delay .now) (a .arcs .now) (a .kind .now) (a .place .now) (a .weight .now)) in
     one-refused (drawn net (a .seed) (a .instants .now) (a .steps)) (a .places) (length (a .instants .now)) (a .realizations) (a .mean .now) (a .deviation .now) (a .path .now)
     (l .k) (l .spent) (l .mean) (l .deviation) (l .path) (l .inv) (c .before .before .before .before .before .before .before .before .before .before .before .before .before .loop-test .taken)
-    (c .before .t2 .given .0 .0) (t .last .1 .1 .1 .1 .1 .1 .1 .1 .1 .1 .1 .1 .1 .1 .1 .1 .1 .1 .0) (t .last .1 .1 .1 .1 .1 .1 .1 .1 .1 .1 .1 .1 .1 .1 .1 .1 .1 .1 .1 .0) (t .last .1 .1 .1 .1 .1 .1 .1 .1 .1 .1 .1 .1 .1 .1 .1 .1 .1 .1 .1 .1 .0) (t .result) (c .before .t2 .given .1) (t .ensures)
+    (c .before .t2 .given .0 .0) (t .last .1 .1 .1 .1 .1 .1 .1 .1 .1 .1 .1 .1 .1 .1 .1 .1 .1 .1 .1 .1 .1 .0) (t .last .1 .1 .1 .1 .1 .1 .1 .1 .1 .1 .1 .1 .1 .1 .1 .1 .1 .1 .1 .1 .1 .1 .0) (t .last .1 .1 .1 .1 .1 .1 .1 .1 .1 .1 .1 .1 .1 .1 .1 .1 .1 .1 .1 .1 .1 .1 .1 .0) (t .result) (c .before .t2 .given .1) (t .ensures)
 
 loop-less : tie.Need-loop-less Inv-loop μ-loop
 loop-less c = omega (arith, c .before .before .before .before .before .before .before .before .before .before .before .before .before .loop-test .taken)
@@ -72,7 +72,7 @@ loop-again c =
     let net = readable (lent (a .places) (a .transitions) (a .initial .now) (a .capacity .now) (a .rate .now) (a .delay .now) (a .arcs .now) (a .kind .now) (a .place .now) (a .weight .now)) in
     one-added (drawn net (a .seed) (a .instants .now) (a .steps)) (a .places) (length (a .instants .now)) (a .realizations) (a .mean .now) (a .deviation .now) (a .path .now)
     (l .k) (l .spent) (l .mean) (l .deviation) (l .path) (l .inv) (c .before .before .before .before .before .before .before .before .before .before .before .before .before .loop-test .taken)
-    (c .before .t .given .0 .0) (t .last .1 .1 .1 .1 .1 .1 .1 .1 .1 .1 .1 .1 .1 .1 .1 .1 .1 .1 .0) (t .last .1 .1 .1 .1 .1 .1 .1 .1 .1 .1 .1 .1 .1 .1 .1 .1 .1 .1 .1 .0) (t .last .1 .1 .1 .1 .1 .1 .1 .1 .1 .1 .1 .1 .1 .1 .1 .1 .1 .1 .1 .1 .0) (s .pre .2) (drawn-count net (a .seed) (a .instants .now) (a .steps) (l .k)) (t .result) (c .before .t .given .1) (t .ensures)
+    (c .before .t .given .0 .0) (t .last .1 .1 .1 .1 .1 .1 .1 .1 .1 .1 .1 .1 .1 .1 .1 .1 .1 .1 .1 .1 .1 .0) (t .last .1 .1 .1 .1 .1 .1 .1 .1 .1 .1 .1 .1 .1 .1 .1 .1 .1 .1 .1 .1 .1 .1 .0) (t .last .1 .1 .1 .1 .1 .1 .1 .1 .1 .1 .1 .1 .1 .1 .1 .1 .1 .1 .1 .1 .1 .1 .1 .0) (s .pre .2) (drawn-count net (a .seed) (a .instants .now) (a .steps) (l .k)) (t .result) (c .before .t .given .1) (t .ensures)
 
 same-length-4 : tie.Need-same-length-4 Inv-loop μ-loop
 same-length-4 c = search needs

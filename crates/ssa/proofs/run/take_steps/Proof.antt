@@ -9,26 +9,28 @@ use Rattle.net.specs.Record.{lent}
 use Rattle.rules.proofs.Play.{higher, play}
 use Rattle.ssa.specs.declared.PathEnd.the-variants.{Quiet, Spent, Reached, Refused}
 use Rattle.ssa.specs.declared.run.Walked.{Walked}
+use Rattle.engine.specs.Engine.{marking}
+use Rattle.ssa.specs.Keeping.{Carried}
 use Rattle.ssa.specs.Stepping.{Ready, Roomy, stateOf}
 use Rattle.ssa.proofs.Playing.{one-at-most, SoFar, so-far-none, at-last, at-limit, goes-on, past-last, nothing-left, turned-down}
 use Rattle.ssa.proofs.run.take_steps.Statement.{statement}
 use Rattle.ssa.proofs.run.take_steps.Tie as tie
 
 abbrev Inv-loop : tie.InvT-loop
-Inv-loop places transitions initial capacity rate delay arcs kind place weight limit sure traits counts₀ ats₀ owners₀ props₀ room instants last table₀ steps at₀ done₀ rounded₀ counts ats owners props table at done rounded =
+Inv-loop places transitions initial capacity rate delay arcs kind place weight limit rates ends guards timed heavy counts₀ ats₀ owners₀ props₀ sums₀ room instants last table₀ steps at₀ done₀ rounded₀ counts ats owners props sums table at done rounded =
     let net = lent places transitions initial capacity rate delay arcs kind place weight in
     (done ≤ steps)
     × (rounded ≤ done)
     × Ready net limit counts ats owners (at .timers)
     × Roomy room (at .timers)
-    × (length props ≡ 64)
+    × Carried net (marking places counts) (at .kept) props sums
     × SoFar room (readable net) last instants places
     (higher (at₀ .peak) (play room (readable net) last steps (drop (at₀ .next) instants) (stateOf net counts₀ ats₀ owners₀ (at₀ .timers) (at₀ .clock) (at₀ .rng .s))))
     (at₀ .next) table₀
     (steps - done) done rounded (at .next) (at .tokens) (at .peak) (stateOf net counts ats owners (at .timers) (at .clock) (at .rng .s)) table
 
 abbrev μ-loop : tie.MeasureT-loop
-μ-loop places transitions initial capacity rate delay arcs kind place weight limit sure traits counts₀ ats₀ owners₀ props₀ room instants last table₀ steps at₀ done₀ rounded₀ counts ats owners props table at done rounded =
+μ-loop places transitions initial capacity rate delay arcs kind place weight limit rates ends guards timed heavy counts₀ ats₀ owners₀ props₀ sums₀ room instants last table₀ steps at₀ done₀ rounded₀ counts ats owners props sums table at done rounded =
     steps - done
 
 loop-holds : tie.Need-loop-holds Inv-loop μ-loop
@@ -45,53 +47,53 @@ loop-holds c =
 
 one-step-requires : tie.Need-one-step-requires Inv-loop μ-loop
 one-step-requires c κs =
-    let l = c .before .before .before .before .before .before .before .before in
+    let l = c .before .before .before .before .before .before .before .before .before in
     let a = l .before .before .before in
     (l .loop .inv .2, l .loop .inv .3, a .pre .2, l .loop .inv .4, l .loop .inv .5 .within, a .pre .5, omega (arith, a .pre .6, l .loop .inv .5 .listed .long), l .loop .inv .5 .now)
 
 add-done : tie.Need-add-done Inv-loop μ-loop
-add-done c = let l = c .before .before .before .before .before .before .before .before .before .before .before .before .before in omega (arith, l .before .before .before .fits .steps, c .before .before .before .before .before .before .before .before .before .before .before .before .loop-test .taken)
+add-done c = let l = c .before .before .before .before .before .before .before .before .before .before .before .before .before .before in omega (arith, l .before .before .before .fits .steps, c .before .before .before .before .before .before .before .before .before .before .before .before .before .loop-test .taken)
 
 one-more-requires : tie.Need-one-more-requires Inv-loop μ-loop
 one-more-requires c κs =
-    let l = c .before .before .before .before .before .before .before .before .before .before .before .before .before in
-    omega (arith, l .loop .inv .1, c .before .before .before .before .before .before .before .before .before .before .before .before .loop-test .taken, l .before .before .before .fits .steps)
+    let l = c .before .before .before .before .before .before .before .before .before .before .before .before .before .before in
+    omega (arith, l .loop .inv .1, c .before .before .before .before .before .before .before .before .before .before .before .before .before .loop-test .taken, l .before .before .before .fits .steps)
 
 enum-told : tie.Need-enum-told Inv-loop μ-loop
 enum-told c = search needs
 
 loop-less : tie.Need-loop-less Inv-loop μ-loop
-loop-less c = omega (arith, c .before .before .before .before .before .before .before .before .before .before .before .before .before .before .before .loop-test .taken)
+loop-less c = omega (arith, c .before .before .before .before .before .before .before .before .before .before .before .before .before .before .before .before .loop-test .taken)
 
 loop-again : tie.Need-loop-again Inv-loop μ-loop
 loop-again c =
     let o = c .before .before .before .before .before .before .before in
-    let l = o .before .before .before .before .before .before .before .before .before in
+    let l = o .before .before .before .before .before .before .before .before .before .before in
     let f = l .loop .inv .5 in
-    let e : l .before .before .before .args .steps - l .loop .done ≡ suc (l .before .before .before .args .steps - (l .loop .done + 1)) = omega (arith, o .before .before .before .before .before .before .before .before .loop-test .taken) in (
-      omega (arith, o .before .before .before .before .before .before .before .before .loop-test .taken),
+    let e : l .before .before .before .args .steps - l .loop .done ≡ suc (l .before .before .before .args .steps - (l .loop .done + 1)) = omega (arith, o .before .before .before .before .before .before .before .before .before .loop-test .taken) in (
+      omega (arith, o .before .before .before .before .before .before .before .before .before .loop-test .taken),
       omega (arith, l .loop .inv .1, c .before .before .one-more .ensures, one-at-most (o .one-step .result .rounded)),
       o .one-step .ensures .1 .0,
       o .one-step .ensures .1 .1,
-      o .one-step .ensures .1 .2,
-      goes-on (l .loop .inv .2 .tidy .once) f (l .before .before .before .args .steps - (l .loop .done + 1)) e (o .before .before .before .before .before .before .if1 .taken) (c .before .before .one-more .result) (c .before .before .one-more .ensures) (rw (c .enum-told .given .1) at (o .one-step .ensures .0)),
+      o .one-step .ensures .1 .2 (c .enum-told .given .1),
+      goes-on (l .loop .inv .2 .tidy .once) f (l .before .before .before .args .steps - (l .loop .done + 1)) e (o .before .before .before .before .before .before .before .if1 .taken) (c .before .before .one-more .result) (c .before .before .one-more .ensures) (rw (c .enum-told .given .1) at (o .one-step .ensures .0)),
     )
 
 enum-told-2 : tie.Need-enum-told-2 Inv-loop μ-loop
 enum-told-2 c = search needs
 
 same-length : tie.Need-same-length Inv-loop μ-loop
-same-length c = c .before .before .before .before .before .before .before .one-step .ensures .1 .3 ∙ c .before .before .before .before .before .before .before .before .before .before .before .before .before .before .before .before .loop .inv .5 .listed .long
+same-length c = c .before .before .before .before .before .before .before .one-step .ensures .1 .3 ∙ c .before .before .before .before .before .before .before .before .before .before .before .before .before .before .before .before .before .loop .inv .5 .listed .long
 
 returns : tie.Need-returns Inv-loop μ-loop
 returns c =
     let o = c .before .before .before .before .before .before .before in
-    let l = o .before .before .before .before .before .before .before .before .before in
+    let l = o .before .before .before .before .before .before .before .before .before .before in
     let f = l .loop .inv .5 in
-    let e : l .before .before .before .args .steps - l .loop .done ≡ suc (l .before .before .before .args .steps - (l .loop .done + 1)) = omega (arith, o .before .before .before .before .before .before .before .before .loop-test .taken) in
+    let e : l .before .before .before .args .steps - l .loop .done ≡ suc (l .before .before .before .args .steps - (l .loop .done + 1)) = omega (arith, o .before .before .before .before .before .before .before .before .before .loop-test .taken) in
     let r = o .one-step .result .now in
     let w : Walked = record { end = Quiet; steps = l .loop .done + 1; rounded = c .before .before .one-more .result; next = r .next; peak = r .peak; rng = r .rng } in (
-      nothing-left (l .loop .inv .2 .tidy .once) f (l .before .before .before .args .steps - (l .loop .done + 1)) e (o .before .before .before .before .before .before .if1 .taken) w refl (c .before .before .one-more .ensures) refl (rw (c .enum-told2 .given .1) at (o .one-step .ensures .0)),
+      nothing-left (l .loop .inv .2 .tidy .once) f (l .before .before .before .args .steps - (l .loop .done + 1)) e (o .before .before .before .before .before .before .before .if1 .taken) w refl (c .before .before .one-more .ensures) refl (rw (c .enum-told2 .given .1) at (o .one-step .ensures .0)),
       (o .one-step .ensures .1 .0 .small, o .one-step .ensures .1 .3 ∙ f .listed .long, λ i h. o .one-step .ensures .1 .4 i h ∙ f .listed .further i h),
     )
 
@@ -99,17 +101,17 @@ enum-told-3 : tie.Need-enum-told-3 Inv-loop μ-loop
 enum-told-3 c = search needs
 
 same-length-2 : tie.Need-same-length-2 Inv-loop μ-loop
-same-length-2 c = c .before .before .before .before .before .before .before .one-step .ensures .1 .3 ∙ c .before .before .before .before .before .before .before .before .before .before .before .before .before .before .before .before .loop .inv .5 .listed .long
+same-length-2 c = c .before .before .before .before .before .before .before .one-step .ensures .1 .3 ∙ c .before .before .before .before .before .before .before .before .before .before .before .before .before .before .before .before .before .loop .inv .5 .listed .long
 
 returns-2 : tie.Need-returns-2 Inv-loop μ-loop
 returns-2 c =
     let o = c .before .before .before .before .before .before .before in
-    let l = o .before .before .before .before .before .before .before .before .before in
+    let l = o .before .before .before .before .before .before .before .before .before .before in
     let f = l .loop .inv .5 in
-    let e : l .before .before .before .args .steps - l .loop .done ≡ suc (l .before .before .before .args .steps - (l .loop .done + 1)) = omega (arith, o .before .before .before .before .before .before .before .before .loop-test .taken) in
+    let e : l .before .before .before .args .steps - l .loop .done ≡ suc (l .before .before .before .args .steps - (l .loop .done + 1)) = omega (arith, o .before .before .before .before .before .before .before .before .before .loop-test .taken) in
     let r = o .one-step .result .now in
     let w : Walked = record { end = Reached; steps = l .loop .done + 1; rounded = c .before .before .one-more .result; next = r .next; peak = r .peak; rng = r .rng } in (
-      past-last (l .loop .inv .2 .tidy .once) f (l .before .before .before .args .steps - (l .loop .done + 1)) e (o .before .before .before .before .before .before .if1 .taken) w refl (c .before .before .one-more .ensures) refl (rw (c .enum-told3 .given .1) at (o .one-step .ensures .0)),
+      past-last (l .loop .inv .2 .tidy .once) f (l .before .before .before .args .steps - (l .loop .done + 1)) e (o .before .before .before .before .before .before .before .if1 .taken) w refl (c .before .before .one-more .ensures) refl (rw (c .enum-told3 .given .1) at (o .one-step .ensures .0)),
       (o .one-step .ensures .1 .0 .small, o .one-step .ensures .1 .3 ∙ f .listed .long, λ i h. o .one-step .ensures .1 .4 i h ∙ f .listed .further i h),
     )
 
@@ -117,17 +119,17 @@ enum-known-ending : tie.Need-enum-known-ending Inv-loop μ-loop
 enum-known-ending c = search needs
 
 same-length-3 : tie.Need-same-length-3 Inv-loop μ-loop
-same-length-3 c = c .before .before .before .before .before .before .before .before .one-step .ensures .1 .3 ∙ c .before .before .before .before .before .before .before .before .before .before .before .before .before .before .before .before .before .loop .inv .5 .listed .long
+same-length-3 c = c .before .before .before .before .before .before .before .before .one-step .ensures .1 .3 ∙ c .before .before .before .before .before .before .before .before .before .before .before .before .before .before .before .before .before .before .loop .inv .5 .listed .long
 
 returns-3 : tie.Need-returns-3 Inv-loop μ-loop
 returns-3 c =
     let o = c .before .before .before .before .before .before .before .before in
-    let l = o .before .before .before .before .before .before .before .before .before in
+    let l = o .before .before .before .before .before .before .before .before .before .before in
     let f = l .loop .inv .5 in
-    let e : l .before .before .before .args .steps - l .loop .done ≡ suc (l .before .before .before .args .steps - (l .loop .done + 1)) = omega (arith, o .before .before .before .before .before .before .before .before .loop-test .taken) in
+    let e : l .before .before .before .args .steps - l .loop .done ≡ suc (l .before .before .before .args .steps - (l .loop .done + 1)) = omega (arith, o .before .before .before .before .before .before .before .before .before .loop-test .taken) in
     let r = o .one-step .result .now in
     let w : Walked = record { end = Refused (c .before .ending .given .0 .0); steps = l .loop .done + 1; rounded = c .before .before .before .one-more .result; next = r .next; peak = r .peak; rng = r .rng } in (
-      turned-down (l .loop .inv .2 .tidy .once) f (l .before .before .before .args .steps - (l .loop .done + 1)) e (o .before .before .before .before .before .before .if1 .taken) w (c .before .ending .given .0 .0) (rw (c .before .ending .given .1) at (o .one-step .ensures .0)),
+      turned-down (l .loop .inv .2 .tidy .once) f (l .before .before .before .args .steps - (l .loop .done + 1)) e (o .before .before .before .before .before .before .before .if1 .taken) w (c .before .ending .given .0 .0) (rw (c .before .ending .given .1) at (o .one-step .ensures .0)),
       (o .one-step .ensures .1 .0 .small, o .one-step .ensures .1 .3 ∙ f .listed .long, λ i h. o .one-step .ensures .1 .4 i h ∙ f .listed .further i h),
     )
 

@@ -20,6 +20,7 @@ use Rattle.ssa.specs.Stepping.{Light}
 use Rattle.ssa.proofs.Light.{light-pick, light-insert}
 use Rattle.ssa.proofs.Tokens.{start-takes}
 use Rattle.ssa.proofs.Rooms.{room-for, one-more-fits}
+use Rattle.engine.proofs.Touching.{quiet-none}
 use Rattle.ssa.proofs.Passes.{try-untimed, try-disabled, try-on}
 use Rattle.ssa.proofs.starts.try_start.Statement.{statement}
 use Rattle.ssa.proofs.starts.try_start.Tie as tie
@@ -65,16 +66,16 @@ returns c =
     let on = sym (e .enabled .ensures) ∙ f .if2 .taken in
     let q = timersAt s in
     let x : Timer = timerOf (s .args .t) (s .args .j) (transition (netAt s) (s .args .j)) in
-    let took : k .take .result ≡ x .taken =
-    start-takes (netAt s) (s .pre .1 .tidy) (s .args .j) (s .pre .0) (countsAt s) _ (k .take .result) on (k .take .ensures .0) (k .take .ensures .3) in
-    let same : _≡_ {A = Timer} (record { at = x .at; who = s .args .j; taken = k .take .result }) x =
+    let took : k .take .result .less ≡ x .taken =
+    start-takes (netAt s) (s .pre .1 .tidy) (s .args .j) (s .pre .0) (countsAt s) _ (k .take .result .less) on (k .take .ensures .0) (k .take .ensures .3) in
+    let same : _≡_ {A = Timer} (record { at = x .at; who = s .args .j; taken = k .take .result .less }) x =
     ap (λ (y : ℕ). record { at = x .at; who = s .args .j; taken = y }) took in
     let list = i .list (s .pre .1 .sound) ∙ ap (λ (y : Timer). pick (hasRoom (s .args .room) q) (insert y q) q) same in
     let free : hasRoom (s .args .room) q ≡ ltb (length q) (s .args .room) = room-for (s .pre .2 .most) q in (
-      try-on (s .args .room) (readable (netAt s)) (s .args .t) (s .args .j) (transition (netAt s) (s .args .j)) (countsAt s) q _ _ _ _
+      try-on (s .args .room) (readable (netAt s)) (s .args .t) (s .args .j) (transition (netAt s) (s .args .j)) (countsAt s) q _ _ _ _ _ _
           (e .before .before .if1 .taken) on (i .says ∙ free) (k .take .ensures .0)
           (λ z. list ∙ ap (λ (b : Bool). pick b (insert x q) q) (sym (i .says) ∙ z)),
-      (
+      ((
         record {
           tidy = s .pre .1 .tidy;
           limits = s .pre .1 .limits;
@@ -85,6 +86,7 @@ returns c =
         },
         one-more-fits x (now (s .args .ats)) (c .before .before .insert .last .0) (now (s .args .owners)) (c .before .before .insert .last .1 .0) (s .pre .2) list,
       ),
+      λ f. k .take .ensures .4 (s .args .transitions) (now (s .args .initial)) (now (s .args .capacity)) (now (s .args .rate)) (now (s .args .delay)) (s .pre .1 .tidy) (s .pre .3)),
     )
 
 returns-2 : tie.Need-returns-2
@@ -95,7 +97,7 @@ returns-2 c =
           (try-disabled (s .args .room) (readable (netAt s)) (s .args .t) (s .args .j) (transition (netAt s) (s .args .j)) (countsAt s) (timersAt s)
           (sym (e .enabled .ensures) ∙ c .if2 .left))
           refl,
-      (s .pre .1, s .pre .2),
+      ((s .pre .1, s .pre .2), λ f. quiet-none (readable (netAt s)) (countsAt s)),
     )
 
 returns-3 : tie.Need-returns-3
@@ -104,7 +106,7 @@ returns-3 c =
       done [] refl
           (try-untimed (s .args .room) (readable (netAt s)) (s .args .t) (s .args .j) (transition (netAt s) (s .args .j)) (countsAt s) (timersAt s) (c .if1 .left))
           refl,
-      (s .pre .1, s .pre .2),
+      ((s .pre .1, s .pre .2), λ f. quiet-none (readable (netAt s)) (countsAt s)),
     )
 
 pub try-start-spec : {M : Type 1} → statement M

@@ -1,0 +1,9 @@
+pub mod Fronts
+pub mod Placed
+pub mod Listing
+pub mod ByPlace
+pub mod Filling
+pub mod Turning
+pub mod Beginning
+pub mod Guarding
+pub mod Marking

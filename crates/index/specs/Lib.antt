@@ -1,0 +1,4 @@
+pub mod Slots
+pub mod Table
+pub mod Marks
+pub mod Guarding

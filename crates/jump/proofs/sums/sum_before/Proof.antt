@@ -1,0 +1,24 @@
+-- By the arm taken. Assumes nothing.
+use borrow.Author.Tests.{eq-eqb, ne-eqb}
+use borrow.Author.Needs.{needs}
+use Rattle.jump.proofs.sums.sum_before.Statement.{statement}
+use Rattle.jump.proofs.sums.sum_before.Tie as tie
+
+returns : tie.Need-returns
+returns c = simp (eq-eqb _ _ (c .if1 .taken))
+
+sub-result : tie.Need-sub-result
+sub-result c = search needs
+
+mul-result : tie.Need-mul-result
+mul-result c = search needs
+
+element-copy-out-result : tie.Need-element-copy-out-result
+element-copy-out-result c = search needs
+
+returns-2 : tie.Need-returns-2
+returns-2 c = simp (ne-eqb _ _ (c .before .if1 .left))
+
+pub sum-before-spec : {M : Type 1} → statement M
+sum-before-spec =
+    tie.close (tie.spec returns sub-result mul-result element-copy-out-result returns-2)
