@@ -18,9 +18,6 @@ use Rattle.kept.proofs.Keeping.{kept-quiet, marked-quiet, kept-first, marked-fi
 use Rattle.ssa.specs.Keeping.{Carried}
 use Rattle.ssa.specs.declared.step.Keeping.{Keeping}
 
-
-
-
 -- nothing is owed before the event, and then what it has changed
 pub carried-on : (n : NetRecord) (m m′ : Marking) (k : Keeping) (props sums : List Float) (moved crossed : ℕ) → Carried n m k props sums → k .moved ≡ 0 → k .crossed ≡ 0
     → Quiet (readable n) m m′ moved crossed → Carried n m′ (record { moved = moved; crossed = crossed; able = k .able; marks = k .marks; a0 = k .a0 }) props sums

@@ -22,9 +22,9 @@ use crate::EnsembleAnswer;
 use crate::members;
 use crate::members::Summed;
 use crate::shown;
+use crate::tables;
 use averages::moments;
 use averages::request;
-use crate::tables;
 use engine::slots;
 use net::Net;
 

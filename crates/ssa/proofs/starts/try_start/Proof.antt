@@ -75,18 +75,20 @@ returns c =
       try-on (s .args .room) (readable (netAt s)) (s .args .t) (s .args .j) (transition (netAt s) (s .args .j)) (countsAt s) q _ _ _ _ _ _
           (e .before .before .if1 .taken) on (i .says ∙ free) (k .take .ensures .0)
           (λ z. list ∙ ap (λ (b : Bool). pick b (insert x q) q) (sym (i .says) ∙ z)),
-      ((
-        record {
-          tidy = s .pre .1 .tidy;
-          limits = s .pre .1 .limits;
-          small = k .take .ensures .1;
-          light = subst Light (sym (i .list (s .pre .1 .sound)))
-              (light-pick (hasRoom (s .args .room) q) _ q (light-insert _ q (k .take .ensures .2) (s .pre .1 .light)) (s .pre .1 .light));
-          sound = i .stays (s .pre .1 .sound);
-        },
-        one-more-fits x (now (s .args .ats)) (c .before .before .insert .last .0) (now (s .args .owners)) (c .before .before .insert .last .1 .0) (s .pre .2) list,
+      (
+        (
+          record {
+            tidy = s .pre .1 .tidy;
+            limits = s .pre .1 .limits;
+            small = k .take .ensures .1;
+            light = subst Light (sym (i .list (s .pre .1 .sound)))
+                (light-pick (hasRoom (s .args .room) q) _ q (light-insert _ q (k .take .ensures .2) (s .pre .1 .light)) (s .pre .1 .light));
+            sound = i .stays (s .pre .1 .sound);
+          },
+          one-more-fits x (now (s .args .ats)) (c .before .before .insert .last .0) (now (s .args .owners)) (c .before .before .insert .last .1 .0) (s .pre .2) list,
+        ),
+        λ f. k .take .ensures .4 (s .args .transitions) (now (s .args .initial)) (now (s .args .capacity)) (now (s .args .rate)) (now (s .args .delay)) (s .pre .1 .tidy) (s .pre .3),
       ),
-      λ f. k .take .ensures .4 (s .args .transitions) (now (s .args .initial)) (now (s .args .capacity)) (now (s .args .rate)) (now (s .args .delay)) (s .pre .1 .tidy) (s .pre .3)),
     )
 
 returns-2 : tie.Need-returns-2
