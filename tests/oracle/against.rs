@@ -27,11 +27,11 @@ fn loaded(file: &str) -> PathFunction {
 }
 
 /// The files of the other library, then as many of ours.
-pub fn bench(files: &[&str]) {
+pub fn bench(folder: &str, files: &[&str]) {
     let functions: Vec<PathFunction> = files.iter().map(|file| loaded(file)).collect();
     let half = files.len() / 2;
     println!("{:34} {:>8} {:>8} {:>7}   each placement", "nanoseconds a step of a path", "other", "ours", "ratio");
-    for (name, case) in paths::measured().into_iter().chain(paths::measured_timers()).chain(paths::measured_beyond()) {
+    for (name, case) in paths::measured().into_iter().chain(paths::measured_files(folder)).chain(paths::measured_timers()).chain(paths::measured_beyond()) {
         let fields = Fields::of(&case.net);
         let mut best = vec![f64::INFINITY; files.len()];
         let (mut ends, mut steps) = (vec![case.state; files.len()], 0);

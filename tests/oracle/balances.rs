@@ -301,6 +301,11 @@ fn balanced(draw: &mut Draw, delays: bool) -> Case {
     Case { net: Net { places, moves }, weights }
 }
 
+/// The net of one.
+pub fn drawn_net(draw: &mut Draw) -> Net {
+    balanced(draw, true).net
+}
+
 /// One arc of a transition altered so that it weighs otherwise; none where no arc of it can be.
 fn broken(draw: &mut Draw, m: &Move, weights: &[u64]) -> Option<Move> {
     for _ in 0..20 {

@@ -33,7 +33,7 @@ fn measure<T: Clone>(name: &str, input: &[T], ours: impl Fn(&mut [T]), theirs: i
     println!("{name:34} {:8.2} {:8.2} {:7.2}", best[0], best[1], best[0] / best[1]);
 }
 
-pub fn bench() {
+pub fn bench(folder: &str) {
     let mut draw = Draw::new(7);
     let words: Vec<u64> = (0..N).map(|_| draw.word()).collect();
     let units: Vec<f64> = (0..N).map(|_| 1.0 - draw.unit()).collect();
@@ -93,9 +93,14 @@ pub fn bench() {
             })
         });
     }
-    measure_paths();
-    measure_ensembles();
+    bench_paths(folder);
     measure_diffusions();
+}
+
+/// Paths and ensembles alone.
+pub fn bench_paths(folder: &str) {
+    measure_paths(folder);
+    measure_ensembles(folder);
 }
 
 /// The Rust works the float alone; ours says too whether it is exact.
@@ -141,9 +146,11 @@ fn turn_about(name: &str, rounds: usize, per: f64, mut ours: impl FnMut(), mut t
 }
 
 /// Whole ensembles over the nets of the paths, and one of short paths: both sides have to give the same means and deviations first.
-fn measure_ensembles() {
+fn measure_ensembles(folder: &str) {
     println!("{:34} {:>8} {:>8} {:>7}", "microseconds a path of an ensemble", "ours", "Rust", "ratio");
-    let mut cases: Vec<_> = paths::measured().into_iter().map(|(name, c)| (name, c.net, *c.instants.last().unwrap(), 16)).collect();
+    let all = paths::measured().into_iter().chain(paths::measured_files(folder));
+    let few = |name: &str| if name == "soak.net" { 2 } else { 16 };
+    let mut cases: Vec<_> = all.map(|(name, c)| (name, c.net, *c.instants.last().unwrap(), few(name))).collect();
     cases.push(("document 01's sample, 3 steps", crate::nets::example(), 2.0, 10_000));
     for (name, net, horizon, realizations) in cases {
         let case = ensembles::Case { net, samples: 64, realizations, seed: 1, horizon };
@@ -259,9 +266,9 @@ fn full_text(text: &str) -> String {
 
 /// Steps of a path in a second, from the least time of some rounds. Both sides have to give the answer
 /// that the harness works out; filling their records is not timed.
-fn measure_paths() {
+fn measure_paths(folder: &str) {
     println!("{:34} {:>8} {:>8} {:>7}", "thousand steps of a path a second", "ours", "Rust", "ratio of times");
-    for (name, case) in paths::measured().into_iter().chain(paths::measured_timers()).chain(paths::measured_beyond()) {
+    for (name, case) in paths::measured().into_iter().chain(paths::measured_files(folder)).chain(paths::measured_timers()).chain(paths::measured_beyond()) {
         let answer = paths::play(&case);
         assert!(paths::by_library(&case) == answer.line(&case) && paths::source_agrees(&case, &answer) == Some(true), "{name}: the answers differ");
         let (fields, model) = (rattle::Fields::of(&case.net), filled(&case.net));

@@ -8,6 +8,8 @@ mod diffusions;
 mod draw;
 mod ensembles;
 mod games;
+mod indexes;
+mod kept;
 mod leaves;
 #[allow(dead_code)]
 mod nets;
@@ -36,6 +38,8 @@ fn main() {
             games::compare(&mut report, number(seed), number(inputs) / 200);
             balances::compare(&mut report, number(seed), number(inputs) / 100);
             timers::compare(&mut report, number(seed), number(inputs) / 100);
+            indexes::compare(&mut report, number(seed), number(inputs) / 50);
+            kept::compare(&mut report, number(seed), 2 * kept::LEAST + number(inputs) / 2);
             println!("{} passed, {} failed", report.passed, report.failed);
             std::process::exit((report.failed > 0) as i32);
         }
@@ -47,13 +51,14 @@ fn main() {
             diffusions::record(diffusions);
             ensembles::record(ensembles);
         }
-        ["bench"] => bench::bench(),
-        ["bench-against", ref files @ ..] if files.len() % 2 == 0 => against::bench(files),
+        ["bench", folder] => bench::bench(folder),
+        ["bench-paths", folder] => bench::bench_paths(folder),
+        ["bench-against", folder, ref files @ ..] if files.len() % 2 == 0 => against::bench(folder, files),
         ["bench-reader", folder] => bench::bench_reader(folder),
         ["bench-game"] => bench::bench_game(),
         ["bench-combinations"] => bench::bench_combinations(),
         _ => {
-            eprintln!("compare SEED INPUTS | paths SEED COUNT FILE | ensembles SEED COUNT FOLDER | record FOLDER FOLDER FOLDER FILE | bench | bench-against LIBRARY.. LIBRARY.. | bench-reader FOLDER | bench-game | bench-combinations");
+            eprintln!("compare SEED INPUTS | paths SEED COUNT FILE | ensembles SEED COUNT FOLDER | record FOLDER FOLDER FOLDER FILE | bench NETS | bench-paths NETS | bench-against NETS LIBRARY.. LIBRARY.. | bench-reader FOLDER | bench-game | bench-combinations");
             std::process::exit(2);
         }
     }

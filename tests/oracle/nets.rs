@@ -102,3 +102,38 @@ impl Arc {
         }
     }
 }
+
+/// A net text as the files of `nets/` have it, with its run line: samples, seed and horizon. A text that is not of that form stops the program.
+pub fn read(text: &str) -> (Net, usize, u64, f64) {
+    let (mut net, mut run) = (Net { places: vec![], moves: vec![] }, None);
+    for line in text.lines() {
+        let words: Vec<&str> = line.split([' ', '(', ')']).filter(|w| !w.is_empty()).collect();
+        let float = |w: &str| f64::from_bits(u64::from_str_radix(w, 16).unwrap());
+        let number = |w: &str| w.parse::<u64>().unwrap();
+        match words[..] {
+            ["place", initial, capacity, label] => {
+                net.places.push(Place { initial: number(initial) as i64, capacity: number(capacity) as i64, label: Label::new(label.as_bytes()) })
+            }
+            ["move", rate, delay, ref arcs @ ..] => {
+                let (mut rest, mut list) = (arcs, vec![]);
+                while let [kind, place, weight, ..] = *rest {
+                    let (place, weight) = (number(place) as usize, number(weight) as i64);
+                    list.push(match kind {
+                        "take" => Arc::Take { place, weight, kinetic: rest[3] == "1" },
+                        "put" => Arc::Put { place, weight },
+                        "read" => Arc::Read { place, weight },
+                        "block" => Arc::Block { place, weight },
+                        _ => panic!("{kind} is no arc"),
+                    });
+                    rest = &rest[if kind == "take" { 4 } else { 3 }..];
+                }
+                net.moves.push(Move { rate: float(rate), delay: float(delay), arcs: list });
+            }
+            ["run", samples, _, seed, horizon] => run = Some((number(samples) as usize, number(seed), float(horizon))),
+            ["net"] | [] => (),
+            _ => panic!("{line} is no line of a net text"),
+        }
+    }
+    let (samples, seed, horizon) = run.expect("no run line");
+    (net, samples, seed, horizon)
+}

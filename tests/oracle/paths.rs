@@ -3,10 +3,10 @@
 //! has an answer, which is the counts and the generator after it, the two are held to be equal first.
 use crate::binomials::exact;
 use crate::draw::Draw;
-use crate::nets::{example, Arc, Label, Move, Net, Place};
+use crate::nets::{self, example, Arc, Label, Move, Net, Place};
 use crate::rattle;
 use crate::ssa::inside::filled;
-use crate::ssa::{plog, realization, Xoshiro256};
+use crate::ssa::{plog, realization, splitmix64, Xoshiro256};
 use std::fmt::Write;
 
 pub const MOST_STEPS: u64 = 1_000_000;
@@ -46,6 +46,20 @@ pub struct Answer {
     pub zero: bool,
     /// The last reading of the clock.
     pub clock: f64,
+    pub way: Way,
+}
+
+/// What happened on the way, by which a comparison knows what it has shown.
+#[derive(Clone, Copy, Default)]
+pub struct Way {
+    /// How many timers started, and for how many of them a read, an inhibitor or a capacity had kept tokens waiting.
+    pub started: u64,
+    pub waited: u64,
+    /// Whether a capacity alone kept some transition from running at some step.
+    pub held_back: bool,
+    /// How often a propensity came to 0 or left it, and how often a step was rounded and the one before it was not, or the other way about.
+    pub turned: u64,
+    pub marked: u64,
 }
 
 // ---- the second player
@@ -119,19 +133,32 @@ fn puts(m: &Move) -> impl Iterator<Item = (usize, i64)> + '_ {
     })
 }
 
-pub fn enabled(net: &Net, counts: &[i64], m: &Move) -> bool {
-    let arcs = m.arcs.iter().all(|a| match *a {
+/// Do its takes, reads and inhibitors let it run?
+fn open(counts: &[i64], m: &Move) -> bool {
+    m.arcs.iter().all(|a| match *a {
         Arc::Take { place, weight, .. } | Arc::Read { place, weight } => amount(weight) <= counts[place],
         Arc::Block { place, weight } => counts[place] < amount(weight),
         Arc::Put { .. } => true,
-    });
-    let room = (0..counts.len()).all(|p| {
-        let put: i64 = puts(m).filter(|&(q, _)| q == p).map(|(_, w)| w).sum();
-        let taken: i64 = takes(m).filter(|&(q, ..)| q == p).map(|(_, w, _)| w).sum();
-        let capacity = net.places[p].capacity;
-        capacity == 0 || put <= taken || counts[p] + (put - taken) <= capacity
-    });
-    arcs && room
+    })
+}
+
+/// By how much it puts more into place p than it takes from it.
+fn net_change(m: &Move, p: usize) -> i64 {
+    let put: i64 = puts(m).filter(|&(q, _)| q == p).map(|(_, w)| w).sum();
+    let taken: i64 = takes(m).filter(|&(q, ..)| q == p).map(|(_, w, _)| w).sum();
+    put - taken
+}
+
+/// Do the capacities?
+fn has_room(net: &Net, counts: &[i64], m: &Move) -> bool {
+    (0..counts.len()).filter(|&p| net.places[p].capacity > 0).all(|p| {
+        let change = net_change(m, p);
+        change <= 0 || counts[p] + change <= net.places[p].capacity
+    })
+}
+
+pub fn enabled(net: &Net, counts: &[i64], m: &Move) -> bool {
+    open(counts, m) && has_room(net, counts, m)
 }
 
 /// The ways to choose w of m tokens: multiplied and divided factor by factor.
@@ -166,7 +193,7 @@ fn fits(xs: &[f64]) -> bool {
 }
 
 fn turned_down(case: &Case, number: u64, cells: Option<Vec<f64>>) -> Answer {
-    Answer { end: End::Refused(number), steps: 0, settled: 0, peak: 0, rounded: 0, state: case.state, cells, zero: false, clock: 0.0 }
+    Answer { end: End::Refused(number), steps: 0, settled: 0, peak: 0, rounded: 0, state: case.state, cells, zero: false, clock: 0.0, way: Way::default() }
 }
 
 /// What document 01 says of the case.
@@ -202,6 +229,7 @@ fn run(case: &Case) -> Result<Answer, u64> {
     let mut rng = Xoshiro256::from_state(case.state);
     let mut shown: Vec<Vec<i64>> = vec![];
     let (mut clock, mut steps, mut rounded, mut started, mut zero) = (0.0, 0, 0, 0, false);
+    let (mut way, mut waiting, mut raced, mut marked) = (Way::default(), vec![false; net.moves.len()], vec![false; net.moves.len()], false);
     let read = |clock: f64, counts: &[i64], shown: &mut Vec<Vec<i64>>| {
         while shown.len() < xs.len() && xs[shown.len()] <= clock {
             shown.push(counts.to_vec());
@@ -228,6 +256,7 @@ fn run(case: &Case) -> Result<Answer, u64> {
                     takes(m).for_each(|(p, w, _)| counts[p] -= w);
                     timers.push(Timer { at: clock + m.delay, number: started, who, taken: takes(m).map(|(_, w, _)| w).sum() });
                     started += 1;
+                    way.waited += std::mem::take(&mut waiting[who]) as u64;
                     moment(&counts, &timers, &mut peak);
                 }
             }
@@ -237,7 +266,16 @@ fn run(case: &Case) -> Result<Answer, u64> {
         }
         let a: Vec<f64> = net.moves.iter().map(|m| propensity(net, &counts, m)).collect();
         let a0 = a.iter().fold(0.0, |sum, x| sum + x);
-        rounded += a.iter().zip(&net.moves).any(|(&a, m)| a > 0.0 && inexact(&counts, m)) as u64;
+        let inexact = a.iter().zip(&net.moves).any(|(&a, m)| a > 0.0 && inexact(&counts, m));
+        rounded += inexact as u64;
+        for (j, m) in net.moves.iter().enumerate() {
+            waiting[j] = m.delay > 0.0 && takes(m).all(|(p, w, _)| w <= counts[p]);
+            way.held_back |= open(&counts, m) && !has_room(net, &counts, m);
+            way.turned += (raced[j] != (a[j] > 0.0)) as u64;
+            raced[j] = a[j] > 0.0;
+        }
+        way.marked += (inexact != marked && steps > 1) as u64;
+        marked = inexact;
         let race = if a0 > 0.0 { clock + -plog(1.0 - rng.uniform()) / a0 } else { f64::INFINITY };
         let first = (0..timers.len()).min_by(|&i, &k| {
             let (x, y) = (&timers[i], &timers[k]);
@@ -283,6 +321,7 @@ fn run(case: &Case) -> Result<Answer, u64> {
         cells: Some((0..net.places.len()).flat_map(|p| shown.iter().map(move |c| c[p] as f64)).collect()),
         zero,
         clock,
+        way: Way { started, ..way },
     })
 }
 
@@ -1009,7 +1048,7 @@ fn scaled(end: f64) -> Vec<f64> {
     (0..64).map(|i| i as f64 / 63.0 * end).collect()
 }
 
-/// Three nets, small to large, and one that takes two tokens at a time, each with a run of some thousand steps.
+/// Four nets, small to large, and one that takes two tokens at a time, each with a run of some thousand steps.
 pub fn measured() -> Vec<(&'static str, Case)> {
     let small = net(&[1_000_000, 0], vec![(1.0, 0.0, vec![take(0, 1), put(1, 1)])]);
     let ring = |j: usize| if j % 4 == 3 { (0.0, 0.125, vec![take(j % 8, 1), put((j + 3) % 8, 1)]) } else { (1.0, 0.0, vec![take(j % 8, 1), put((j + 1) % 8, 1)]) };
@@ -1023,10 +1062,21 @@ pub fn measured() -> Vec<(&'static str, Case)> {
         (2f64.powi(-20), 0.0, arcs)
     };
     let large = net(&[50; 32], (0..64).map(wide).collect());
+    // one or two takes and one put each, of as many tokens as are taken
+    let thin = |j: usize| {
+        let mut arcs = vec![take(j % 32, 1)];
+        if j % 2 == 1 {
+            arcs.push(take((7 * j + 3) % 32, 1));
+        }
+        arcs.push(put((5 * j + 11) % 32, arcs.len() as i64));
+        (if j % 2 == 1 { 0.0625 } else { 1.0 }, 0.0, arcs)
+    };
+    let sparse = net(&[20; 32], (0..64).map(thin).collect());
     let pairs = net(&[200; 8], (0..16).map(|j| (2f64.powi(-7), 0.0, vec![take(j % 8, 2), put((j + 1) % 8, 2)])).collect());
     vec![
         ("2 places, 1 transition", case(small, MOST_STEPS, &scaled(0.01))),
         ("8 places, 16 transitions, timers", case(middle, MOST_STEPS, &scaled(40.0))),
+        ("32 places, 64 transitions, sparse", case(sparse, MOST_STEPS, &scaled(20.0))),
         ("32 places, 64 transitions, 16 arcs", case(large, MOST_STEPS, &scaled(20.0))),
         ("8 places, 16 transitions, weight 2", case(pairs, MOST_STEPS, &scaled(2.0))),
     ]
@@ -1051,4 +1101,14 @@ pub fn measured_beyond() -> Vec<(&'static str, Case)> {
         ("8 places, weight 16, of 60", case(ring(8, 16, 60, 16, -40), MOST_STEPS, &scaled(2.0))),
         ("2 places, weight 2, of 2 * 10^8", case(ring(2, 2, 200_000_000, 2, -50), MOST_STEPS, &scaled(200.0))),
     ]
+}
+
+/// Nets of the folder `nets/`, each with the first path of its run line: a soak load of a day, a short load with timers, and two published soak nets.
+pub fn measured_files(folder: &str) -> Vec<(&'static str, Case)> {
+    let read = |name: &'static str| {
+        let (net, samples, seed, horizon) = nets::read(&std::fs::read_to_string(format!("{folder}/{name}")).unwrap());
+        let instants = (0..samples).map(|i| i as f64 * (horizon / (samples - 1) as f64)).collect();
+        (name, Case { net, state: splitmix64(if seed == 0 { 1 } else { seed }), limit: MOST_STEPS, instants })
+    };
+    ["soak.net", "attach.net", "soak-7-32-16.net", "soak-7-4-6.net"].into_iter().map(read).collect()
 }

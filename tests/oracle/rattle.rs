@@ -1,4 +1,5 @@
 //! The proved functions, as crates/c_face exports them. A slice is a pointer and a length.
+use crate::draw::Draw;
 use crate::nets::Net;
 
 mod c {
@@ -33,7 +34,7 @@ mod c {
 
     /// Declares functions that are lent the twelve fields of a net in front of their other arguments.
     macro_rules! lent {
-        ($(fn $name:ident($($argument:ident: $is:ty),*);)*) => {
+        ($(fn $name:ident($($argument:ident: $is:ty),*) $(-> $told:ty)?;)*) => {
             extern "C" {
                 $(pub fn $name(
                     places: usize,
@@ -49,7 +50,7 @@ mod c {
                     place: *const [usize; 1024],
                     weight: *const [u64; 1024],
                     $($argument: $is),*
-                );)*
+                ) $(-> $told)?;)*
             }
         };
     }
@@ -60,6 +61,7 @@ mod c {
         fn cild_reason(out: *mut u8, bytes: usize, told: *mut [u64; 2]);
         fn cild_game(sides: *const u64, n: usize, named: u64, count: u64, turns: u64, told: *mut [u64; 3]);
         fn cild_balance(weights: *const u64, n: usize, told: *mut [u64; 2]);
+        fn cild_index(masks: *mut [u64; 32]) -> u64;
     }
 }
 
@@ -189,6 +191,29 @@ impl Fields {
     }
 }
 
+impl Fields {
+    /// Anything in what is not looked at: past the places, the transitions, the arcs of a transition and the bytes of a label.
+    pub fn littered(mut self, draw: &mut Draw) -> Fields {
+        for p in 0..32 {
+            let used = if p < self.places { self.lengths[p].min(16) } else { 0 };
+            self.label[16 * p + used..16 * p + 16].iter_mut().for_each(|b| *b = draw.below(256) as u8);
+        }
+        for p in self.places..32 {
+            (self.initial[p], self.capacity[p], self.lengths[p]) = (draw.any_length(), draw.any_length(), draw.any_length() as usize);
+        }
+        for j in 0..64 {
+            let used = if j < self.transitions { self.arcs[j].min(16) } else { 0 };
+            for slot in 16 * j + used..16 * j + 16 {
+                (self.kind[slot], self.place[slot], self.weight[slot]) = (draw.below(6), draw.below(40) as usize, draw.any_length());
+            }
+        }
+        for j in self.transitions..64 {
+            (self.rate[j], self.delay[j], self.arcs[j]) = (draw.float(), draw.float(), draw.below(20) as usize);
+        }
+        self
+    }
+}
+
 /// Calls a function with the fields of a net in front of its other arguments.
 macro_rules! lend {
     ($function:expr, $f:expr, $($more:expr),*) => {
@@ -261,6 +286,11 @@ pub fn balance(f: &Fields, weights: &[u64]) -> [u64; 2] {
     told
 }
 
+/// A refusal's number, or 0; bit j of mask p stands for transition j at place p.
+pub fn index(f: &Fields, masks: &mut [u64; 32]) -> u64 {
+    lend!(c::cild_index, f, masks)
+}
+
 /// Normal draws into out; how many before one was refused.
 pub fn normals(state: &mut [u64; 4], spare: &mut f64, waiting: &mut bool, out: &mut [f64]) -> usize {
     unsafe { c::cild_normals(state, spare, waiting, out.as_mut_ptr(), out.len()) }
@@ -311,8 +341,8 @@ pub struct TimerSlots {
 
 impl TimerSlots {
     /// Anything in each: times of which many are equal, some no numbers and some infinite.
-    pub fn drawn(draw: &mut crate::draw::Draw) -> TimerSlots {
-        let time = |draw: &mut crate::draw::Draw| match draw.below(40) {
+    pub fn drawn(draw: &mut Draw) -> TimerSlots {
+        let time = |draw: &mut Draw| match draw.below(40) {
             0 => f64::NAN,
             1 => f64::INFINITY,
             2 => -0.0,

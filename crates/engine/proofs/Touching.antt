@@ -1,7 +1,7 @@
 -- What a change of one count leaves as it was. A slot's side of its threshold decides whether it is open, so a transition none of whose thresholds lies between
 -- the two counts is enabled at both or at neither; and where no kinetic input is on the place, the ways stay. A table of guards has the words of the others, and
--- the words of several changes unite. Assumes nothing.
-use Prim.Native.Nat.{ℕ, zero, suc, _+_, _-_, _*_, _/_, _^_, _≤_, _<_}
+-- the words of several changes unite. In them are only transitions that are listed for a place whose count is changed. Assumes nothing.
+use Prim.Native.Nat.{ℕ, zero, suc, _+_, _-_, _*_, _/_, _^_, _≤_, _<_, min}
 use mathlib.Core.Path.{_≡_, refl, sym, ap, ap₂, _∙_, subst, subst⁻¹}
 use mathlib.Core.Bool.{Bool, true, false, _&&_, _||_, not, false≢true}
 use mathlib.Core.List.{List, [], _∷_}
@@ -17,22 +17,23 @@ use Rattle.words.specs.Bits.{bit}
 use Rattle.words.proofs.Bits.{bit-none, bit-or}
 use Rattle.net.specs.declared.Net.{Net as NetRecord}
 use Rattle.net.specs.Net.{Take, Transition, Net, Marking, pick, amount, held, moved, takenBy}
+use Rattle.net.specs.Record.{lent}
 use Rattle.net.specs.Readable as Record
 use Rattle.net.specs.Readable.{Slot, slotAt, slots, slotsOf, takesOf, arcsOf, isPut, isRead, isBlock, placesFrom, transitionsFrom, readable}
-use Rattle.net.proofs.Lengths.{transitions-length}
+use Rattle.net.proofs.Lengths.{places-length, transitions-length}
 use Rattle.rules.specs.Enabled.{enabled}
 use Rattle.rules.specs.Propensity.{ways, factored}
 use Rattle.rules.specs.Exact.{exactWays, someInexact}
 use Rattle.rules.specs.Moves.{withoutArcs, transition}
 use Rattle.rules.specs.Demand3.{takesFrom}
-use Rattle.rules.specs.Index.{on, capacityOf, raises, dependsOn, listed}
+use Rattle.rules.specs.Index.{on, capacityOf, raises, dependsOn, listed, someBelow}
 use Rattle.rules.proofs.Order.{neither}
 use Rattle.engine.specs.Engine.{AtMost, Tidy, marking, Counts}
 use Rattle.engine.specs.Limits.{slotOpen, noLimit, roomLimit, bound, arcLimit, limitAt}
-use Rattle.engine.specs.Guards.{threshold, kineticOn, Guards, Quiet, crossing, Told}
+use Rattle.engine.specs.Guards.{threshold, kineticOn, Guards, Quiet, crossing, Listed, Tells, Told}
 use Rattle.engine.proofs.Arcs.{on-bool}
 use Rattle.engine.proofs.Limits.{openFrom, enabledAt, open-all}
-use Rattle.engine.proofs.Marks.{counts-set}
+use Rattle.engine.proofs.Marks.{takes, puts, counts-set}
 
 -- ---- tests
 
@@ -42,6 +43,9 @@ first-true a b e = ap (λ (x : Bool). x || b) e
 second-true : (a b : Bool) → b ≡ true → (a || b) ≡ true
 second-true true b e = refl
 second-true false b e = e
+
+first-of : {x : Bool} (y z w : Bool) → x ≡ true → (x || y || z || w) ≡ true
+first-of y z w e = rw e
 
 either : {P : Type 0} (a b : Bool) → (a ≡ true → P) → (b ≡ true → P) → (a || b) ≡ true → P
 either true b f g e = f refl
@@ -272,15 +276,12 @@ module _ (n : NetRecord) (s : Tidy n) (j i : ℕ) (h : j < n .transitions) (l : 
       ∙ on-bool (isPut k)
       (λ e. last (takesFrom p (t .takes)) (on p (t .reads)) (on p (t .blocks)) (by-room e u))
       (λ e. on-bool (leb k 1)
-      (λ f. first (on p (t .reads)) (on p (t .blocks)) (ltb 0 (capacityOf (readable n) p) && raises p t) (by-take f))
+      (λ f. first-of (on p (t .reads)) (on p (t .blocks)) (ltb 0 (capacityOf (readable n) p) && raises p t) (by-take f))
       (λ f. on-bool (isRead k)
       (λ g. second (takesFrom p (t .takes)) (on p (t .blocks)) (ltb 0 (capacityOf (readable n) p) && raises p t) (by-arc isRead g))
       (λ g. third (takesFrom p (t .takes)) (on p (t .reads)) (ltb 0 (capacityOf (readable n) p) && raises p t)
       (by-arc isBlock (le-leb 4 k (blocks k (eqb-false k 2 e) (leb-false k 1 f) (eqb-false k 3 g)))))))
     where
-      first : {x : Bool} (y z w : Bool) → x ≡ true → (x || y || z || w) ≡ true
-      first y z w e = rw e
-
       second : {y : Bool} (x z w : Bool) → y ≡ true → (x || y || z || w) ≡ true
       second true z w e = refl
       second false z w e = rw e
@@ -298,6 +299,72 @@ module _ (n : NetRecord) (s : Tidy n) (j i : ℕ) (h : j < n .transitions) (l : 
 
       blocks : (k : ℕ) → (k ≡ 2 → ⊥) → 1 < k → (k ≡ 3 → ⊥) → 4 ≤ k
       blocks k d x y = omega arith
+
+-- ---- words of listed transitions
+
+some-below : (f : ℕ → Bool) (k p : ℕ) → p < k → f p ≡ true → someBelow f k ≡ true
+some-below f zero p h e = absurd (not-suc-le-zero h)
+some-below f (suc k) p h e =
+    on-bool (eqb p k)
+    (λ d. second-true (someBelow f k) (f k) (subst (λ (q : ℕ). f q ≡ true) (eqb-true p k d) e))
+    (λ d. first-true (someBelow f k) (f k) (some-below f k p (before p k h (eqb-false p k d)) e))
+  where
+    before : (p k : ℕ) → p < suc k → (p ≡ k → ⊥) → p < k
+    before p k h d = omega arith
+
+listed-one : (n : NetRecord) (touched : ℕ → Bool) (p : ℕ) → p < n .places → touched p ≡ true → (word : ℕ)
+    → ((j : ℕ) → bit word j ≡ true → listed (readable n) p j ≡ true) → Listed (readable n) touched word
+listed-one n touched p i hit word f j b =
+    some-below (λ (q : ℕ). touched q && listed (readable n) q j) (length (readable n .places)) p (omega (arith, places-length n)) (ap₂ _&&_ hit (f j b))
+
+listed-none : (n : Net) (touched : ℕ → Bool) → Listed n touched 0
+listed-none n touched j b = absurd (false≢true (sym (bit-none j) ∙ b))
+
+listed-more : (n : Net) (touched : ℕ → Bool) (a b : ℕ) → Listed n touched a → Listed n touched b → Listed n touched (bitOr a b)
+listed-more n touched a b f g j e = either (bit a j) (bit b j) (f j) (g j) (sym (bit-or a b j) ∙ e)
+
+kinetic-takes : (p : ℕ) (ks : List Take) → kineticOn p ks ≡ true → takesFrom p ks ≡ true
+kinetic-takes p [] e = e
+kinetic-takes p (k ∷ ks) e =
+    either (k .kinetic && eqb (k .place) p) (kineticOn p ks)
+    (λ d. first-true (eqb (k .place) p) (takesFrom p ks) (and-last (k .kinetic) (eqb (k .place) p) d))
+    (λ d. second-true (eqb (k .place) p) (takesFrom p ks) (kinetic-takes p ks d))
+    e
+
+takes-listed : (n : Net) (q i : ℕ) → takesFrom q (transition n i .takes) ≡ true → listed n q i ≡ true
+takes-listed n q i e =
+    let this = transition n i in
+    first-of (on q (this .reads)) (on q (this .blocks)) (ltb 0 (capacityOf n q) && raises q this) e
+
+-- slot a is one of transition j, which so takes from its place where the slot takes something, and puts there where it puts something
+module _ (arcs k p w : List ℕ) (j a : ℕ) (low : 16 * j ≤ a) (h : a < 16 * j + getD arcs j 0) where
+  abbrev all : List Slot
+  all = slots k p w (16 * j) (getD arcs j 0)
+
+  pub take-touches : (count x : ℕ) → 0 < x → x ≡ min count (takes (getD k a 0) (getD w a 0)) → takesFrom (getD p a 0) (takesOf all) ≡ true
+  take-touches count x some e =
+      among-slots k p w a (λ (y : ℕ). leb y 1) (λ (q : ℕ) (ls : List Slot). takesFrom q (takesOf ls)) takes-here takes-there (getD arcs j 0) (16 * j) low h
+      (on-bool (leb (getD k a 0) 1)
+      (λ d. d)
+      (λ d. let z : takes (getD k a 0) (getD w a 0) ≡ 0 = ap (λ (b : Bool). pick b (amount (getD w a 0)) 0) d in absurd (omega arith)))
+
+  put-slot : isPut (getD k a 0) ≡ true → on (getD p a 0) (arcsOf isPut all) ≡ true
+  put-slot e =
+      among-slots k p w a isPut (λ (q : ℕ) (ls : List Slot). on q (arcsOf isPut ls)) (arcs-here isPut) (arcs-there isPut) (getD arcs j 0) (16 * j) low h e
+
+  pub put-touches : (x : ℕ) → 0 < x → x ≡ puts (getD k a 0) (getD w a 0) → on (getD p a 0) (arcsOf isPut all) ≡ true
+  put-touches x some e =
+      put-slot
+      (on-bool (isPut (getD k a 0))
+      (λ d. d)
+      (λ d. let z : puts (getD k a 0) (getD w a 0) ≡ 0 = ap (λ (b : Bool). pick b (amount (getD w a 0)) 0) d in absurd (omega arith)))
+
+  -- a transition that fires does one of both
+  pub fire-takes : (count x : ℕ) → 0 < x → x ≡ min count (takes (getD k a 0) (getD w a 0)) → (takesFrom (getD p a 0) (takesOf all) || on (getD p a 0) (arcsOf isPut all)) ≡ true
+  fire-takes count x some e = first-true (takesFrom (getD p a 0) (takesOf all)) (on (getD p a 0) (arcsOf isPut all)) (take-touches count x some e)
+
+  pub fire-puts : isPut (getD k a 0) ≡ true → (takesFrom (getD p a 0) (takesOf all) || on (getD p a 0) (arcsOf isPut all)) ≡ true
+  fire-puts e = second-true (takesFrom (getD p a 0) (takesOf all)) (on (getD p a 0) (arcsOf isPut all)) (put-slot e)
 
 -- ---- one change of the counts, of place p, between `low` and `high`
 
@@ -381,6 +448,10 @@ module _ (n : NetRecord) (s : Tidy n) (guards : List ℕ) (g : Guards n guards) 
       absurd (false≢true (sym b ∙ g .kinetic p j inside ∙ ap (λ (y : ℕ). kineticOn y (transition (readable n) j .takes)) (sym z) ∙ e)))
       (λ f. other q (eqb-false q p f))
 
+  -- what is crossed is listed for the place
+  crossed-listed : (j : ℕ) → bit x j ≡ true → listed (readable n) p j ≡ true
+  crossed-listed j b = crossing-any guards p low high j (g .among p j inside) (λ e. sym (g .lists p j inside) ∙ e) (sym (w j) ∙ b)
+
   pub quiet-set : Quiet (readable n) m m′ (getD guards p 0) x
   quiet-set =
       record {
@@ -393,9 +464,17 @@ module _ (n : NetRecord) (s : Tidy n) (guards : List ℕ) (g : Guards n guards) 
         ways = λ j h b y. sym (factored-same m m′ (transition (readable n) j .takes) y (kinetic-stays j b));
         exact = λ j h b. sym (inexact-same m m′ (transition (readable n) j .takes) (kinetic-stays j b));
         moves = λ j b. in-net (readable n) j (past-takes (readable n) j p) (sym (g .kinetic p j inside) ∙ b);
-        crosses = λ j b. in-net (readable n) j (past-listed (readable n) j p)
-            (crossing-any guards p low high j (g .among p j inside) (λ e. sym (g .lists p j inside) ∙ e) (sym (w j) ∙ b));
+        crosses = λ j b. in-net (readable n) j (past-listed (readable n) j p) (crossed-listed j b);
       }
+
+  -- so are the transitions with a kinetic input on it
+  tells-set : (touches : ℕ → Transition → Bool) (j : ℕ) → touches p (Record.transition n j) ≡ true → Tells touches n j m m′ (getD guards p 0) x
+  tells-set touches this hit =
+      let touched : ℕ → Bool = λ q. touches q (Record.transition n this) in (
+        quiet-set,
+        listed-one n touched p i hit (getD guards p 0) (λ j b. takes-listed (readable n) p j (kinetic-takes p (transition (readable n) j .takes) (sym (g .kinetic p j inside) ∙ b))),
+        listed-one n touched p i hit x crossed-listed,
+      )
 
 -- ---- several changes
 
@@ -419,29 +498,45 @@ quiet-more n m m′ m″ a b c d f g =
       crosses = λ j e. either (bit b j) (bit d j) (f .crosses j) (g .crosses j) (sym (bit-or b d j) ∙ e);
     }
 
+module _ (touches : ℕ → Transition → Bool) (n : NetRecord) (j : ℕ) where
+  abbrev touched : ℕ → Bool
+  touched p = touches p (Record.transition n j)
+
+  tells-none : (m : Marking) → Tells touches n j m m 0 0
+  tells-none m = (quiet-none (readable n) m, listed-none (readable n) touched, listed-none (readable n) touched)
+
+  tells-more : (m m′ m″ : Marking) (a b c d : ℕ) → Tells touches n j m m′ a b → Tells touches n j m′ m″ c d → Tells touches n j m m″ (bitOr a c) (bitOr b d)
+  tells-more m m′ m″ a b c d f g =
+      (quiet-more (readable n) m m′ m″ a b c d (f .0) (g .0), listed-more (readable n) touched a c (f .1) (g .1), listed-more (readable n) touched b d (f .2) (g .2))
+
 -- ---- as a loop over slots tells it
 
-module _ (places : ℕ) (arcs kind place weight guards before : List ℕ) where
-  pub told-none : Told places arcs kind place weight guards before before 0 0
-  told-none = λ transitions initial capacity rate delay s g. quiet-none _ _
+module _ (touches : ℕ → Transition → Bool) (j places : ℕ) (arcs kind place weight guards before : List ℕ) where
+  -- what it tells of the counts now
+  abbrev So : List ℕ → ℕ → ℕ → Type 0
+  So counts moved crossed = Told touches j places arcs kind place weight guards before counts moved crossed
 
-  pub told-same : (counts : List ℕ) (moved crossed : ℕ) → Told places arcs kind place weight guards before counts moved crossed
-      → (counts′ : List ℕ) (moved′ crossed′ : ℕ) → counts′ ≡ counts → moved′ ≡ moved → crossed′ ≡ crossed
-      → Told places arcs kind place weight guards before counts′ moved′ crossed′
+  pub told-none : So before 0 0
+  told-none = λ transitions initial capacity rate delay s g. tells-none touches (lent places transitions initial capacity rate delay arcs kind place weight) j (marking places before)
+
+  pub told-same : (counts : List ℕ) (moved crossed : ℕ) → So counts moved crossed
+      → (counts′ : List ℕ) (moved′ crossed′ : ℕ) → counts′ ≡ counts → moved′ ≡ moved → crossed′ ≡ crossed → So counts′ moved′ crossed′
   told-same counts moved crossed told counts′ moved′ crossed′ ec em ex =
-      subst⁻¹ (λ (y : ℕ). Told places arcs kind place weight guards before counts′ moved′ y) ex
-      (subst⁻¹ (λ (y : ℕ). Told places arcs kind place weight guards before counts′ y crossed) em
-      (subst⁻¹ (λ (y : List ℕ). Told places arcs kind place weight guards before y moved crossed) ec told))
+      subst⁻¹ (λ (y : ℕ). So counts′ moved′ y) ex (subst⁻¹ (λ (y : ℕ). So counts′ y crossed) em (subst⁻¹ (λ (y : List ℕ). So y moved crossed) ec told))
 
-  -- the count of place p becomes d
-  pub told-more : (counts : List ℕ) (moved crossed : ℕ) → Told places arcs kind place weight guards before counts moved crossed → Counts counts
-      → (p d low high x : ℕ) → p < places → low ≤ getD counts p 0 → low ≤ d → getD counts p 0 ≤ high → d ≤ high → high ≤ 2 ^ 53
+  -- the count of place p, which the transition touches, becomes d
+  pub told-more : (counts : List ℕ) (moved crossed : ℕ) → So counts moved crossed → Counts counts → (p d low high x : ℕ)
+      → ((transitions : ℕ) (initial capacity : List ℕ) (rate delay : List Float)
+      → touches p (Record.transition (lent places transitions initial capacity rate delay arcs kind place weight) j) ≡ true)
+      → p < places → low ≤ getD counts p 0 → low ≤ d → getD counts p 0 ≤ high → d ≤ high → high ≤ 2 ^ 53
       → ((j : ℕ) → bit x j ≡ crossing guards p low high j)
       → (counts′ : List ℕ) (moved′ crossed′ : ℕ) → counts′ ≡ set counts p d → moved′ ≡ bitOr moved (getD guards p 0) → crossed′ ≡ bitOr crossed x
-      → Told places arcs kind place weight guards before counts′ moved′ crossed′
-  told-more counts moved crossed told good p d low high x i lc ld ch dh small w counts′ moved′ crossed′ ec em ex =
+      → So counts′ moved′ crossed′
+  told-more counts moved crossed told good p d low high x hit i lc ld ch dh small w counts′ moved′ crossed′ ec em ex =
       told-same (set counts p d) (bitOr moved (getD guards p 0)) (bitOr crossed x)
       (λ transitions initial capacity rate delay s g.
-      quiet-more _ _ _ _ moved crossed (getD guards p 0) x (told transitions initial capacity rate delay s g)
-      (quiet-set _ s guards g counts good p d low high x i lc ld ch dh small w))
+      let n = lent places transitions initial capacity rate delay arcs kind place weight in
+      tells-more touches n j (marking places before) (marking places counts) (marking places (set counts p d)) moved crossed (getD guards p 0) x
+      (told transitions initial capacity rate delay s g)
+      (tells-set n s guards g counts good p d low high x i lc ld ch dh small w touches j (hit transitions initial capacity rate delay)))
       counts′ moved′ crossed′ ec em ex

@@ -11,14 +11,16 @@ use lib.ListN.{length, getD}
 use lib.Ieee.{Float}
 use Rattle.words.specs.Bits.{bit}
 use Rattle.net.specs.declared.Net.{Net as NetRecord}
-use Rattle.net.specs.Net.{Take, Net, Marking, pick}
+use Rattle.net.specs.Net.{Take, Transition, Net, Marking, pick}
+use Rattle.net.specs.Readable as Record
 use Rattle.net.specs.Readable.{readable}
 use Rattle.net.specs.Record.{lent}
 use Rattle.rules.specs.Enabled.{enabled}
 use Rattle.rules.specs.Propensity.{factored}
 use Rattle.rules.specs.Exact.{someInexact}
 use Rattle.rules.specs.Moves.{transition}
-use Rattle.rules.specs.Index.{listed}
+use Rattle.rules.specs.Demand3.{takesFrom}
+use Rattle.rules.specs.Index.{on, listed, someBelow}
 use Rattle.engine.specs.Engine.{Tidy, marking}
 use Rattle.engine.specs.Limits.{limitAt}
 
@@ -59,10 +61,33 @@ crossing guards p low high j =
     (eqb low 0 && bit (getD guards (32 + p) 0) j)
     || (leb (getD guards (96 + p) 0) high && ltb low (getD guards (128 + p) 0) && bit (getD guards (64 + p) 0) j)
 
--- What a function that moves tokens from `before` to `after` tells of every net with the fields that it is lent, if the table is that net's.
-abbrev pub Told : ℕ → List ℕ → List ℕ → List ℕ → List ℕ → List ℕ → List ℕ → List ℕ → ℕ → ℕ → Type 0
-Told places arcs kind place weight guards before after moved crossed =
+-- Order 5: "After a firing, start or completion only the listed transitions of changed places are worked out again." By ruling 11 "changed places" may be all
+-- places with a take or put of the transition: with a take where it starts, with a put where it completes, with either where it fires.
+abbrev pub takesOn : ℕ → Transition → Bool
+takesOn p t = takesFrom p (t .takes)
+
+abbrev pub putsOn : ℕ → Transition → Bool
+putsOn p t = on p (t .puts)
+
+abbrev pub movesOn : ℕ → Transition → Bool
+movesOn p t = takesOn p t || putsOn p t
+
+-- every transition of the word is listed for a place of the net that is touched
+abbrev pub Listed : Net → (ℕ → Bool) → ℕ → Type 0
+Listed n touched word = (i : ℕ) → bit word i ≡ true → someBelow (λ (p : ℕ). touched p && listed n p i) (length (n .places)) ≡ true
+
+-- What is told of transition j of the net n, which moves tokens from the counts m to m′: outside the words nothing changes, and in them are only transitions
+-- that are listed for a place which j touches.
+abbrev pub Tells : (ℕ → Transition → Bool) → NetRecord → ℕ → Marking → Marking → ℕ → ℕ → Type 0
+Tells touches n j m m′ moved crossed =
+    Quiet (readable n) m m′ moved crossed
+    × Listed (readable n) (λ (p : ℕ). touches p (Record.transition n j)) moved
+    × Listed (readable n) (λ (p : ℕ). touches p (Record.transition n j)) crossed
+
+-- A function that moves tokens tells it of every net with the fields that it is lent, if the table is that net's.
+abbrev pub Told : (ℕ → Transition → Bool) → ℕ → ℕ → List ℕ → List ℕ → List ℕ → List ℕ → List ℕ → List ℕ → List ℕ → ℕ → ℕ → Type 0
+Told touches j places arcs kind place weight guards before after moved crossed =
     (transitions : ℕ) (initial capacity : List ℕ) (rate delay : List Float)
     → Tidy (lent places transitions initial capacity rate delay arcs kind place weight)
     → Guards (lent places transitions initial capacity rate delay arcs kind place weight) guards
-    → Quiet (readable (lent places transitions initial capacity rate delay arcs kind place weight)) (marking places before) (marking places after) moved crossed
+    → Tells touches (lent places transitions initial capacity rate delay arcs kind place weight) j (marking places before) (marking places after) moved crossed

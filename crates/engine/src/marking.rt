@@ -143,7 +143,7 @@ pub fn take<'a>(
         (Record.takesOf (Record.slots (now (kind .entry)) (now (place .entry)) (now (weight .entry)) (16 * j) (getD (now (arcs .entry)) j 0))))
         × Engine.Counts (now (counts .exit)) × (r .less ≤ 16_000_000)
         × (Moments.sumOf (Engine.marking places (now (counts .entry))) ≡ Moments.sumOf (Engine.marking places (now (counts .exit))) + r .less)
-        × Guards.Told places (now (arcs .entry)) (now (kind .entry)) (now (place .entry)) (now (weight .entry)) (now (guards .entry))
+        × Guards.Told Guards.takesOn j places (now (arcs .entry)) (now (kind .entry)) (now (place .entry)) (now (weight .entry)) (now (guards .entry))
         (now (counts .entry)) (now (counts .exit)) (r .moved) (r .crossed) ⌝ }
 {
     let from = 16 * j;
@@ -208,7 +208,7 @@ pub fn put<'a>(
         × Engine.Counts (now (counts .exit))
         × (r .fits ≡ true → Moments.sumOf (Engine.marking places (now (counts .exit))) ≡ Moments.sumOf (Engine.marking places (now (counts .entry))) + r .more)
         × (r .more ≤ 16_000_000)
-        × (r .fits ≡ true → Guards.Told places (now (arcs .entry)) (now (kind .entry)) (now (place .entry)) (now (weight .entry)) (now (guards .entry))
+        × (r .fits ≡ true → Guards.Told Guards.putsOn j places (now (arcs .entry)) (now (kind .entry)) (now (place .entry)) (now (weight .entry)) (now (guards .entry))
         (now (counts .entry)) (now (counts .exit)) (r .moved) (r .crossed)) ⌝ }
 {
     let from = 16 * j;
@@ -276,7 +276,7 @@ pub fn fire<'a>(
         × Engine.Counts (now (counts .exit))
         × (r .fits ≡ true → Moments.sumOf (Engine.marking places (now (counts .exit))) + r .less ≡ Moments.sumOf (Engine.marking places (now (counts .entry))) + r .more)
         × (r .more ≤ 16_000_000)
-        × (r .fits ≡ true → Guards.Told places (now (arcs .entry)) (now (kind .entry)) (now (place .entry)) (now (weight .entry)) (now (guards .entry))
+        × (r .fits ≡ true → Guards.Told Guards.movesOn j places (now (arcs .entry)) (now (kind .entry)) (now (place .entry)) (now (weight .entry)) (now (guards .entry))
         (now (counts .entry)) (now (counts .exit)) (r .moved) (r .crossed)) ⌝ }
 {
     let from = 16 * j;

@@ -1,5 +1,5 @@
 -- What is left to take and to put comes to the whole (proofs/Firing), and the words hold what it may have changed (proofs/Touching). Assumes nothing.
-use Prim.Native.Nat.{_+_, _-_, _*_, _<_}
+use Prim.Native.Nat.{_+_, _-_, _*_, _≤_, _<_}
 use mathlib.Core.Path.{_≡_, sym, _∙_}
 use mathlib.Core.Bool.{false≢true}
 use mathlib.Core.Logic.{⊎-elim}
@@ -9,18 +9,19 @@ use borrow.Author.Needs.{needs}
 use borrow.Author.Tests.{eq-eqb, ne-eqb}
 use Rattle.net.specs.Readable.{slots}
 use Rattle.engine.specs.Engine.{marking}
-use Rattle.engine.specs.Guards.{Told}
+use Rattle.engine.specs.Guards.{movesOn, Told}
 use Rattle.engine.proofs.Arcs.{amount-most}
 use Rattle.engine.proofs.Marks.{takes-most, set-same}
 use Rattle.engine.proofs.Firing.{firingOf, Firing, firing-none, firing-take, firing-put, firing-stop, firing-all}
-use Rattle.engine.proofs.Touching.{told-none, told-same, told-more}
+use Rattle.engine.proofs.Touching.{fire-takes, fire-puts, told-none, told-same, told-more}
 use Rattle.engine.proofs.marking.fire.Statement.{statement}
 use Rattle.engine.proofs.marking.fire.Tie as tie
 
 abbrev Inv-loop : tie.InvT-loop
 Inv-loop places arcs kind place weight guards counts₀ j from end less₀ more₀ moved₀ crossed₀ a₀ counts less more moved crossed a =
     Firing places kind place weight end (marking places counts₀) (firingOf (marking places counts₀) (slots kind place weight (16 * j) (getD arcs j 0))) counts less more a
-    × Told places arcs kind place weight guards counts₀ counts moved crossed
+    × Told movesOn j places arcs kind place weight guards counts₀ counts moved crossed
+    × (16 * j ≤ a)
 
 abbrev μ-loop : tie.MeasureT-loop
 μ-loop places arcs kind place weight guards counts₀ j from end less₀ more₀ moved₀ crossed₀ a₀ counts less more moved crossed a = end - a
@@ -53,7 +54,8 @@ loop-holds c =
     let s = c .before .args in
     let pre = c .before .pre in (
       firing-none (s .places) (s .kind .now) (s .place .now) (s .weight .now) (s .counts .now) (16 * s .j) (getD (s .arcs .now) (s .j) 0) (pre .5) (pre .6) (pre .2 (s .j)),
-      told-none (s .places) (s .arcs .now) (s .kind .now) (s .place .now) (s .weight .now) (s .guards .now) (s .counts .now),
+      told-none movesOn (s .j) (s .places) (s .arcs .now) (s .kind .now) (s .place .now) (s .weight .now) (s .guards .now) (s .counts .now),
+      omega arith,
     )
 
 mul-p : tie.Need-mul-p Inv-loop μ-loop
@@ -175,22 +177,29 @@ loop-again c =
     (λ w. (
       firing-put _ _ _ _ _ _ _ _ _ _ _ (l .loop .inv .0) (i .loop-test .taken) (s .pre .1) (s .pre .3 (l .loop .a)) (s .pre .4 (l .loop .a))
           (eq-eqb _ 2 (w .0 .taken)) (w .2 .result) (w .2 .ensures) (w .3 .left) _ _ _ (w .6) (w .7) (w .8),
-      told-more _ _ _ _ _ _ _ _ _ _ (l .loop .inv .1) (l .loop .inv .0 .good) p (count + w .2 .result) count (count + w .2 .result) (w .5 .result) (s .pre .3 (l .loop .a))
-          (omega arith) (omega arith) (omega arith) (omega arith) (w .3 .left) (w .5 .ensures) _ _ _ (w .6) (w .9) (w .10),
+      told-more movesOn _ _ _ _ _ _ _ _ _ _ _ (l .loop .inv .1) (l .loop .inv .0 .good) p (count + w .2 .result) count (count + w .2 .result) (w .5 .result)
+          (λ transitions initial capacity rate delay. fire-puts (s .args .arcs .now) (s .args .kind .now) (s .args .place .now) (s .args .weight .now)
+          (s .args .j) (l .loop .a) (l .loop .inv .2) (i .loop-test .taken) (eq-eqb _ 2 (w .0 .taken)))
+          (s .pre .3 (l .loop .a)) (omega arith) (omega arith) (omega arith) (omega arith) (w .3 .left) (w .5 .ensures) _ _ _ (w .6) (w .9) (w .10),
+      omega (arith, l .loop .inv .2),
     ))
     (⊎-elim
     (λ w. (
       firing-take _ _ _ _ _ _ _ _ _ _ _ (l .loop .inv .0) (i .loop-test .taken) (s .pre .1) (s .pre .3 (l .loop .a)) (s .pre .4 (l .loop .a))
           (ne-eqb _ 2 (w .0 .left)) (w .2 .result) (w .2 .ensures) _ _ _ (w .6) (w .7) (w .8),
-      told-more _ _ _ _ _ _ _ _ _ _ (l .loop .inv .1) (l .loop .inv .0 .good) p (count - w .2 .result) (count - w .2 .result) count (w .5 .result) (s .pre .3 (l .loop .a))
-          (omega arith) (omega arith) (omega arith) (omega arith) small (w .5 .ensures) _ _ _ (w .6) (w .9) (w .10),
+      told-more movesOn _ _ _ _ _ _ _ _ _ _ _ (l .loop .inv .1) (l .loop .inv .0 .good) p (count - w .2 .result) (count - w .2 .result) count (w .5 .result)
+          (λ transitions initial capacity rate delay. fire-takes (s .args .arcs .now) (s .args .kind .now) (s .args .place .now) (s .args .weight .now)
+          (s .args .j) (l .loop .a) (l .loop .inv .2) (i .loop-test .taken) count (w .2 .result) (w .3 .taken) (w .2 .ensures))
+          (s .pre .3 (l .loop .a)) (omega arith) (omega arith) (omega arith) (omega arith) small (w .5 .ensures) _ _ _ (w .6) (w .9) (w .10),
+      omega (arith, l .loop .inv .2),
     ))
     (λ w.
     let none : count - w .2 .result ≡ count = omega (arith, w .3 .left) in (
       firing-take _ _ _ _ _ _ _ _ _ _ _ (l .loop .inv .0) (i .loop-test .taken) (s .pre .1) (s .pre .3 (l .loop .a)) (s .pre .4 (l .loop .a))
           (ne-eqb _ 2 (w .0 .left)) (w .2 .result) (w .2 .ensures) _ _ _ (w .4 ∙ sym (set-same (l .loop .counts) p (count - w .2 .result) none))
           (omega (arith, w .3 .left, w .5)) (w .6),
-      told-same _ _ _ _ _ _ _ _ _ _ (l .loop .inv .1) _ _ _ (w .4) (w .7) (w .8),
+      told-same movesOn _ _ _ _ _ _ _ _ _ _ _ (l .loop .inv .1) _ _ _ (w .4) (w .7) (w .8),
+      omega (arith, l .loop .inv .2),
     )))
     (c .if1 .came)
 

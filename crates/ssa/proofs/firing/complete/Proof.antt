@@ -90,7 +90,7 @@ returns c =
       complete-at (net (start r)) (a .counts .now) (a .ats .now) (a .owners .now) (a .ring) (r .remove-first .result) (a .clock) (a .rng .s)
           (x .result) (x .ensures) (others-left r) counts′ true _ (c .before .before .before .before .if1 .taken) (rw fits at (p .ensures .0))
           (λ e. omega (arith, left-less r, p .ensures .2 fits)),
-      (ready r counts′ (p .ensures .1), λ f. p .ensures .4 fits (a .transitions) (a .initial .now) (a .capacity .now) (a .rate .now) (a .delay .now) (start r .pre .0 .tidy) (start r .pre .2)),
+      (ready r counts′ (p .ensures .1), λ f. p .ensures .4 fits (a .transitions) (a .initial .now) (a .capacity .now) (a .rate .now) (a .delay .now) (start r .pre .0 .tidy) (start r .pre .2) .0),
     )
 
 returns-2 : tie.Need-returns-2

@@ -78,7 +78,7 @@ returns c =
           (take (a .transitions) (a .props .now)) (d .uniform .result .value) (some j) (d .uniform .ensures .0) (d .uniform .ensures .1)
           (sym (ap choiceOf (k .chosen .given .1)) ∙ e .choose-by-sums .ensures) j refl (f .before .before .if1 .taken) counts′ _ true (rw fits at (f .fire .ensures .0))
           (λ z. omega (arith, s .pre .3, f .fire .ensures .2 fits)),
-      (ready s counts′ (f .fire .ensures .1), λ z. f .fire .ensures .4 fits (a .transitions) (a .initial .now) (a .capacity .now) (a .rate .now) (a .delay .now) (s .pre .0 .tidy) (s .pre .4)),
+      (ready s counts′ (f .fire .ensures .1), λ z. f .fire .ensures .4 fits (a .transitions) (a .initial .now) (a .capacity .now) (a .rate .now) (a .delay .now) (s .pre .0 .tidy) (s .pre .4) .0),
     )
 
 returns-2 : tie.Need-returns-2

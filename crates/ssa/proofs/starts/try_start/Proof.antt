@@ -87,7 +87,7 @@ returns c =
           },
           one-more-fits x (now (s .args .ats)) (c .before .before .insert .last .0) (now (s .args .owners)) (c .before .before .insert .last .1 .0) (s .pre .2) list,
         ),
-        λ f. k .take .ensures .4 (s .args .transitions) (now (s .args .initial)) (now (s .args .capacity)) (now (s .args .rate)) (now (s .args .delay)) (s .pre .1 .tidy) (s .pre .3),
+        λ f. k .take .ensures .4 (s .args .transitions) (now (s .args .initial)) (now (s .args .capacity)) (now (s .args .rate)) (now (s .args .delay)) (s .pre .1 .tidy) (s .pre .3) .0,
       ),
     )
 
