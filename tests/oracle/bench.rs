@@ -71,6 +71,10 @@ pub fn bench(folder: &str) {
             *x = s[3];
         })
     });
+    let theirs = black_box(theirs::plog_of_rest as extern "C" fn(u64) -> f64);
+    measure("plog of 1 - uniform, by the output", &words, |xs| xs.iter_mut().for_each(|x| *x = rattle::plog_of_rest(*x).to_bits()), |xs| {
+        xs.iter_mut().for_each(|x| *x = theirs(*x).to_bits())
+    });
     let theirs = black_box(theirs::frexp as extern "C" fn(f64, &mut i32) -> f64);
     measure("frexp", &positive, |xs| xs.iter_mut().for_each(|x| *x = { let (f, e) = rattle::frexp(*x); f + e as f64 }), |xs| {
         xs.iter_mut().for_each(|x| {
@@ -296,6 +300,10 @@ mod theirs {
 
     pub extern "C" fn splitmix64(seed: u64, state: &mut [u64; 4]) {
         *state = super::splitmix64(seed);
+    }
+
+    pub extern "C" fn plog_of_rest(x: u64) -> f64 {
+        plog(1.0 - (x >> 11) as f64 * (1.0 / (1u64 << 53) as f64))
     }
 
     pub extern "C" fn frexp(x: f64, exp: &mut i32) -> f64 {

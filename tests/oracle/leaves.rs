@@ -214,6 +214,29 @@ fn the_floats(report: &mut Report, draw: &mut Draw, n: u64) {
             one(f64::from_bits(draw.word() >> (12 + draw.below(52))));
         }
     });
+    // The same by the output that a number is drawn from. n * 2^-53 is left: n beside each power of two and each power of two over sqrt(2), and any n, short ones
+    // too. The lowest 11 bits of an output have no part in it.
+    report.compare("plog_of_rest", |case| {
+        const WHOLE: u64 = 1 << 53;
+        let mut one = |x: u64| {
+            let (ours, theirs) = (rattle::plog_of_rest(x), plog(1.0 - (x >> 11) as f64 * (1.0 / WHOLE as f64)));
+            case(same(ours, theirs), &|| format!("{x:#x}: {ours:?}, Rust {theirs:?}"));
+        };
+        words().into_iter().for_each(&mut one);
+        for k in 0..54 {
+            let power = 1u64 << k;
+            for n in [power, (power as f64 * std::f64::consts::FRAC_1_SQRT_2) as u64] {
+                for near in n.saturating_sub(2).max(1)..=(n + 2).min(WHOLE) {
+                    one((WHOLE - near) << 11);
+                    one((WHOLE - near) << 11 | 0x7FF);
+                }
+            }
+        }
+        for _ in 0..n {
+            one(draw.word());
+            one((WHOLE - 1 - (draw.any_length() >> 11)) << 11 | draw.below(2048));
+        }
+    });
     report.compare("sqrt", |case| {
         let mut one = |x: f64| {
             let (ours, theirs) = (rattle::sqrt(x), x.sqrt());

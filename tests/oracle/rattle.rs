@@ -12,6 +12,7 @@ mod c {
         pub fn cild_step_back(state: *mut [u64; 4]);
         pub fn cild_frexp(x: f64, exp: *mut i32) -> f64;
         pub fn cild_plog(x: f64) -> f64;
+        pub fn cild_plog_of_rest(x: u64) -> f64;
         pub fn cild_combinations(m: i64, w: i64, value: *mut f64, exact: *mut u64) -> bool;
         pub fn cild_combinations_real(x: f64, w: i64, value: *mut f64) -> bool;
         pub fn cild_sqrt(x: f64) -> f64;
@@ -101,6 +102,10 @@ pub fn frexp(x: f64) -> (f64, i32) {
 
 pub fn plog(x: f64) -> f64 {
     unsafe { c::cild_plog(x) }
+}
+
+pub fn plog_of_rest(x: u64) -> f64 {
+    unsafe { c::cild_plog_of_rest(x) }
 }
 
 /// The float, and whether it is exact; none where it is refused.

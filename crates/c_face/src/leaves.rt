@@ -42,6 +42,14 @@ pub extern "C" fn cild_plog(x: f64) -> f64
     portable_log::plog(x)
 }
 
+// The logarithm of 1 less the number that an output x of the generator gives.
+#[no_mangle]
+pub extern "C" fn cild_plog_of_rest(x: u64) -> f64
+    ensures { λ r. ⌜ r ≡ Log.plog (Log.rest x) ⌝ }
+{
+    portable_log::plog_of_rest(x)
+}
+
 #[no_mangle]
 pub extern "C" fn cild_sqrt(x: f64) -> f64
     ensures { λ r. ⌜ r ≡ rootOf x ⌝ }

@@ -4,7 +4,6 @@ ghost use Rattle.net.specs.Record.{labelled};
 ghost use Rattle.rng.specs.State.{words};
 ghost use Rattle.ssa.specs.Path as Path;
 ghost use Rattle.c_face.specs.Played as Played;
-use net::Net;
 use rng::Xoshiro256;
 use ssa::PathEnd;
 
@@ -23,19 +22,19 @@ fn end_number(end: PathEnd) -> u64
 // A path of the net whose fields are lent, from the state, which is left as the path leaves it. The number of the end goes to told, with the
 // steps, the settled instants, the peak and the steps whose a0 adds a rounded propensity.
 #[no_mangle]
-pub extern "C" fn cild_path(
+pub extern "C" fn cild_path<'a>(
     places: usize,
     transitions: usize,
-    initial: &[u64; 32],
-    capacity: &[u64; 32],
-    label: &[u8; 512],
-    lengths: &[usize; 32],
-    rate: &[f64; 64],
-    delay: &[f64; 64],
-    arcs: &[usize; 64],
-    kind: &[u64; 1024],
-    place: &[usize; 1024],
-    weight: &[u64; 1024],
+    initial: &'a [u64; 32],
+    capacity: &'a [u64; 32],
+    label: &'a [u8; 512],
+    lengths: &'a [usize; 32],
+    rate: &'a [f64; 64],
+    delay: &'a [f64; 64],
+    arcs: &'a [usize; 64],
+    kind: &'a [u64; 1024],
+    place: &'a [usize; 1024],
+    weight: &'a [u64; 1024],
     state: &mut [u64; 4],
     instants: &[f64],
     limit: u64,
@@ -46,21 +45,24 @@ pub extern "C" fn cild_path(
         (now (rate .entry)) (now (delay .entry)) (now (arcs .entry)) (now (kind .entry)) (now (place .entry)) (now (weight .entry))) (words (now (state .entry))) (now (instants .entry)) limit (now (table .entry)))
         (now (told .exit)) (words (now (state .exit))) (now (table .exit)) ⌝ }
 {
-    let net = Net {
-        places: places,
-        transitions: transitions,
-        initial: *initial,
-        capacity: *capacity,
-        label: *label,
-        lengths: *lengths,
-        rate: *rate,
-        delay: *delay,
-        arcs: *arcs,
-        kind: *kind,
-        place: *place,
-        weight: *weight,
-    };
-    let r = ssa::path(net, Xoshiro256::from_state(*state), instants, limit, table);
+    let r = ssa::fields_path(
+        places,
+        transitions,
+        initial,
+        capacity,
+        label,
+        lengths,
+        rate,
+        delay,
+        arcs,
+        kind,
+        place,
+        weight,
+        Xoshiro256::from_state(*state),
+        instants,
+        limit,
+        table,
+    );
     let end = r.end;
     *told = [end_number(end), r.steps, r.settled, r.peak, r.rounded];
     let generator = r.generator;

@@ -82,6 +82,29 @@ div-whole (fin s m e) (fin t n d) a b p h k =
     not-zero : (n : ℕ) → 0 < n → T (not (eqb n 0))
     not-zero n l = not-T (eqb n 0) (λ t. let z : n ≡ 0 = eqb→eq n 0 t in omega arith)
 
+-- the whole number n is a float
+abbrev pub Kept : ℕ → Type 0
+Kept n = HasValue (round binary64 false n 1) false n 1
+
+-- a step is exact where factor, divisor, product and quotient are floats
+pub kept-value : (m i : ℕ) (r : Float) → i < m → m - i ≤ 2 ^ 53 → i + 1 ≤ 2 ^ 53 → Kept (binomial m i * (m - i)) → Kept (binomial m (suc i))
+    → HasValue r false (binomial m i) 1 → HasValue (withFactor r (wholeFactor (pos m) i) i) false (binomial m (suc i)) 1
+kept-value m i r h xs ys kp kq v =
+    let c = binomial m i in
+    let d = binomial m (suc i) in
+    let x = float (m - i) in
+    let xv : HasValue x false (m - i) 1 = float-value (m - i) xs in
+    let y = float (i + 1) in
+    let yv : HasValue y false (i + 1) 1 = float-value (i + 1) ys in
+    let p : mul binary64 r x ≡ round binary64 false (c * (m - i)) 1 =
+    mul-at binary64 r x c 1 (m - i) 1 (positive-of-value r c 1 v (binomial-pos m i (omega arith))) (positive-of-value x (m - i) 1 xv (omega arith)) (omega arith) (omega arith) v xv in
+    let pv : HasValue (mul binary64 r x) false (d * (i + 1)) 1 =
+    subst (λ (z : ℕ). HasValue (mul binary64 r x) false z 1) (next-binomial m i) (subst (λ (z : Float). HasValue z false (c * (m - i)) 1) (sym p) kp) in
+    let q : div binary64 (mul binary64 r x) y ≡ round binary64 false d 1 = div-whole (mul binary64 r x) y d (i + 1) (omega arith) pv yv in
+    let w : HasValue (withFactor r x i) false d 1 = subst (λ (z : Float). HasValue z false d 1) (sym q) kq in
+    subst (λ (z : ℤ). HasValue (withFactor r (ofInt binary64 z) i) false d 1) (minus-pos m i (omega arith)) w
+
+-- as they are where the product does not pass 2 ^ 53
 module _ (m i : ℕ) (h : i < m) (small : binomial m i * (m - i) ≤ 2 ^ 53) where
   next-small : binomial m (suc i) * (i + 1) ≤ 2 ^ 53
   next-small = subst (λ (z : ℕ). z ≤ 2 ^ 53) (next-binomial m i) small
@@ -97,21 +120,8 @@ module _ (m i : ℕ) (h : i < m) (small : binomial m i * (m - i) ≤ 2 ^ 53) whe
   next-value r v =
       let c = binomial m i in
       let d = binomial m (suc i) in
-      let cp : 0 < c = binomial-pos m i (omega arith) in
-      let dp : 0 < d = binomial-pos m (suc i) h in
-      let x = float (m - i) in
-      let xv : HasValue x false (m - i) 1 = float-value (m - i) (second c (m - i) (2 ^ 53) cp small) in
-      let y = float (i + 1) in
-      let yv : HasValue y false (i + 1) 1 = float-value (i + 1) (second d (i + 1) (2 ^ 53) dp next-small) in
-      let p : mul binary64 r x ≡ round binary64 false (c * (m - i)) 1 =
-      mul-at binary64 r x c 1 (m - i) 1 (positive-of-value r c 1 v cp) (positive-of-value x (m - i) 1 xv (omega arith)) (omega arith) (omega arith) v xv in
-      let pv : HasValue (mul binary64 r x) false (d * (i + 1)) 1 =
-      subst (λ (z : ℕ). HasValue (mul binary64 r x) false z 1) (next-binomial m i)
-      (subst (λ (z : Float). HasValue z false (c * (m - i)) 1) (sym p) (round-whole binary64 false (c * (m - i)) small)) in
-      let q : div binary64 (mul binary64 r x) y ≡ round binary64 false d 1 = div-whole (mul binary64 r x) y d (i + 1) (omega arith) pv yv in
-      let w : HasValue (withFactor r x i) false d 1 =
-      subst (λ (z : Float). HasValue z false d 1) (sym q) (round-whole binary64 false d (first d (i + 1) (2 ^ 53) (omega arith) next-small)) in
-      subst (λ (z : ℤ). HasValue (withFactor r (ofInt binary64 z) i) false d 1) (minus-pos m i (omega arith)) w
+      kept-value m i r h (second c (m - i) (2 ^ 53) (binomial-pos m i (omega arith)) small) (second d (i + 1) (2 ^ 53) (binomial-pos m (suc i) h) next-small)
+      (round-whole binary64 false (c * (m - i)) small) (round-whole binary64 false d (first d (i + 1) (2 ^ 53) (omega arith) next-small)) v
 
 -- ---- every step
 
@@ -125,7 +135,7 @@ module _ (m w : ℕ) (h : w ≤ 16) (k : w ≤ m) (l : m ≤ getD unrounded w 0)
   abbrev x : Float
   x = product (wholeFactor (pos m)) w
 
-  x-value : HasValue x false (binomial m w) 1
+  pub x-value : HasValue x false (binomial m w) 1
   x-value = product-value m w k (small-step m w h l)
 
   pub product-exact : exact x m w ≡ true

@@ -19,6 +19,9 @@ const LARGEST: i64 = 1 << 53;
 // The largest m at which no product of two steps passes 2^53.
 const UNROUNDED_2: u64 = 94906266;
 
+// Below it m * (m - 1) is one word.
+const ONE_WORD_2: u64 = 1 << 32;
+
 pub enum Ways {
     // The float, and whether it equals the binomial coefficient exactly.
     Value(f64, bool),
@@ -134,6 +137,17 @@ fn is_exact(x: f64, m: u64, w: u64) -> bool
     whole::equals_binomial(x, m, w)
 }
 
+// The same for two factors: m * (m - 1) is rounded once and then halved, which rounds nothing, so that it is exact where the odd part of m * (m - 1) has no
+// more than 53 bits.
+fn exact_pairs(m: u64) -> bool
+    requires { ⌜ (2 ≤ m) × (m < 2 ^ 32) ⌝ }
+    ensures { λ r. ⌜ r ≡ exact (Spec.product (Spec.wholeFactor (pos m)) 2) m 2 ⌝ }
+{
+    let p = m * (m - 1);
+    let t = u64::trailing_zeros(p) as u64;
+    p >> t < 0x20_0000_0000_0000
+}
+
 // The product of w factors, with its flag.
 fn judged(m: u64, w: u64) -> Ways
     requires { ⌜ (w ≤ 16) × (w ≤ m) × (m ≤ 2 ^ 53) ⌝ }
@@ -158,7 +172,8 @@ fn few_ways(m: u64, w: u64) -> u64
     1
 }
 
-// The same for one or two factors, as most takes have: up to the bound of two nothing is looked up, and the whole number is the float.
+// The same for one or two factors, as most takes have: up to the bound of two nothing is looked up, and the whole number is the float; above it the product
+// of a pair is still one word for a while.
 fn judged_few(m: u64, w: u64) -> Ways
     requires { ⌜ (w ≤ 2) × (w ≤ m) × (m ≤ 2 ^ 53) ⌝ }
     ensures { λ r. ⌜ Spec.meaning r ≡ Spec.counted m w ⌝ }
@@ -166,6 +181,11 @@ fn judged_few(m: u64, w: u64) -> Ways
     if m <= UNROUNDED_2 {
         let n = few_ways(m, w);
         return Ways::Value(n as f64, true);
+    }
+    if w == 2 {
+        if m < ONE_WORD_2 {
+            return Ways::Value(pairs(m), exact_pairs(m));
+        }
     }
     judged(m, w)
 }

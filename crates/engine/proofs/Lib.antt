@@ -8,7 +8,9 @@ pub mod Tidying
 pub mod Marks
 pub mod Moving
 pub mod Firing
+pub mod Sides
 pub mod Touching
+pub mod Without
 pub mod OneWay
 pub mod Factors
 pub mod Inexact

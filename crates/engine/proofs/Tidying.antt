@@ -23,7 +23,7 @@ use Rattle.net.specs.Record.{lent, labelled}
 use Rattle.net.proofs.Sound.{sound}
 use Rattle.rules.specs.Demand3.{takesOnce}
 use Rattle.rules.proofs.TakesOnce.{takes-once}
-use Rattle.engine.specs.Engine.{AtMost, Below, PutsLast, Tidy}
+use Rattle.engine.specs.Engine.{AtMost, Below, PutsLast, Tidy, Tidied}
 use Rattle.engine.specs.Arcs.{group, ofGroup, Copied}
 use Rattle.engine.proofs.Arcs.{on-bool}
 use Rattle.engine.proofs.Lists.{each-zero, each-set}
@@ -203,8 +203,9 @@ pub record Done (n : NetRecord) (arcs kind place weight : List ℕ) (j : ℕ) : 
   pub light : AtMost 1_000_000 weight
 
 module _ (n : NetRecord) (s : Sound n) where
-  pub done-none : Done n (replicate 64 0) (replicate 1024 0) (replicate 1024 0) (replicate 1024 0) 0
-  done-none =
+  pub done-none : {arcs kind place weight : List ℕ} → arcs ≡ replicate 64 0 → kind ≡ replicate 1024 0 → place ≡ replicate 1024 0 → weight ≡ replicate 1024 0
+      → Done n arcs kind place weight 0
+  done-none ea ek ep ew = coe 1 0 (i. Done n (ea i) (ek i) (ep i) (ew i) 0) (
       record {
         within = omega arith;
         long-arcs = length-replicate {A = ℕ} 64 0;
@@ -216,7 +217,7 @@ module _ (n : NetRecord) (s : Sound n) where
         few = each-zero (λ (x : ℕ). x ≤ 16) 64 (omega arith);
         low = each-zero (λ (x : ℕ). x < n .places) 1024 (omega (arith, s .place-one));
         light = each-zero (λ (x : ℕ). x ≤ 1_000_000) 1024 (omega arith);
-      }
+      })
 
   module _ (j : ℕ) (h : j < n .transitions) where
     abbrev count : ℕ
@@ -331,11 +332,11 @@ module _ (n : NetRecord) (arcs kind place weight : List ℕ) (j : ℕ) (d : Done
       ap (λ (t : Transition). t ∷ transitionsFrom made (suc i) k) (transition-made i (omega arith))
       ∙ ap (λ (ts : List Transition). transition n i ∷ ts) (transitions-made k (suc i) (omega arith))
 
-  pub made-reads : n .transitions ≤ j → readable made ≡ readable n
+  made-reads : n .transitions ≤ j → readable made ≡ readable n
   made-reads h =
       ap with-transitions (transitions-made (n .transitions) 0 (omega arith))
 
-  pub made-tidy : n .transitions ≤ j → fault n ≡ no-fault → Tidy made
+  made-tidy : n .transitions ≤ j → fault n ≡ no-fault → Tidy made
   made-tidy h f =
       let s = sound n f in
       record {
@@ -348,6 +349,9 @@ module _ (n : NetRecord) (arcs kind place weight : List ℕ) (j : ℕ) (d : Done
         once = ap (λ (z : Net). takesOnce (z .transitions)) (made-reads h) ∙ takes-once n f;
         order = λ i k. subst⁻¹ PutsLast (slots-made i (omega arith)) (puts-last (slotsOf n i));
       }
+
+  pub all-tidied : n .transitions ≤ j → fault n ≡ no-fault → Tidied n made
+  all-tidied h f = record { reads = made-reads h; tidy = made-tidy h f }
 
 -- ---- the same net without its labels
 

@@ -38,6 +38,11 @@ pub record Tidy (n : NetRecord) : Type 0 where
   pub once : takesOnce (Record.readable n .transitions) ≡ true
   pub order : (j : ℕ) → j < n .transitions → PutsLast (Record.slotsOf n j)
 
+-- r is the net n with its slots in order: it reads as n, and is tidy
+pub record Tidied (n r : NetRecord) : Type 0 where
+  pub reads : Record.readable r ≡ Record.readable n
+  pub tidy : Tidy r
+
 -- whether one of the first k delays is above 0
 abbrev pub someAbove : List Float → Bool
 someAbove [] = false

@@ -3,4 +3,5 @@
 pub mod guards;
 pub mod marking;
 pub mod rounding;
+pub mod sets;
 pub mod slots;

@@ -2,12 +2,12 @@
 ghost use mathlib.Core.Path.{_≡_};
 ghost use mathlib.Core.Option.{none};
 ghost use Prim.Native.Nat.{ℕ, _+_, _-_, _*_, _^_, _<_, _≤_};
-ghost use lib.ListN.{length, getD, set};
+ghost use lib.ListN.{length, getD, set, replicate};
 ghost use lib.Dec.{eqb};
 ghost use mathlib.Core.Bool.{true};
 ghost use Rattle.net.specs.Net as Reader;
 ghost use Rattle.net.specs.Readable as Record;
-ghost use Rattle.net.specs.Record.{lent};
+ghost use Rattle.net.specs.Record.{lent, labelled};
 ghost use Rattle.net.specs.declared.Net.{Net as NetRecord};
 ghost use Rattle.engine.specs.Engine as Engine;
 ghost use Rattle.engine.specs.Limits as Limits;
@@ -81,68 +81,78 @@ fn copy_slots<'a>(
     b
 }
 
-// The same net with the puts of a transition behind its other arcs, so that a test may end before them, and with every slot that is not used at 0,
-// so that the bounds of an accepted net hold in all slots. It reads as the same net: the order among takes, reads, blocks and puts stays. Labels stay.
+// Writes the slots of the net whose fields are lent into the four tables: the puts of a transition stand behind its other arcs, so that a test may end
+// before them, and every slot that is not used stays 0, so that the bounds of an accepted net hold in all slots. With these tables it reads as the same net:
+// the order among takes, reads, blocks and puts stays. A caller that holds the fields is spared the copies that `tidied` takes.
+pub fn tidy<'a>(
+    places: usize,
+    transitions: usize,
+    initial: &'a [u64; 32],
+    capacity: &'a [u64; 32],
+    label: &'a [u8; 512],
+    lengths: &'a [usize; 32],
+    rate: &'a [f64; 64],
+    delay: &'a [f64; 64],
+    arcs: &'a [usize; 64],
+    kind: &'a [u64; 1024],
+    place: &'a [usize; 1024],
+    weight: &'a [u64; 1024],
+    count: &mut [usize; 64],
+    kinds: &mut [u64; 1024],
+    at: &mut [usize; 1024],
+    weights: &mut [u64; 1024],
+)
+    ghost { NetRecord }
+    requires { λ net. ⌜ labelled places transitions (now initial) (now capacity) (now label) (now lengths) (now rate) (now delay) (now arcs) (now kind) (now place) (now weight) ≡ net ⌝ }
+    requires { λ net. ⌜ (Record.fault net ≡ none) × (now count ≡ replicate 64 0) × (now kinds ≡ replicate 1024 0) × (now at ≡ replicate 1024 0)
+        × (now weights ≡ replicate 1024 0) ⌝ }
+    ensures { λ net _. ⌜ Engine.Tidied net (labelled places transitions (now (initial .entry)) (now (capacity .entry)) (now (label .entry)) (now (lengths .entry))
+        (now (rate .entry)) (now (delay .entry)) (now (count .exit)) (now (kinds .exit)) (now (at .exit)) (now (weights .exit))) ⌝ }
+{
+    let mut j: usize = 0;
+    while j < transitions {
+        let n = arcs[j];
+        count[j] = n;
+        let from = 16 * j;
+        let to = copy_slots(kind, place, weight, from, n, 0, from, kinds, at, weights);
+        copy_slots(kind, place, weight, from, n, 1, to, kinds, at, weights);
+        j += 1;
+    }
+}
+
+// The same net with its slots in order (`tidy`). Labels stay.
 pub fn tidied(net: Net) -> Net
     requires { ⌜ Record.fault net ≡ none ⌝ }
     ensures { λ r. ⌜ (Record.readable r ≡ Record.readable net) × Engine.Tidy r × (r .places ≡ net .places) × (r .initial ≡ net .initial) ⌝ }
 {
-    let transitions = net.transitions;
     let mut arcs = [0usize; 64];
     let mut kind = [0u64; 1024];
     let mut place = [0usize; 1024];
     let mut weight = [0u64; 1024];
-    let mut j: usize = 0;
-    while j < transitions {
-        let n = net.arcs[j];
-        arcs[j] = n;
-        let from = 16 * j;
-        let to = copy_slots(
-            &net.kind,
-            &net.place,
-            &net.weight,
-            from,
-            n,
-            0,
-            from,
-            &mut kind,
-            &mut place,
-            &mut weight,
-        );
-        copy_slots(
-            &net.kind,
-            &net.place,
-            &net.weight,
-            from,
-            n,
-            1,
-            to,
-            &mut kind,
-            &mut place,
-            &mut weight,
-        );
-        j += 1;
-    }
-    let initial = net.initial;
-    let capacity = net.capacity;
-    let label = net.label;
-    let lengths = net.lengths;
-    let rate = net.rate;
-    let delay = net.delay;
-    Net {
-        places: net.places,
-        transitions: transitions,
-        initial: initial,
-        capacity: capacity,
-        label: label,
-        lengths: lengths,
-        rate: rate,
-        delay: delay,
-        arcs: arcs,
-        kind: kind,
-        place: place,
-        weight: weight,
-    }
+    tidy(
+        net.places,
+        net.transitions,
+        &net.initial,
+        &net.capacity,
+        &net.label,
+        &net.lengths,
+        &net.rate,
+        &net.delay,
+        &net.arcs,
+        &net.kind,
+        &net.place,
+        &net.weight,
+        &mut arcs,
+        &mut kind,
+        &mut place,
+        &mut weight,
+    );
+    let mut ordered = net;
+    ordered.arcs = arcs;
+    ordered.kind = kind;
+    ordered.place = place;
+    ordered.weight = weight;
+    ordered
 }
 
 // "Weight 0 means 1."

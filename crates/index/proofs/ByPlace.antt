@@ -18,7 +18,7 @@ use Rattle.net.proofs.Lengths.{transitions-length}
 use Rattle.rules.specs.Moves.{withoutArcs, transition}
 use Rattle.rules.specs.Demand3.{takesFrom}
 use Rattle.rules.specs.Index.{on, capacityOf, dependsOn, listed}
-use Rattle.engine.proofs.Touching.{transition-at}
+use Rattle.engine.proofs.Sides.{transition-at}
 use Rattle.engine.specs.Engine.{Below}
 use Rattle.engine.proofs.Arcs.{ap-pick}
 use Rattle.index.specs.Slots.{putIn, takenIn, listsFor}

@@ -26,7 +26,7 @@ use Rattle.index.specs.Slots.{listsFor, takenIn, putIn}
 use Rattle.index.specs.Table.{Lists}
 use Rattle.index.specs.Guarding.{Crossed, Begun, Adds, Guarded, Used, Guarding}
 use Rattle.index.proofs.Placed.{places-fit}
-use Rattle.engine.proofs.Touching.{transition-at}
+use Rattle.engine.proofs.Sides.{transition-at}
 use Rattle.index.proofs.ByPlace.{transition-past, listed-slots}
 
 -- ---- tests

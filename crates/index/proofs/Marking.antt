@@ -15,11 +15,10 @@ use Rattle.net.specs.Tests.{any}
 use Rattle.net.specs.Readable.{Slot, takesOf, readable}
 use Rattle.net.specs.Readable as Record
 use Rattle.rules.specs.Moves.{transition}
-use Rattle.engine.specs.Traits.{heavy}
+use Rattle.engine.specs.Traits.{heavy, takesSeveral, Marks}
 use Rattle.engine.proofs.Arcs.{span, slots-of}
-use Rattle.index.specs.Marks.{Marks, takesSeveral}
 use Rattle.index.proofs.Fronts.{front, front-past, front-more}
-use Rattle.engine.proofs.Touching.{transition-at}
+use Rattle.engine.proofs.Sides.{transition-at}
 
 -- ---- a loop that marks the numbers of which f holds, below j
 

@@ -1,4 +1,3 @@
 pub mod Slots
 pub mod Table
-pub mod Marks
 pub mod Guarding

@@ -10,8 +10,8 @@ ghost use Rattle.engine.specs.Engine as Engine;
 ghost use Rattle.engine.specs.Limits as Limits;
 ghost use Rattle.engine.specs.Guards as Guards;
 ghost use Rattle.index.specs.Guarding as Spec;
-use crate::join;
 use crate::listed;
+use engine::sets;
 
 // The count on one side of which a slot of that limit is open, and on the other shut.
 fn threshold(limit: u64) -> u64
@@ -64,8 +64,8 @@ fn guard_slot(kind: u64, limit: u64, p: usize, j: usize, guards: &mut [u64; 160]
 {
     let x = threshold(limit);
     let on = crossed(x);
-    let takes = join::with_bit(guards[p], j, kind == net::KINETIC_TAKE);
-    let edges = join::with_bit(guards[32 + p], j, x == 1);
+    let takes = sets::joined(guards[p], j, kind == net::KINETIC_TAKE);
+    let edges = sets::joined(guards[32 + p], j, x == 1);
     let least = lower(guards[96 + p], x, on);
     let most = higher(guards[128 + p], x, on);
     guards[p] = takes;

@@ -8,7 +8,7 @@ ghost use Rattle.net.specs.declared.Net.{Net as NetRecord};
 ghost use Rattle.engine.specs.Engine as Engine;
 ghost use Rattle.index.specs.Slots as Slots;
 ghost use Rattle.index.specs.Table as Table;
-use crate::join;
+use engine::sets;
 use engine::slots;
 
 // Does slot a list its transition, whose slots are those from `from` to before `end`, for the slot's place?
@@ -58,7 +58,7 @@ fn list_one<'a>(
         let b = a + 1;
         let on = lists(capacity, kind, place, weight, from, end, a);
         let p = place[a];
-        let w = join::with_bit(words[p], j, on);
+        let w = sets::joined(words[p], j, on);
         words[p] = w;
         a = b;
     }

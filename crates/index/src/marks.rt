@@ -11,8 +11,7 @@ ghost use Rattle.net.specs.declared.Net.{Net as NetRecord};
 ghost use Rattle.engine.specs.Engine as Engine;
 ghost use Rattle.engine.specs.Traits as Traits;
 ghost use Rattle.index.specs.Slots as Slots;
-ghost use Rattle.index.specs.Marks as Spec;
-use crate::join;
+use engine::sets;
 
 // Those that run by a timer.
 pub fn timed_word<'a>(
@@ -30,14 +29,14 @@ pub fn timed_word<'a>(
     ghost { NetRecord }
     requires { λ net. ⌜ lent places transitions (now initial) (now capacity) (now rate) (now delay) (now arcs) (now kind) (now place) (now weight) ≡ net ⌝ }
     requires { λ net. ⌜ Engine.Tidy net ⌝ }
-    ensures { λ net r. ⌜ Spec.Marks net Reader.timed r ⌝ }
+    ensures { λ net r. ⌜ Traits.Marks net Reader.timed r ⌝ }
 {
     let mut word: u64 = 0;
     let mut j: usize = 0;
     while j < transitions {
         let k = j + 1;
         let on = 0.0 < delay[j];
-        word = join::with_bit(word, j, on);
+        word = sets::joined(word, j, on);
         j = k;
     }
     word
@@ -90,7 +89,7 @@ pub fn heavy_word<'a>(
     ghost { NetRecord }
     requires { λ net. ⌜ lent places transitions (now initial) (now capacity) (now rate) (now delay) (now arcs) (now kind) (now place) (now weight) ≡ net ⌝ }
     requires { λ net. ⌜ Engine.Tidy net ⌝ }
-    ensures { λ net r. ⌜ Spec.Marks net Spec.takesSeveral r ⌝ }
+    ensures { λ net r. ⌜ Traits.Marks net Traits.takesSeveral r ⌝ }
 {
     let mut word: u64 = 0;
     let mut j: usize = 0;
@@ -99,7 +98,7 @@ pub fn heavy_word<'a>(
         let from = 16 * j;
         let end = from + arcs[j];
         let on = heavy_slots(kind, place, weight, from, end);
-        word = join::with_bit(word, j, on);
+        word = sets::joined(word, j, on);
         j = k;
     }
     word

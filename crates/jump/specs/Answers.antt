@@ -5,8 +5,11 @@ use mathlib.Core.Bool.{false}
 use mathlib.Core.List.{List}
 use mathlib.Core.Option.{Option, none, some}
 use lib.ListN.{length, getD}
-use lib.Ieee.{Float, nan, lt}
-use Rattle.net.specs.Net.{zero64}
+use lib.Ieee.{Float, nan, binary64, sub, neg, lt}
+use Rattle.net.specs.Net.{zero64, one64}
+use Rattle.rng.specs.State.{State as Generator}
+use Rattle.rng.specs.Xoshiro.{uniform}
+use Rattle.portable_log.specs.Log.{plog}
 use Rattle.rules.specs.RunningSums.{LastPositive}
 use Rattle.rules.specs.Step as Step
 use Rattle.rules.specs.Timers.{Timer, first}
@@ -14,6 +17,10 @@ use Rattle.jump.specs.declared.Next.{Next as NextEnum}
 use Rattle.jump.specs.declared.Next.the-variants.{Nothing, Race, Completion}
 use Rattle.jump.specs.declared.Choice.{Choice}
 use Rattle.jump.specs.declared.Choice.the-variants.{Nobody, Chosen}
+
+-- "−plog(1 − x1)", for the x1 that the generator draws next: the waiting time at a total of 1 (rules, Step's `waiting`)
+abbrev pub unitWait : Generator → Float
+unitWait g = neg (plog (sub binary64 one64 (uniform g)))
 
 -- so many timers run, and where one does, the first to leave completes at `at`
 pub record Told (timers : List Timer) (running : ℕ) (at : Float) : Type 0 where

@@ -28,15 +28,25 @@ pub struct Wait {
     pub rng: Xoshiro256,
 }
 
-// The time until the race would end; infinite, and nothing drawn, where nothing races.
-pub fn waiting(a0: f64, rng: Xoshiro256) -> Wait
+// The time until a race of total 1 would end, by what the generator draws next. It goes by the generator alone, so that a step works it out for the next one
+// before it looks for its own event: while a processor waits for that, the logarithm is under way.
+pub fn unit_wait(rng: Xoshiro256) -> f64
+    ensures { λ r. ⌜ r ≡ Answers.unitWait (Rng.words (rng .s)) ⌝ }
+{
+    let d = rng.next_u64();
+    -portable_log::plog_of_rest(d.value)
+}
+
+// The time until the race would end, from that at a total of 1; infinite, and nothing drawn, where nothing races.
+pub fn waiting(a0: f64, unit: f64, rng: Xoshiro256) -> Wait
+    requires { ⌜ unit ≡ Answers.unitWait (Rng.words (rng .s)) ⌝ }
     ensures { λ r. ⌜ (r .dt ≡ Step.waiting a0 (Rng.words (rng .s))) × (Rng.words (r .rng .s) ≡ Step.drawnFor a0 (Rng.words (rng .s))) ⌝ }
 {
     if 0.0 < a0 {
-        let d = rng.uniform();
+        let d = rng.next_u64();
         let g = d.rng;
         return Wait {
-            dt: (-portable_log::plog(1.0 - d.value)) / a0,
+            dt: unit / a0,
             rng: g,
         };
     }

@@ -1,69 +1,21 @@
--- Words bit by bit: a union with one transition, a difference; and a walk over the bits of a word, the lowest first, that sets some of another word's or
--- works out some of a table's. Assumes nothing.
-use Prim.Native.Nat.{ℕ, zero, suc, _-_, _*_, _/_, _%_, _^_, _<_}
+-- A walk over the bits of a word, the lowest first, that sets some of another word's or works out some of a table's. Assumes nothing.
+use Prim.Native.Nat.{ℕ, zero, suc, _-_, _^_, _<_}
 use mathlib.Core.Path.{_≡_, refl, sym, ap, _∙_}
 use mathlib.Core.Bool.{Bool, true, false, _&&_, _||_, not, and-true, and-false}
 use mathlib.Core.List.{List}
 use native.Mathlib.Omega.{arith}
-use native.Mathlib.Nat.{mod-lt}
 use lib.Dec.{eqb}
-use lib.Bits.{bitAnd, bitOr, bitXor, xor-shr, xor-mod, and-le-r}
+use lib.Bits.{bitAnd, and-le-r}
 use lib.Count.{trailingZeros}
 use lib.ListN.{length, getD, set, length-set}
 use lib.Seq.{getD-set-same, getD-set-other}
 use lib.Ieee.{Float, nan}
 use borrow.Author.Tests.{eqb-true, eqb-false, eq-eqb, ne-eqb}
 use Rattle.words.specs.Bits.{bit}
-use Rattle.words.proofs.Bits.{bit-none, bit-one, bit-or, bit-and, one-shifted, lowest-small, lowest-set, without-lowest}
+use Rattle.words.proofs.Bits.{bit-none, lowest-small, lowest-set, without-lowest}
 use Rattle.net.specs.Net.{pick}
 use Rattle.rules.specs.Index.{Reworked}
 use Rattle.engine.proofs.Arcs.{on-bool}
-
--- ---- a difference
-
-abbrev differs : Bool → Bool → Bool
-differs true b = not b
-differs false b = b
-
-bit-xor : (a b j : ℕ) → bit (bitXor a b) j ≡ differs (bit a j) (bit b j)
-unfolding bit
-bit-xor a b j =
-    ap (λ (z : ℕ). eqb (z % 2) 1) (xor-shr a b j) ∙ ap (λ (z : ℕ). eqb z 1) (xor-mod (a / 2 ^ j) (b / 2 ^ j) 1) ∙ digits (a / 2 ^ j) (b / 2 ^ j)
-  where
-    go : (r s : ℕ) → r < 2 → s < 2 → eqb (bitXor r s) 1 ≡ differs (eqb r 1) (eqb s 1)
-    go zero zero l k = refl
-    go zero (suc zero) l k = refl
-    go (suc zero) zero l k = refl
-    go (suc zero) (suc zero) l k = refl
-    go (suc (suc r)) s l k = absurd (omega arith)
-    go zero (suc (suc s)) l k = absurd (omega arith)
-    go (suc zero) (suc (suc s)) l k = absurd (omega arith)
-
-    digits : (x y : ℕ) → eqb (bitXor (x % 2) (y % 2)) 1 ≡ differs (eqb (x % 2) 1) (eqb (y % 2) 1)
-    digits x y = go (x % 2) (y % 2) (mod-lt x (omega arith)) (mod-lt y (omega arith))
-
-pub bit-without : (a b j : ℕ) → bit (bitXor a (bitAnd a b)) j ≡ (bit a j && not (bit b j))
-bit-without a b j = bit-xor a (bitAnd a b) j ∙ ap (differs (bit a j)) (bit-and a b j) ∙ go (bit a j) (bit b j)
-  where
-    go : (x y : Bool) → differs x (x && y) ≡ (x && not y)
-    go true y = refl
-    go false y = refl
-
--- ---- with one more
-
-pub bit-joined : (word j i : ℕ) → j < 64 → bit (bitOr word ((1 * 2 ^ j) % 2 ^ 64)) i ≡ (bit word i || (eqb i j && true))
-bit-joined word j i h =
-    bit-or word ((1 * 2 ^ j) % 2 ^ 64) i
-    ∙ ap (λ (x : ℕ). bit word i || bit x i) (one-shifted j h)
-    ∙ ap (λ (b : Bool). bit word i || b) (bit-one j i ∙ sym (and-true (eqb i j)))
-
-pub bit-same : (word j i : ℕ) → bit word i ≡ (bit word i || (eqb i j && false))
-bit-same word j i = go (bit word i) (eqb i j)
-  where
-    go : (a b : Bool) → a ≡ (a || (b && false))
-    go true b = refl
-    go false true = refl
-    go false false = refl
 
 pub both-first : (a b : Bool) → (a && b) ≡ true → a ≡ true
 both-first true b p = refl
@@ -147,7 +99,7 @@ module _ (f : ℕ → Bool) (word first : ℕ) where
       go false false b = refl
 
   pub setting-more : (out left : ℕ) → Setting out left → (left ≡ 0 → ⊥) → (on : Bool) → on ≡ f (trailingZeros 64 left)
-      → (out′ : ℕ) → ((i : ℕ) → bit out′ i ≡ (bit out i || (eqb i (trailingZeros 64 left) && on))) → Setting out′ (bitAnd left (left - 1))
+      → (out′ : ℕ) → ((i : ℕ) → bit out′ i ≡ (bit out i || (on && eqb i (trailingZeros 64 left)))) → Setting out′ (bitAnd left (left - 1))
   setting-more out left s some on e out′ step = record { walk = walk-more word left (s .walk) some; says = at }
     where
       t : ℕ
@@ -163,19 +115,20 @@ module _ (f : ℕ → Bool) (word first : ℕ) where
       here : bit out′ t ≡ pick (bit word t) (not (bit next t) && f t) (bit first t)
       here =
           step t
-          ∙ (λ i. none i || (eq-eqb t t refl i && e i))
+          ∙ (λ i. none i || (e i && eq-eqb t t refl i))
+          ∙ and-true (f t)
           ∙ sym (λ i. pick (lowest-in word left (s .walk) some i) (not (gone word left (s .walk) some i) && f t) (bit first t))
 
-      or-no : (a b : Bool) → (a || (false && b)) ≡ a
+      or-no : (a b : Bool) → (a || (b && false)) ≡ a
       or-no true b = refl
-      or-no false b = refl
+      or-no false b = and-false b
 
       at : (j : ℕ) → bit out′ j ≡ pick (bit word j) (not (bit next j) && f j) (bit first j)
       at j =
           at-lowest word left (s .walk) some (λ (j : ℕ). bit out′ j ≡ pick (bit word j) (not (bit next j) && f j) (bit first j)) j here
           (λ n q.
           step j
-          ∙ ap (λ (b : Bool). bit out j || (b && on)) (ne-eqb j t n)
+          ∙ ap (λ (b : Bool). bit out j || (on && b)) (ne-eqb j t n)
           ∙ or-no (bit out j) on
           ∙ s .says j
           ∙ ap (λ (b : Bool). pick (bit word j) (not b && f j) (bit first j)) (sym q))

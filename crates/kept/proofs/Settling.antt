@@ -26,12 +26,12 @@ use Rattle.rules.specs.Moves.{transition}
 use Rattle.rules.specs.Index.{Reworked}
 use Rattle.rules.proofs.Accepted.{fit-held}
 use Rattle.engine.specs.Engine.{Tidy, Counts, marking}
-use Rattle.engine.specs.Traits.{heavy}
+use Rattle.engine.specs.Traits.{heavy, takesSeveral, Marks}
 use Rattle.engine.proofs.Arcs.{on-bool, amount-above}
 use Rattle.engine.proofs.Factors.{pick-true, pick-false}
 use Rattle.engine.proofs.Marks.{fit-all}
 use Rattle.engine.proofs.OneWay.{one-exact}
-use Rattle.kept.specs.Kept.{Kept, Marked, AllShut, Timed, Heavy}
+use Rattle.kept.specs.Kept.{Kept, Marked, AllShut}
 use Rattle.kept.proofs.Bitwise.{both-first}
 
 -- ---- tests
@@ -294,7 +294,7 @@ module _ (n : Net) (m : Marking) (few : length (n .transitions) ≤ 64) (moved c
 -- ---- the same of a record, with the words as the code makes them
 
 module _ (n : NetRecord) (counts : List ℕ) (tidy : Tidy n) (good : Counts counts) (moved crossed able delayed heavies marks : ℕ) (props : List Float)
-    (is-delayed : Timed n delayed) (is-heavy : Heavy n heavies) (k : Kept (readable n) (marking (n .places) counts) moved crossed able props)
+    (is-delayed : Marks n timed delayed) (is-heavy : Marks n takesSeveral heavies) (k : Kept (readable n) (marking (n .places) counts) moved crossed able props)
     (mk : Marked (readable n) (marking (n .places) counts) moved crossed able marks) (all-shut : AllShut (readable n) (marking (n .places) counts))
     (long : length props ≡ 64) (tested : ℕ) (is-tested : (j : ℕ) → bit tested j ≡ (bit crossed j && not (bit delayed j))) where
   abbrev m : Marking

@@ -20,7 +20,7 @@ use Rattle.engine.proofs.Arcs.{amount-most, slots-end, slots-whole}
 use Rattle.engine.proofs.Factors.{pick-false, times, factored-turn}
 use Rattle.engine.proofs.Marks.{held-marking}
 use Rattle.kept.specs.Kept.{Alone}
-use Rattle.engine.proofs.Touching.{transition-at}
+use Rattle.engine.proofs.Sides.{transition-at}
 
 -- ---- the limit of a kinetic take
 

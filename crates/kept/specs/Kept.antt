@@ -6,19 +6,16 @@ use Prim.Native.Nat.{ℕ, _+_, _-_, _*_, _≤_, _<_}
 use mathlib.Core.Path.{_≡_}
 use mathlib.Core.Bool.{Bool, true, false, _&&_, not}
 use mathlib.Core.List.{List}
-use lib.Dec.{ltb}
 use lib.ListN.{length, getD}
 use lib.Ieee.{Float, nan}
 use Rattle.words.specs.Bits.{bit}
 use Rattle.net.specs.declared.Net.{Net as NetRecord}
 use Rattle.net.specs.Net.{Net, Marking, zero64, rateOf, timed}
 use Rattle.net.specs.Readable.{readable}
-use Rattle.net.specs.Tests.{any}
 use Rattle.rules.specs.Enabled.{enabled}
 use Rattle.rules.specs.Propensity.{factored}
 use Rattle.rules.specs.Exact.{rounded}
 use Rattle.rules.specs.Moves.{transition}
-use Rattle.engine.specs.Traits.{heavy}
 
 -- ---- at the counts m
 
@@ -61,10 +58,3 @@ pub record Ends (n : NetRecord) (ends : List ℕ) : Type 0 where
   pub inside : (j : ℕ) → j < n .transitions → getD ends j 0 < 2048 → getD ends j 0 ≤ 16 * j + getD (n .arcs) j 0
   pub behind : (j a : ℕ) → j < n .transitions → getD ends j 0 < 2048 → getD ends j 0 ≤ a → 16 * j ≤ a → a < 16 * j + getD (n .arcs) j 0 → getD (n .kind) a 0 ≡ 0 → ⊥
   pub alone : (j : ℕ) → j < n .transitions → 2048 ≤ getD ends j 0 → Alone n j (getD ends j 0 - 2048)
-
--- the word of the delayed transitions, and of those that take several tokens kinetically: only their propensities can be rounded
-abbrev pub Timed : NetRecord → ℕ → Type 0
-Timed n word = (j : ℕ) → bit word j ≡ (ltb j (n .transitions) && timed (transition (readable n) j))
-
-abbrev pub Heavy : NetRecord → ℕ → Type 0
-Heavy n word = (j : ℕ) → bit word j ≡ (ltb j (n .transitions) && any heavy (transition (readable n) j .takes))

@@ -3,6 +3,5 @@
 pub mod marks;
 pub mod openness;
 pub mod refresh;
-pub mod sets;
 pub mod tables;
 pub mod values;

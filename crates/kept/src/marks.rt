@@ -13,8 +13,8 @@ ghost use Rattle.rules.specs.Exact as Exact;
 ghost use Rattle.rules.specs.Moves as Moves;
 ghost use Rattle.rules.specs.Propensity as Propensity;
 ghost use Rattle.engine.specs.Engine as Engine;
-use crate::sets;
 use engine::rounding;
+use engine::sets;
 
 // Marks the transitions in a word: in the answer are those whose propensity, in `props`, is rounded, and for the others what is in `marks`.
 pub fn remark<'a>(

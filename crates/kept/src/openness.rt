@@ -15,8 +15,8 @@ ghost use Rattle.rules.specs.Index.{Reworked};
 ghost use Rattle.rules.specs.Moves as Moves;
 ghost use Rattle.engine.specs.Engine as Engine;
 ghost use Rattle.engine.specs.Limits as Limits;
-use crate::sets;
 use engine::marking;
+use engine::sets;
 
 // Puts 0 at j where it is not on.
 fn shut(on: bool, j: usize, props: &mut [f64; 64])

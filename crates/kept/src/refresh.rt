@@ -7,6 +7,7 @@ ghost use lib.Dec.{eqb};
 ghost use lib.ListN.{length, getD, take};
 ghost use lib.Ieee.{nan};
 ghost use Rattle.words.specs.Bits.{bit};
+ghost use Rattle.net.specs.Net.{timed as delayed};
 ghost use Rattle.net.specs.Readable as Record;
 ghost use Rattle.net.specs.Record.{lent};
 ghost use Rattle.net.specs.declared.Net.{Net as NetRecord};
@@ -15,11 +16,12 @@ ghost use Rattle.rules.specs.Propensity as Propensity;
 ghost use Rattle.jump.specs.Summing as Summing;
 ghost use Rattle.engine.specs.Engine as Engine;
 ghost use Rattle.engine.specs.Limits as Limits;
+ghost use Rattle.engine.specs.Traits as Traits;
 ghost use Rattle.kept.specs.Kept as Kept;
 use crate::marks;
 use crate::openness;
-use crate::sets;
 use crate::values;
+use engine::sets;
 use jump::sums;
 
 // Which transitions are enabled, which propensities are rounded, and which of them may have changed.
@@ -57,7 +59,7 @@ fn settle<'a>(
     ghost { NetRecord }
     requires { λ net. ⌜ lent places transitions (now initial) (now capacity) (now rate) (now delay) (now arcs) (now kind) (now place) (now weight) ≡ net ⌝ }
     requires { λ net. ⌜ Engine.Tidy net × Limits.Limits net (now limit) × Engine.Counts (now counts) × Kept.Rates net (now rates) × Kept.Ends net (now ends)
-        × Kept.Timed net timed × Kept.Heavy net heavy
+        × Traits.Marks net delayed timed × Traits.Marks net Traits.takesSeveral heavy
         × Kept.Kept (Record.readable net) (Engine.marking places (now counts)) moved crossed able (now props)
         × Kept.Marked (Record.readable net) (Engine.marking places (now counts)) moved crossed able marks
         × Kept.AllShut (Record.readable net) (Engine.marking places (now counts)) × (length (now props) ≡ 64) ⌝ }
@@ -164,7 +166,7 @@ pub fn refresh<'a>(
     ghost { NetRecord }
     requires { λ net. ⌜ lent places transitions (now initial) (now capacity) (now rate) (now delay) (now arcs) (now kind) (now place) (now weight) ≡ net ⌝ }
     requires { λ net. ⌜ Engine.Tidy net × Limits.Limits net (now limit) × Engine.Counts (now counts) × Kept.Rates net (now rates) × Kept.Ends net (now ends)
-        × Kept.Timed net timed × Kept.Heavy net heavy
+        × Traits.Marks net delayed timed × Traits.Marks net Traits.takesSeveral heavy
         × Kept.Kept (Record.readable net) (Engine.marking places (now counts)) moved crossed able (now props)
         × Kept.Marked (Record.readable net) (Engine.marking places (now counts)) moved crossed able marks
         × Kept.AllShut (Record.readable net) (Engine.marking places (now counts)) × Summing.Summed transitions (now props) (now sums) a0

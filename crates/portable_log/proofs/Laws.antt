@@ -1,24 +1,22 @@
--- Facts on bit patterns, NaN and small exponents, and the definition of `plog` case by case. Assumes nothing.
-use mathlib.Core.Path.{_≡_, refl, sym, ap, _∙_, subst}
-use mathlib.Core.Bool.{Bool, true, false, not, cond}
+-- Facts on bit patterns, signs, NaN and small differences, and the definition of `plog` case by case. Assumes nothing.
+use mathlib.Core.Path.{_≡_, refl, sym, ap, _∙_}
+use mathlib.Core.Bool.{Bool, true, false, not, _&&_, cond, true≢false}
 use Prim.Native.Nat.{ℕ, zero, suc, _+_, _-_, _*_, _/_, _%_, _^_, _≤_, _<_}
 use native.Mathlib.Omega.{arith}
-use native.Mathlib.Nat.{lt-of-le-of-lt, lt-of-lt-of-le, mod-eq-of-lt, mul-pos, zero-mul, zero-div}
-use mir.Syntax.{w32}
-use mir.Val.{SFits, toZ, ofZ}
-use mir.Facts.{toZ-ofZ}
-use lib.Dec.{T, eqb, ltb, lt→ltb}
+use native.Mathlib.Nat.{div-lt-iff-lt-mul, le-of-eq, lt-of-le-of-lt, lt-of-lt-of-le, lt-of-not-le, mod-eq-of-lt, mul-lt-mul-of-pos-right, mul-pos, mul-right-comm, zero-mul, zero-div}
+use lib.Dec.{T, eqb, ltb, leb, lt→ltb, ltb→lt}
 use lib.Bits.{bitAnd, bitOr, or-mod, or-shr, and-mod, and-shr, and-zero-r, and-le-r, and-mask}
-use lib.IntN.{ℤ, pos, negsuc, _-ℤ_, +ℤ-idr}
+use lib.IntN.{ℤ, pos, negsuc, _-ℤ_}
+use lib.Pow.{pow-pos}
 use lib.Signed.{mag}
 use Rattle.portable_log.specs.declared.Parts.{Parts}
-use Rattle.portable_log.specs.Log.{frexp, field, partsOf, ofParts, plog, combine, zero64, one64, two64, two52, sqrt2over2}
-use Rattle.portable_log.proofs.TimesOne.{times-one}
-use borrow.Author.Tests.{le-ltb, ne-eqb}
+use Rattle.portable_log.specs.Log.{frexp, field, partsOf, ofParts, plog, zero64, two52}
+use borrow.Author.Tests.{lt-ltb, le-ltb, eq-eqb, ne-eqb}
 use lib.Ieee.Compare.{differs-from-itself}
-use lib.Ieee.Fits.{up-pos}
+use lib.Ieee.Digits.{size-le}
+use lib.Ieee.Fits.{and-r, up-pos, down-pos, kept-lt, mul-fits}
 use lib.Ieee.Positive.{positive}
-use lib.Ieee.{Float, nan, inf, fin, Format, binary64, nanBits, isNan, fits, mul, round, units, odd, ofBits, toBits, div, ne, eq, lt, low, emax, prec, size, span, climb, up, down}
+use lib.Ieee.{Float, nan, inf, fin, Format, binary64, nanBits, isNan, fits, unlike, mul, round, units, odd, ofBits, toBits, div, ne, eq, lt, low, emax, prec, size, span, climb, up, down}
 
 -- the exponent's field of the pattern with 1022 put there
 half-field : (b : ℕ) → bitOr (bitAnd b 0x800F_FFFF_FFFF_FFFF) (1022 * 2 ^ 52) % 2 ^ 63 / 2 ^ 52 ≡ 1022
@@ -36,39 +34,47 @@ half-is-no-nan b = rw (half-field b) tt
 pub field-lt : (n : ℕ) → bitAnd n 0x7FF < 65536
 field-lt n = lt-of-le-of-lt (and-le-r n 0x7FF) (omega arith)
 
--- what rounding gives is a number or an infinity
-odd-number : (d : ℕ) (s : Bool) (q k l : ℕ) → T (not (isNan (odd d s q k l)))
-unfolding odd isNan
-odd-number d s zero k l = tt
-odd-number d s (suc q) k l = tt
+-- a number or an infinity of this sign
+abbrev HasSign : Float → Bool → Type 0
+HasSign nan s = ⊥
+HasSign (inf t) s = t ≡ s
+HasSign (fin t m e) s = t ≡ s
 
-cond-number : (t : Bool) (x y : Float) → T (not (isNan x)) → T (not (isNan y)) → T (not (isNan (cond t x y)))
-cond-number true x y hx hy = hx
-cond-number false x y hx hy = hy
+-- is what rounding gives
+sign-of-odd : (d : ℕ) (s : Bool) (q k l : ℕ) → HasSign (odd d s q k l) s
+unfolding odd
+sign-of-odd d s zero k l = refl
+sign-of-odd d s (suc q) k l = refl
 
-inf-number : (s : Bool) → T (not (isNan (inf s)))
-unfolding isNan
-inf-number s = tt
+sign-of-cond : (t : Bool) (x y : Float) (s : Bool) → HasSign x s → HasSign y s → HasSign (cond t x y) s
+sign-of-cond true x y s hx hy = hx
+sign-of-cond false x y s hx hy = hy
 
-units-number : (f : Format) (s : Bool) (q k : ℕ) → T (not (isNan (units f s q k)))
+sign-of-units : (f : Format) (s : Bool) (q k : ℕ) → HasSign (units f s q k) s
 unfolding units
-units-number f s q k =
-    cond-number (ltb (q * 2 ^ k) (2 ^ (low f + suc (emax f)))) (odd (suc (prec f)) s q k (low f)) (inf s) (odd-number (suc (prec f)) s q k (low f)) (inf-number s)
+sign-of-units f s q k =
+    sign-of-cond (ltb (q * 2 ^ k) (2 ^ (low f + suc (emax f)))) (odd (suc (prec f)) s q k (low f)) (inf s) s (sign-of-odd (suc (prec f)) s q k (low f)) refl
 
-round-number : (f : Format) (s : Bool) (n d : ℕ) → T (not (isNan (round f s n d)))
+sign-of-round : (f : Format) (s : Bool) (n d : ℕ) → HasSign (round f s n d) s
 unfolding round
-round-number f s n d = units-number f s _ _
+sign-of-round f s n d = sign-of-units f s _ _
 
-mul-number : (f : Format) (s : Bool) (m : ℕ) (e : ℤ) (t : Bool) (n : ℕ) (d : ℤ) → T (not (isNan (mul f (fin s m e) (fin t n d))))
+sign-of-mul : (f : Format) (s : Bool) (m : ℕ) (e : ℤ) (t : Bool) (n : ℕ) (d : ℤ) → HasSign (mul f (fin s m e) (fin t n d)) (unlike s t)
 unfolding mul
-mul-number f s m e t n d = round-number f _ _ _
+sign-of-mul f s m e t n d = sign-of-round f (unlike s t) _ _
 
--- and so is a number or an infinity times 2 ^ 52
+signed-number : (x : Float) (s : Bool) → HasSign x s → T (not (isNan x))
+unfolding isNan
+signed-number nan s h = h
+signed-number (inf t) s h = tt
+signed-number (fin t m e) s h = tt
+
+-- so a number or an infinity times 2 ^ 52 is no NaN
 pub scaled-number : (x : Float) → T (not (isNan x)) → T (not (isNan (mul binary64 x two52)))
 unfolding isNan mul ofBits
 scaled-number nan h = h
 scaled-number (inf s) h = tt
-scaled-number (fin s m e) h = mul-number binary64 s m e false 1 (pos 52)
+scaled-number (fin s m e) h = signed-number (mul binary64 (fin s m e) (fin false 1 (pos 52))) (unlike s false) (sign-of-mul binary64 s m e false 1 (pos 52))
 
 -- the difference of two small numbers is small
 cond-mag : (t : Bool) (x y : ℤ) (n : ℕ) → mag x < n → mag y < n → mag (cond t x y) < n
@@ -117,45 +123,6 @@ nan-of-ne x h = differs-from-itself x (rw h tt)
 pub frexp-nan : frexp nan ≡ record { frac = ofBits binary64 0x3FE8_0000_0000_0000; exp = pos 1025 }
 unfolding toBits ofBits
 frexp-nan = refl
-
--- the exponent that `frexp` gives is small
-cond-small : (t : Bool) (a b : Parts) (n : ℕ) → mag (a .exp) < n → mag (b .exp) < n → mag (cond t a b .exp) < n
-cond-small true a b n ha hb = ha
-cond-small false a b n ha hb = hb
-
-pub exp-small : (p : Parts) (x : Float) → p ≡ frexp x → mag (p .exp) < 65536
-exp-small p x e =
-    rw e
-    (cond-small (eqb (field (toBits binary64 x)) 0) _ _ 65536
-    (mag-diff _ 1074 65536 (field-lt (toBits binary64 (mul binary64 x two52) / 2 ^ 52)) (omega arith))
-    (mag-diff _ 1022 65536 (field-lt (toBits binary64 x / 2 ^ 52)) (omega arith)))
-
--- one less than a small number
-mag-pred : (z : ℤ) (n : ℕ) → mag z < n → mag (z -ℤ pos 1) < n + 1
-mag-pred (pos a) n h = cond-mag (ltb a 1) (negsuc (1 - suc a)) (pos (a - 1)) (n + 1) (omega arith) (omega arith)
-mag-pred (negsuc a) n h = omega arith
-
--- a small exponent is read back of its bits, and so is 1 or 0, and the exponent less by either
-pub exp-fits : (z : ℤ) → mag z < 65536 → SFits w32 z
-exp-fits z h = record { sfits = lt-of-lt-of-le h (omega arith) }
-
-pub less-small : (t : Bool) → toZ w32 (ofZ w32 (cond t (pos 1) (pos 0))) ≡ cond t (pos 1) (pos 0)
-less-small true = toZ-ofZ (exp-fits (pos 1) (omega arith))
-less-small false = toZ-ofZ (exp-fits (pos 0) (omega arith))
-
-pub less-fits : (z : ℤ) (t : Bool) → mag z < 65536 → SFits w32 (z -ℤ cond t (pos 1) (pos 0))
-less-fits z true h = record { sfits = lt-of-lt-of-le (mag-pred z 65536 h) (omega arith) }
-less-fits z false h = rw (+ℤ-idr z) (exp-fits z h)
-
--- what the definition combines: the fraction twice and the exponent less by 1, or the fraction once and the exponent as it is
-pub combined : (p : Parts) → T (fits binary64 (p .frac))
-    → combine (mul binary64 (p .frac) (cond (lt (p .frac) sqrt2over2) two64 one64)) (p .exp -ℤ cond (lt (p .frac) sqrt2over2) (pos 1) (pos 0)) ≡ ofParts p
-combined p h = go (lt (p .frac) sqrt2over2)
-  where
-    go : (t : Bool) → combine (mul binary64 (p .frac) (cond t two64 one64)) (p .exp -ℤ cond t (pos 1) (pos 0))
-        ≡ cond t (combine (mul binary64 (p .frac) two64) (p .exp -ℤ pos 1)) (combine (p .frac) (p .exp))
-    go true = refl
-    go false = λ i. combine (times-one (p .frac) h i) (+ℤ-idr (p .exp) i)
 
 -- the definition at each outcome of its tests on x
 pub at-nan : (x : Float) → ne x x ≡ true → x ≡ plog x
@@ -225,3 +192,69 @@ at-normal x n h l =
     let f : field b ≡ b / 2 ^ 52 = field-of b (omega arith) in
     let e : partsOf 0 b ≡ frexp x = simp (ne-eqb (field b) 0 (omega arith)) in
     at-number x (partsOf 0 b) e n (no-infinity x p) (not-below x p) (no-zero x p)
+
+-- either zero equals 0, and a negative number that is no zero is below 0
+zero-equals : (s : Bool) (e : ℤ) → eq (fin s 0 e) zero64 ≡ true
+unfolding eq ofBits
+zero-equals true e = rw (zero-mul (up e), zero-mul (down e)) refl
+zero-equals false e = rw (zero-mul (up e), zero-mul (down e)) refl
+
+negative-below : (m : ℕ) (e : ℤ) → lt (fin true (suc m) e) zero64 ≡ true
+unfolding lt ofBits
+negative-below m e = lt-ltb 0 (suc m * up e * 1 + 0 * 1 * down e) (omega (arith, mul-pos {m = suc m} (omega arith) (up-pos e)))
+
+-- so what passes the four tests is finite and above 0
+pub past-tests : (x : Float) → ne x x ≡ false → eq x (inf false) ≡ false → lt x zero64 ≡ false → eq x zero64 ≡ false → T (positive x)
+unfolding ne eq lt ofBits
+past-tests nan h₁ h₂ h₃ h₄ = absurd (true≢false h₁)
+past-tests (inf true) h₁ h₂ h₃ h₄ = absurd (true≢false h₃)
+past-tests (inf false) h₁ h₂ h₃ h₄ = absurd (true≢false h₂)
+past-tests (fin s zero e) h₁ h₂ h₃ h₄ = absurd (true≢false (sym (zero-equals s e) ∙ h₄))
+past-tests (fin true (suc m) e) h₁ h₂ h₃ h₄ = absurd (true≢false (sym (negative-below m e) ∙ h₃))
+past-tests (fin false (suc m) e) h₁ h₂ h₃ h₄ = lt→ltb 0 (suc m) (omega arith)
+
+-- a / d below c, in units that are l to the whole
+in-units : (a c d l : ℕ) → 0 < d → 0 < l → a < c * d → a * l / d < c * l
+in-units a c d l p q h = div-lt-iff-lt-mul p .1 (lt-of-lt-of-le (mul-lt-mul-of-pos-right h q) (le-of-eq (mul-right-comm c d l)))
+
+-- a finite value without a sign has a pattern without one, and an exponent's field that is not all ones
+finite-lt : (m : ℕ) (e : ℤ) → T (fits binary64 (fin false m e)) → toBits binary64 (fin false m e) < 2047 * 2 ^ 52
+unfolding toBits fits
+finite-lt zero e h = omega (arith, zero-bits e)
+finite-lt (suc m) e h =
+    let n = suc m * up e * 2 ^ 1074 / down e in
+    let l : n < 2 ^ 1024 * 2 ^ 1074 = in-units (suc m * up e) (2 ^ 1024) (down e) (2 ^ 1074) (down-pos e) (pow-pos 1074) (ltb→lt (suc m * up e) (2 ^ 1024 * down e) (and-r (eqb (suc m % 2) 1 && ltb (suc m) (2 ^ 53) && leb (down e) (2 ^ 1074)) _ h)) in
+    let z : size n ≤ 2098 = size-le n 2098 l in
+    omega (arith, kept-lt 53 n)
+
+no-sign-lt : (x : Float) → T (fits binary64 x) → HasSign x false → toBits binary64 x < 2 ^ 63
+unfolding toBits
+no-sign-lt nan f s = absurd s
+no-sign-lt (inf true) f s = absurd (true≢false s)
+no-sign-lt (inf false) f s = omega arith
+no-sign-lt (fin true m e) f s = absurd (true≢false s)
+no-sign-lt (fin false m e) f s = omega (arith, finite-lt m e f)
+
+-- so the pattern of a positive number times 2 ^ 52 has no sign
+pub scaled-lt : (x : Float) → T (positive x) → toBits binary64 (mul binary64 x two52) < 2 ^ 63
+unfolding ofBits
+scaled-lt nan p = absurd p
+scaled-lt (inf s) p = absurd p
+scaled-lt (fin true m e) p = absurd p
+scaled-lt (fin false m e) p =
+    no-sign-lt (mul binary64 (fin false m e) (fin false 1 (pos 52))) (mul-fits binary64 (fin false m e) (fin false 1 (pos 52))) (sign-of-mul binary64 false m e false 1 (pos 52))
+
+positive-lt : (x : Float) → T (fits binary64 x) → T (positive x) → toBits binary64 x < 2047 * 2 ^ 52
+positive-lt nan f p = absurd p
+positive-lt (inf s) f p = absurd p
+positive-lt (fin true m e) f p = absurd p
+positive-lt (fin false m e) f p = finite-lt m e f
+
+-- and a positive number that is not normal has the exponent's field 0: its parts are read off that product
+pub parts-of-subnormal : (x : Float) → T (fits binary64 x) → T (positive x) → (1 ≤ toBits binary64 x / 2 ^ 52 → 2047 ≤ toBits binary64 x / 2 ^ 52)
+    → partsOf 52 (toBits binary64 (mul binary64 x two52)) ≡ frexp x
+parts-of-subnormal x f p o =
+    let b = toBits binary64 x in
+    let l : b < 2047 * 2 ^ 52 = positive-lt x f p in
+    let z : b / 2 ^ 52 < 1 = lt-of-not-le (λ (g : 1 ≤ b / 2 ^ 52). omega (arith, o g)) in
+    simp (eq-eqb (field b) 0 (field-of b (omega arith) ∙ omega arith))

@@ -105,3 +105,8 @@ plog x =
     (cond (lt x zero64) nan
     (cond (eq x zero64) (inf true)
     (ofParts (frexp x))))
+
+-- "−plog(1 − x1)": what the waiting time of a race takes the logarithm of, 1 less the number x1 that an output x of the generator gives: its upper 53 bits times
+-- 2^-53, as `uniform` of the crate rng has it
+abbrev pub rest : ℕ → Float
+rest x = minus one64 (times (ofInt binary64 (pos (x / 2 ^ 11))) (f64 0x3CA0_0000_0000_0000))

@@ -2,9 +2,9 @@
 // same on every machine.
 ghost use mathlib.Core.Path.{_≡_};
 ghost use mathlib.Core.Bool.{cond};
-ghost use Prim.Native.Nat.{_<_};
+ghost use Prim.Native.Nat.{_/_, _^_, _≤_, _<_};
 ghost use lib.IntN.{pos, _-ℤ_};
-ghost use lib.Signed.{mag};
+ghost use lib.Ieee.{binary64, toBits};
 ghost use Rattle.portable_log.specs.Log as Spec;
 
 const EXP_MASK: u64 = 0x7FF << 52;
@@ -15,7 +15,13 @@ const LN2_HI: f64 = 6.93147180369123816490e-01;
 
 const LN2_LO: f64 = 1.90821492927058770002e-10;
 
-const SQRT2_OVER_2: f64 = 0.7071067811865476;
+// The digits of a pattern, and those of sqrt(2)/2.
+const DIGITS: u64 = 0x000F_FFFF_FFFF_FFFF;
+
+const ROOT_DIGITS: u64 = 0x0006_A09E_667F_3BCD;
+
+// 1 in units of 2^-53.
+const WHOLE: u64 = 1 << 53;
 
 // The bit patterns of the polynomial's coefficients L1 to L7.
 const L: [u64; 7] = [
@@ -109,46 +115,32 @@ fn combine(f1: f64, ki: i32) -> f64
     k * LN2_HI - (hfsq - (s * (hfsq + r) + k * LN2_LO) - f)
 }
 
-// What a fraction is multiplied by: 2 where it is to be doubled, else 1.
-fn factor(doubled: bool) -> f64
-    ensures { λ r. ⌜ r ≡ cond doubled Spec.two64 Spec.one64 ⌝ }
+// 1 where a test holds, else 0.
+fn one_if(holds: bool) -> u64
+    ensures { λ r. ⌜ r ≡ cond holds 1 0 ⌝ }
 {
-    if doubled {
-        return 2.0;
-    }
-    1.0
-}
-
-// What its exponent is less by.
-fn less(doubled: bool) -> i32
-    ensures { λ r. ⌜ r ≡ cond doubled (pos 1) (pos 0) ⌝ }
-{
-    if doubled {
+    if holds {
         return 1;
     }
     0
 }
 
-// The logarithm of f1 * 2^ki for f1 from 0.5 to 1: a fraction below sqrt(2)/2 is doubled. The others are multiplied by 1,
-// which changes no number: so nothing branches on a fraction, and no processor has to guess it.
-fn of_parts(f1: f64, ki: i32) -> f64
-    requires { ⌜ mag ki < 65536 ⌝ }
-    ensures { λ r. ⌜ r ≡ Spec.ofParts (record { frac = f1; exp = ki }) ⌝ }
+// The logarithm of the number whose product with 2^scale has the pattern b, which has no sign: so b >> 52 is its exponent's
+// field. A fraction below sqrt(2)/2 is doubled. The digits alone tell it, and doubled it has the same digits: so it is made
+// from integers, nothing branches on what no processor can foresee, and nothing waits for a comparison or a product of floats.
+fn scaled_log(b: u64, scale: u64) -> f64
+    requires { ⌜ (b < 0x8000_0000_0000_0000) × (scale < 64) ⌝ }
+    ensures { λ r. ⌜ r ≡ Spec.ofParts (Spec.partsOf scale b) ⌝ }
 {
-    let doubled = f1 < SQRT2_OVER_2;
-    combine(f1 * factor(doubled), ki - less(doubled))
+    let m = b & DIGITS;
+    let d = one_if(m < ROOT_DIGITS);
+    let f = f64::from_bits(m | ((1022 + d) << 52));
+    combine(f, difference(b >> 52, 1022 + scale + d))
 }
 
-// The logarithm of the normal number above 0 whose pattern is b: without a sign, b >> 52 is the exponent's field.
-fn normal_log(b: u64) -> f64
-    requires { ⌜ b < 0x8000_0000_0000_0000 ⌝ }
-    ensures { λ r. ⌜ r ≡ Spec.ofParts (Spec.partsOf 0 b) ⌝ }
-{
-    of_parts(with_half(b), difference(b >> 52, 1022))
-}
-
-// The natural logarithm of any x.
+// The natural logarithm of an x that is no normal number above 0: the bits above its digits are 0, or 2047 and more.
 fn other_log(x: f64) -> f64
+    requires { ⌜ (1 ≤ toBits binary64 x / 2 ^ 52 → 2047 ≤ toBits binary64 x / 2 ^ 52) ⌝ }
     ensures { λ r. ⌜ r ≡ Spec.plog x ⌝ }
 {
     if x != x {
@@ -163,8 +155,8 @@ fn other_log(x: f64) -> f64
     if x == 0.0 {
         return f64::from_bits(0xFFF0_0000_0000_0000);
     }
-    let p = frexp(x);
-    of_parts(p.frac, p.exp)
+    // What is left is subnormal.
+    scaled_log(f64::to_bits(x * TWO_52), 52)
 }
 
 // The natural logarithm of x. NaN and +infinity come back unchanged, a negative x gives NaN, either zero -infinity. A
@@ -179,8 +171,18 @@ pub fn plog(x: f64) -> f64
     let e = b >> 52;
     if 1 <= e {
         if e < 2047 {
-            return normal_log(b);
+            return scaled_log(b, 0);
         }
     }
     other_log(x)
+}
+
+// The natural logarithm of 1 less the number in [0, 1) that an output x of the generator gives. What is left is n * 2^-53
+// for a whole number n from 1 to 2^53, which a float holds: so its product with 2^53 is n, and nothing is rounded.
+pub fn plog_of_rest(x: u64) -> f64
+    ensures { λ r. ⌜ r ≡ Spec.plog (Spec.rest x) ⌝ }
+{
+    let n = WHOLE - (x >> 11);
+    // A signed conversion is one instruction.
+    scaled_log(f64::to_bits(n as i64 as f64), 53)
 }

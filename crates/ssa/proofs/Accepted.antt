@@ -83,20 +83,16 @@ cells-fit p n h k = let m : p * n ≤ 32 * 1024 = mul-le-mul h k in omega arith
 
 -- ---- the tidied net r of n: the same places, initial counts and reading
 
-module _ (r n : NetRecord) where
-  pub first-small : Sound n → r .places ≡ n .places → r .initial ≡ n .initial → (p : ℕ) → p < r .places → getD (r .initial) p 0 ≤ 2 ^ 53
-  first-small s e f p h =
-      subst (λ (xs : List ℕ). getD xs p 0 ≤ 2 ^ 53) (sym f) (s .initial p (subst (λ (k : ℕ). p < k) e h))
-
-  pub same-run : {x : Call} (g : Generator) (xs : List Float) (k : ℕ) (table : List Float) → r .places ≡ n .places → readable r ≡ readable n
-      → x ≡ played (r .places) (length xs) g table (worked (readable r) g xs k) → x ≡ played (n .places) (length xs) g table (worked (readable n) g xs k)
-  same-run g xs k table e f h =
-      h
-      ∙ ap (λ (p : ℕ). played p (length xs) g table (worked (readable r) g xs k)) e
-      ∙ ap (λ (m : Net). played (n .places) (length xs) g table (worked m g xs k)) f
+pub first-small : (r n : NetRecord) → Sound n → r .places ≡ n .places → r .initial ≡ n .initial → (p : ℕ) → p < r .places → getD (r .initial) p 0 ≤ 2 ^ 53
+first-small r n s e f p h =
+    subst (λ (xs : List ℕ). getD xs p 0 ≤ 2 ^ 53) (sym f) (s .initial p (subst (λ (k : ℕ). p < k) e h))
 
 pub same-room : {p q : ℕ} (i l : ℕ) → p ≡ q → q * i ≤ l → p * i ≤ l
 same-room i l e h = subst (λ (k : ℕ). k * i ≤ l) (sym e) h
+
+pub same-run : {x : Call} (places : ℕ) (g : Generator) (xs : List Float) (k : ℕ) (table : List Float) {m n : Net} → m ≡ n
+    → x ≡ played places (length xs) g table (worked m g xs k) → x ≡ played places (length xs) g table (worked n g xs k)
+same-run places g xs k table e h = h ∙ ap (λ (z : Net). played places (length xs) g table (worked z g xs k)) e
 
 -- ---- the call
 

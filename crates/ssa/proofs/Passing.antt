@@ -20,7 +20,7 @@ use Rattle.rules.specs.Moves.{transition}
 use Rattle.rules.specs.Timers.{Timer}
 use Rattle.rules.specs.Step.{Answer, Starts, passes}
 use Rattle.engine.specs.Guards.{Quiet}
-use Rattle.kept.specs.Kept.{Timed}
+use Rattle.engine.specs.Traits.{Marks}
 use Rattle.ssa.specs.Keeping.{ShutBut}
 use Rattle.ssa.proofs.Passes.{SoFar, left, passFrom, Off, from-skip, from-none, passes-none}
 use Rattle.ssa.proofs.Shut.{shut-joined, shut-off}
@@ -45,7 +45,7 @@ pub asked-only : (before delayed j : ℕ) → bit (bitAnd before delayed) j ≡ 
 asked-only before delayed j e = both (bit before j) (bit delayed j) (sym (bit-and before delayed j) ∙ e) .1
 
 -- the delayed ones alone of a word
-pub asked-shut : (n : NetRecord) (delayed : ℕ) → Timed n delayed → (m : Marking) (before : ℕ) → ShutBut before (readable n) m
+pub asked-shut : (n : NetRecord) (delayed : ℕ) → Marks n timed delayed → (m : Marking) (before : ℕ) → ShutBut before (readable n) m
     → ShutBut (bitAnd before delayed) (readable n) m
 asked-shut n delayed w m before s j l d e =
     let k : j < n .transitions = omega (arith, transitions-length n) in
@@ -72,7 +72,7 @@ none-asked n m asked z s room t q k =
 
 -- ---- a pass
 
-module _ (n : NetRecord) (delayed : ℕ) (w : Timed n delayed) (m : Marking) (tried from ahead : ℕ) (a : Ahead n delayed m tried from ahead) where
+module _ (n : NetRecord) (delayed : ℕ) (w : Marks n timed delayed) (m : Marking) (tried from ahead : ℕ) (a : Ahead n delayed m tried from ahead) where
   -- behind what is done and not ahead, none may start
   off : (room : ℕ) (t : Float) (q : List Timer) (i : ℕ) → from ≤ i → i < n .transitions → bit ahead i ≡ false → Off room n t m q i
   off room t q i l h e =

@@ -22,11 +22,12 @@ use Rattle.rules.specs.Timers.{Timer, timerOf, insert}
 use Rattle.rules.specs.Step.{State, Answer, refused, given, Starts, preceded, pass, starts}
 use Rattle.rules.proofs.Detours.{starts-done}
 use Rattle.engine.specs.Guards.{Quiet}
-use Rattle.kept.specs.Kept.{Kept, Timed, AllShut}
+use Rattle.engine.specs.Traits.{Marks}
+use Rattle.kept.specs.Kept.{Kept, AllShut}
 use Rattle.ssa.specs.Keeping.{ShutBut}
 use Rattle.ssa.specs.Starts.{StartsAre, full, done}
 use Rattle.ssa.specs.declared.starts.Started.{Started}
-use Rattle.engine.proofs.Touching.{transition-at}
+use Rattle.engine.proofs.Sides.{transition-at}
 use Rattle.ssa.proofs.Passes.{Off}
 
 neither : (a b : Bool) → (a || b) ≡ false → (a ≡ false) × (b ≡ false)
@@ -44,7 +45,7 @@ pub shut-quiet : (n : Net) {m m′ : Marking} {moved crossed : ℕ} (asked : ℕ
 shut-quiet n asked s q word h j l d e = let w = h j l d e in q .gates j l (w .1) ∙ s j l d (w .0)
 
 -- the word after a start: those asked before, and the delayed ones that it may have opened
-pub shut-joined : (n : NetRecord) {m m′ : Marking} {moved : ℕ} (crossed delayed asked : ℕ) → Timed n delayed → ShutBut asked (readable n) m
+pub shut-joined : (n : NetRecord) {m m′ : Marking} {moved : ℕ} (crossed delayed asked : ℕ) → Marks n timed delayed → ShutBut asked (readable n) m
     → Quiet (readable n) m m′ moved crossed → ShutBut (bitOr asked (bitAnd crossed delayed)) (readable n) m′
 shut-joined n crossed delayed asked w s q =
     shut-quiet (readable n) asked s q (bitOr asked (bitAnd crossed delayed))

@@ -39,7 +39,7 @@ use Rattle.ssa.specs.Starts.{StartsAre, full, done}
 use Rattle.ssa.specs.Stepping as Stepping
 use Rattle.ssa.specs.Stepping.{stateOf, tokensOf, eventOf, AdvancedBy, EventBy, happens, tooLarge, StepBy}
 use Rattle.engine.proofs.Marks.{fit-all}
-use Rattle.engine.proofs.Touching.{transition-at}
+use Rattle.engine.proofs.Sides.{transition-at}
 use Rattle.ssa.proofs.Tokens.{transition-past, taken-first}
 
 -- ---- events
@@ -155,6 +155,29 @@ module _ (n : NetRecord) (s : State) (a0 : Float) (props : List Float) (u : Stat
 
   pub event-races : {b : Bool} → b ≡ false → EventBy (raced (readable n) s a0 (take (n .transitions) props)) u many r → EventBy (eventOf n s a0 props b) u many r
   event-races e h = subst (λ (c : Bool). EventBy (eventOf n s a0 props c) u many r) (sym e) h
+
+-- the generator that an event leaves: a race has drawn
+abbrev leftBy : Generator → Answer Event → Generator
+leftBy g (refused c) = g
+leftBy g (given e) = e .leaves .generator
+
+event-drawn : (n : Net) (s : State) (e : Entry) (q : List Timer) (g : Generator) (this : Event) → event n s e q g ≡ given this → this .leaves .generator ≡ g
+event-drawn n s e q g this h = go (countsFit (move n (s .counts) e)) h
+  where
+    go : (b : Bool) → pick b (given (record { what = e ∷ []; leaves = state (s .clock) (move n (s .counts) e) q g })) (refused Refusal.countTooLarge) ≡ given this
+        → this .leaves .generator ≡ g
+    go true h = sym (ap (leftBy g) h)
+    go false h = absurd (let z : _≡_ {A = ℕ} 0 1 = cc in omega arith)
+
+fire-drawn : (n : Net) (s : State) (o : Option ℕ) (this : Event) → fire n s o ≡ given this → this .leaves .generator ≡ s .generator
+fire-drawn n s none this h = sym (ap (leftBy (s .generator)) h)
+fire-drawn n s (some j) this h = event-drawn n s (fired j) (s .timers) (s .generator) this h
+
+pub drawn-after : (n : NetRecord) (s : State) (a0 : Float) (props : List Float) (b : Bool) (u : State) (many : ℕ) (r : Bool) → EventBy (eventOf n s a0 props b) u many r → r ≡ true
+    → u .generator ≡ pick b (s .generator) (drawn (s .generator))
+drawn-after n s a0 props b u many false h t = absurd (true≢false (sym t))
+drawn-after n s a0 props true u many true (happens e is leaves all) t = ap (λ (x : State). x .generator) (sym leaves) ∙ event-drawn (readable n) s (completed (first (s .timers) .who)) (others (s .timers)) (s .generator) e is
+drawn-after n s a0 props false u many true (happens e is leaves all) t = ap (λ (x : State). x .generator) (sym leaves) ∙ fire-drawn (readable n) (state (s .clock) (s .counts) (s .timers) (drawn (s .generator))) (chosen (mul binary64 (uniform (s .generator)) a0) (take (n .transitions) props)) e is
 
 -- ---- up to the clock reading
 

@@ -21,7 +21,7 @@ use Rattle.rules.specs.Demand3.{Ready as Allowed}
 use Rattle.rules.proofs.Counts.{once-each}
 use Rattle.rules.proofs.Peaks.{sum-taking}
 use Rattle.engine.specs.Engine.{AtMost, Tidy}
-use Rattle.engine.proofs.Touching.{transition-at}
+use Rattle.engine.proofs.Sides.{transition-at}
 use Rattle.timers.specs.declared.Ring.{Ring}
 use Rattle.timers.specs.Turning.{timersOf}
 use Rattle.timers.proofs.Rings.{length-timers}

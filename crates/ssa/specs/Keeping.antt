@@ -7,12 +7,13 @@ use lib.ListN.{length}
 use lib.Ieee.{Float}
 use Rattle.words.specs.Bits.{bit}
 use Rattle.net.specs.declared.Net.{Net as NetRecord}
-use Rattle.net.specs.Net.{Net, Marking}
+use Rattle.net.specs.Net.{Net, Marking, timed}
 use Rattle.net.specs.Readable.{readable}
 use Rattle.rules.specs.Index as Index
 use Rattle.jump.specs.Summing.{Summed}
 use Rattle.engine.specs.Guards.{Guards}
-use Rattle.kept.specs.Kept.{Kept, Marked, Rates, Ends, Timed, Heavy}
+use Rattle.engine.specs.Traits.{Marks, takesSeveral}
+use Rattle.kept.specs.Kept.{Kept, Marked, Rates, Ends}
 use Rattle.ssa.specs.declared.step.Keeping.{Keeping}
 
 -- the tables: rates, the ends of kinetic slots, the index, and the words of the delayed transitions and of those that take several tokens kinetically
@@ -20,8 +21,8 @@ pub record Tables (n : NetRecord) (rates : List Float) (ends guards : List ℕ) 
   pub rated : Rates n rates
   pub ended : Ends n ends
   pub index : Guards n guards
-  pub waits : Timed n delayed
-  pub heavies : Heavy n several
+  pub waits : Marks n timed delayed
+  pub heavies : Marks n takesSeveral several
 
 -- what is carried, at the counts m
 pub record Carried (n : NetRecord) (m : Marking) (k : Keeping) (props sums : List Float) : Type 0 where

@@ -7,7 +7,7 @@ ghost use Prim.Native.Nat.{ℕ, _*_, _^_, _<_, _≤_};
 ghost use lib.ListN.{length, getD};
 ghost use lib.Ieee.{Float, binary64, ofBits, le};
 ghost use Rattle.net.specs.Readable as Record;
-ghost use Rattle.net.specs.Record.{lent};
+ghost use Rattle.net.specs.Record.{lent, labelled};
 ghost use Rattle.net.specs.declared.Net.{Net as NetRecord};
 ghost use Rattle.rng.specs.State as Random;
 ghost use Rattle.rules.specs.Shown as Shown;
@@ -18,7 +18,6 @@ use crate::PathEnd;
 use crate::run;
 use crate::tables;
 use engine::slots;
-use net::Net;
 use rng::Xoshiro256;
 
 // The bounds of document 01, "Path".
@@ -157,30 +156,64 @@ fn lent_path<'a>(
     )
 }
 
-// The path of a call that no test turns down.
-pub fn accepted_path(
-    net: Net,
+// The path of a call that no test turns down, over the net whose fields are lent. Of these only the slots in use are copied.
+pub fn accepted_path<'a>(
+    places: usize,
+    transitions: usize,
+    initial: &'a [u64; 32],
+    capacity: &'a [u64; 32],
+    label: &'a [u8; 512],
+    lengths: &'a [usize; 32],
+    rate: &'a [f64; 64],
+    delay: &'a [f64; 64],
+    arcs: &'a [usize; 64],
+    kind: &'a [u64; 1024],
+    place: &'a [usize; 1024],
+    weight: &'a [u64; 1024],
     generator: Xoshiro256,
     instants: &[f64],
     limit: u64,
     table: &mut [f64],
 ) -> PathAnswer
-    requires { ⌜ (Record.fault net ≡ none) × (Shown.instantsFit (now instants) ≡ true) × (net .places * length (now instants) ≤ length (now table)) ⌝ }
-    ensures { λ r. ⌜ Path.callOf r (now (table .exit)) ≡ Path.played (net .places) (length (now (instants .entry))) (Random.words (generator .s)) (now (table .entry))
+    ghost { NetRecord }
+    requires { λ net. ⌜ labelled places transitions (now initial) (now capacity) (now label) (now lengths) (now rate) (now delay) (now arcs) (now kind) (now place) (now weight) ≡ net ⌝ }
+    requires { λ net. ⌜ (Record.fault net ≡ none) × (Shown.instantsFit (now instants) ≡ true) × (places * length (now instants) ≤ length (now table)) ⌝ }
+    ensures { λ net r. ⌜ Path.callOf r (now (table .exit)) ≡ Path.played places (length (now (instants .entry))) (Random.words (generator .s)) (now (table .entry))
         (Shown.worked (Record.readable net) (Random.words (generator .s)) (now (instants .entry)) limit) ⌝ }
 {
-    let n = slots::tidied(net);
+    let mut count = [0usize; 64];
+    let mut kinds = [0u64; 1024];
+    let mut at = [0usize; 1024];
+    let mut weights = [0u64; 1024];
+    slots::tidy(
+        places,
+        transitions,
+        initial,
+        capacity,
+        label,
+        lengths,
+        rate,
+        delay,
+        arcs,
+        kind,
+        place,
+        weight,
+        &mut count,
+        &mut kinds,
+        &mut at,
+        &mut weights,
+    );
     lent_path(
-        n.places,
-        n.transitions,
-        &n.initial,
-        &n.capacity,
-        &n.rate,
-        &n.delay,
-        &n.arcs,
-        &n.kind,
-        &n.place,
-        &n.weight,
+        places,
+        transitions,
+        initial,
+        capacity,
+        rate,
+        delay,
+        &count,
+        &kinds,
+        &at,
+        &weights,
         instants,
         limit,
         generator,

@@ -10,6 +10,7 @@ mod step;
 mod tables;
 
 ghost use mathlib.Core.Path.{_≡_};
+ghost use Rattle.net.specs.Record.{labelled};
 ghost use Rattle.rng.specs.State as Random;
 ghost use Rattle.ssa.specs.Ensemble as Ensemble;
 ghost use Rattle.ssa.specs.Path as Path;
@@ -45,9 +46,79 @@ pub enum EnsembleAnswer {
     Stopped(u64, u64),
 }
 
-// A path of the net from the generator's state: place p at instant i is cell p * n + i of the table, n instants. The end, the steps, how many
-// instants are settled, the peak, how many steps add a rounded propensity and the generator after it are the answer. A net, instants, a limit or a table that does not fit is turned down
-// with nothing touched; a run in which a count would pass 2^53 or a 257th timer would start leaves +0 in the answer's cells.
+// A path of the net whose fields are lent, from the generator's state: place p at instant i is cell p * n + i of the table, n instants. The end, the steps,
+// how many instants are settled, the peak, how many steps add a rounded propensity and the generator after it are the answer. A net, instants, a limit or a
+// table that does not fit is turned down with nothing touched; a run in which a count would pass 2^53 or a 257th timer would start leaves +0 in the answer's
+// cells. A caller that holds the fields already is spared the copy that `path` takes.
+pub fn fields_path<'a>(
+    places: usize,
+    transitions: usize,
+    initial: &'a [u64; 32],
+    capacity: &'a [u64; 32],
+    label: &'a [u8; 512],
+    lengths: &'a [usize; 32],
+    rate: &'a [f64; 64],
+    delay: &'a [f64; 64],
+    arcs: &'a [usize; 64],
+    kind: &'a [u64; 1024],
+    place: &'a [usize; 1024],
+    weight: &'a [u64; 1024],
+    generator: Xoshiro256,
+    instants: &[f64],
+    limit: u64,
+    table: &mut [f64],
+) -> PathAnswer
+    ensures { λ r. ⌜ Path.callOf r (now (table .exit)) ≡ Path.called (labelled places transitions (now (initial .entry)) (now (capacity .entry))
+        (now (label .entry)) (now (lengths .entry)) (now (rate .entry)) (now (delay .entry)) (now (arcs .entry))
+        (now (kind .entry)) (now (place .entry)) (now (weight .entry))) (Random.words (generator .s)) (now (instants .entry)) limit (now (table .entry)) ⌝ }
+{
+    if let Verdict::Refused(c) = net::fields_fault(
+        places,
+        transitions,
+        initial,
+        capacity,
+        label,
+        lengths,
+        rate,
+        delay,
+        arcs,
+        kind,
+        place,
+        weight,
+    ) {
+        return accept::turned_down(c, generator);
+    }
+    if !accept::instants_fit(instants) {
+        return accept::turned_down(refusals::BAD_INSTANTS, generator);
+    }
+    if !accept::limit_fits(limit) {
+        return accept::turned_down(refusals::BAD_LIMIT, generator);
+    }
+    let n = instants.len();
+    if table.len() < places * n {
+        return accept::turned_down(refusals::SHORT_TABLE, generator);
+    }
+    accept::accepted_path(
+        places,
+        transitions,
+        initial,
+        capacity,
+        label,
+        lengths,
+        rate,
+        delay,
+        arcs,
+        kind,
+        place,
+        weight,
+        generator,
+        instants,
+        limit,
+        table,
+    )
+}
+
+// The same of a net that is given whole.
 pub fn path(
     net: Net,
     generator: Xoshiro256,
@@ -57,21 +128,24 @@ pub fn path(
 ) -> PathAnswer
     ensures { λ r. ⌜ Path.callOf r (now (table .exit)) ≡ Path.called net (Random.words (generator .s)) (now (instants .entry)) limit (now (table .entry)) ⌝ }
 {
-    if let Verdict::Refused(c) = net::test_net(net) {
-        return accept::turned_down(c, generator);
-    }
-    if !accept::instants_fit(instants) {
-        return accept::turned_down(refusals::BAD_INSTANTS, generator);
-    }
-    if !accept::limit_fits(limit) {
-        return accept::turned_down(refusals::BAD_LIMIT, generator);
-    }
-    let places = net.places;
-    let n = instants.len();
-    if table.len() < places * n {
-        return accept::turned_down(refusals::SHORT_TABLE, generator);
-    }
-    accept::accepted_path(net, generator, instants, limit, table)
+    fields_path(
+        net.places,
+        net.transitions,
+        &net.initial,
+        &net.capacity,
+        &net.label,
+        &net.lengths,
+        &net.rate,
+        &net.delay,
+        &net.arcs,
+        &net.kind,
+        &net.place,
+        &net.weight,
+        generator,
+        instants,
+        limit,
+        table,
+    )
 }
 
 // Paths from consecutive seeds over a grid of instants: their means and deviations go to the first cells of those tables, place p at instant i in cell

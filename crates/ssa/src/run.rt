@@ -13,6 +13,7 @@ ghost use Rattle.rules.specs.Moments as Moments;
 ghost use Rattle.rules.specs.Moves as Moves;
 ghost use Rattle.rules.specs.Shown as Shown;
 ghost use Rattle.rules.proofs.Play as Play;
+ghost use Rattle.jump.specs.Answers.{unitWait};
 ghost use Rattle.engine.specs.Engine as Engine;
 ghost use Rattle.engine.specs.Limits as Limits;
 ghost use Rattle.words.specs.Bits.{bit};
@@ -91,7 +92,8 @@ fn take_steps<'a>(
         × Keeps.Tables net (now rates) (now ends) (now guards) timed heavy × Keeps.Carried net (Engine.marking places (now counts)) (s .kept) (now props) (now sums)
         × (s .next ≤ length (now instants)) × (length (now instants) ≤ 1024)
         × (places * length (now instants) ≤ length (now table)) × (s .tokens ≤ s .peak)
-        × (s .tokens ≡ Stepping.tokensOf (Stepping.stateOf net (now counts) (now ats) (now owners) (s .timers) (s .clock) (s .rng .s))) ⌝ }
+        × (s .tokens ≡ Stepping.tokensOf (Stepping.stateOf net (now counts) (now ats) (now owners) (s .timers) (s .clock) (s .rng .s)))
+        × (s .unit ≡ unitWait (Random.words (s .rng .s))) ⌝ }
     ensures is { λ net r. ⌜ Playing.WalkBy
         (Play.higher (s .peak) (Play.play room (Record.readable net) last steps (ListN.drop (s .next) (now (instants .entry)))
         (Stepping.stateOf net (now (counts .entry)) (now (ats .entry)) (now (owners .entry)) (s .timers) (s .clock) (s .rng .s))))
@@ -295,6 +297,7 @@ pub fn play<'a>(
         peak: tokens,
         rng: rng,
         kept: kept,
+        unit: jump::unit_wait(rng),
     };
     let w = take_steps(
         places,

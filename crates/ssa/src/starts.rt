@@ -5,6 +5,7 @@ ghost use mathlib.Core.List.{[], _∷_};
 ghost use Prim.Native.Nat.{ℕ, suc, _+_, _^_, _<_, _≤_};
 ghost use lib.Dec.{leb};
 ghost use mathlib.Core.Bool.{_&&_};
+ghost use Rattle.net.specs.Net.{timed as delayed};
 ghost use Rattle.net.specs.Readable as Record;
 ghost use Rattle.net.specs.Record.{lent};
 ghost use Rattle.net.specs.declared.Net.{Net as NetRecord};
@@ -12,6 +13,7 @@ ghost use Rattle.rules.specs.Step as Rule;
 ghost use Rattle.words.specs.Bits.{bit};
 ghost use Rattle.engine.specs.Engine as Engine;
 ghost use Rattle.engine.specs.Guards as Guards;
+ghost use Rattle.engine.specs.Traits as Traits;
 ghost use Rattle.kept.specs.Kept as Kept;
 ghost use Rattle.ssa.specs.Keeping as Keeping;
 ghost use Rattle.ssa.specs.Starts as Starts;
@@ -147,7 +149,7 @@ fn pass<'a>(
     ghost { NetRecord }
     requires { λ net. ⌜ lent places transitions (now initial) (now capacity) (now rate) (now delay) (now arcs) (now kind) (now place) (now weight) ≡ net ⌝ }
     requires { λ net. ⌜ Stepping.Ready net (now limit) (now counts) (now ats) (now owners) ring × Stepping.Roomy room ring × Guards.Guards net (now guards)
-        × Kept.Timed net timed × ((j : ℕ) → bit asked j ≡ true → bit timed j ≡ true) × Keeping.ShutBut asked (Record.readable net) (Engine.marking places (now counts)) ⌝ }
+        × Traits.Marks net delayed timed × ((j : ℕ) → bit asked j ≡ true → bit timed j ≡ true) × Keeping.ShutBut asked (Record.readable net) (Engine.marking places (now counts)) ⌝ }
     ensures is { λ net r. ⌜ Starts.StartsAre
         (Rule.pass room (Record.readable net) t 0 (Record.readable net .transitions)
         (Engine.marking places (now (counts .entry))) (Turning.timersOf (now (ats .entry)) (now (owners .entry)) ring))
@@ -232,7 +234,7 @@ pub fn start_all<'a>(
     ghost { NetRecord }
     requires { λ net. ⌜ lent places transitions (now initial) (now capacity) (now rate) (now delay) (now arcs) (now kind) (now place) (now weight) ≡ net ⌝ }
     requires { λ net. ⌜ Stepping.Ready net (now limit) (now counts) (now ats) (now owners) ring × Stepping.Roomy room ring × Guards.Guards net (now guards)
-        × Kept.Timed net timed × Keeping.ShutBut before (Record.readable net) (Engine.marking places (now counts)) ⌝ }
+        × Traits.Marks net delayed timed × Keeping.ShutBut before (Record.readable net) (Engine.marking places (now counts)) ⌝ }
     ensures is { λ net r. ⌜ Starts.StartsAre
         (Rule.passes (suc room) room (Record.readable net) t (Engine.marking places (now (counts .entry))) (Turning.timersOf (now (ats .entry)) (now (owners .entry)) ring))
         (Engine.marking places (now (counts .exit))) (Turning.timersOf (now (ats .exit)) (now (owners .exit)) (r .timers)) r ⌝ }

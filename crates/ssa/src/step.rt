@@ -5,7 +5,11 @@ ghost use lib.ListN.{length};
 ghost use Rattle.net.specs.Readable as Record;
 ghost use Rattle.net.specs.Record.{lent};
 ghost use Rattle.net.specs.declared.Net.{Net as NetRecord};
+ghost use Rattle.net.specs.Net.{pick};
+ghost use Rattle.rng.specs.State as Random;
+ghost use Rattle.rng.specs.Xoshiro.{step as drawn};
 ghost use Rattle.rules.specs.Step as Rule;
+ghost use Rattle.jump.specs.Answers.{unitWait};
 ghost use Rattle.engine.specs.Engine as Engine;
 ghost use Rattle.ssa.specs.Keeping as Keeps;
 ghost use Rattle.ssa.specs.Cells as Cells;
@@ -29,7 +33,7 @@ pub struct Keeping {
 }
 
 // What a step begins with and leaves, beside the counts and the slots of the timers: the timers' ring, how many instants have been shown, the tokens (all
-// place counts plus the weights taken by the running timers), and the peak so far.
+// place counts plus the weights taken by the running timers), the peak so far, and the waiting time that the generator draws next, at a total of 1.
 pub struct Now {
     pub clock: f64,
     pub timers: Ring,
@@ -38,6 +42,7 @@ pub struct Now {
     pub peak: u64,
     pub rng: Xoshiro256,
     pub kept: Keeping,
+    pub unit: f64,
 }
 
 // Whether the run goes on, and how it ends where it does not.
@@ -101,11 +106,12 @@ fn advance<'a>(
     t: f64,
     rng: Xoshiro256,
     kept: Keeping,
+    unit: f64,
 ) -> Advanced
     ghost { NetRecord }
     requires { λ net. ⌜ lent places transitions (now initial) (now capacity) (now rate) (now delay) (now arcs) (now kind) (now place) (now weight) ≡ net ⌝ }
     requires { λ net. ⌜ Stepping.Ready net (now limit) (now counts) (now ats) (now owners) ring × Stepping.Roomy room ring × Keeps.Tables net (now rates) (now ends) (now guards) timed heavy
-        × Keeps.Carried net (Engine.marking places (now counts)) kept (now props) (now sums) ⌝ }
+        × Keeps.Carried net (Engine.marking places (now counts)) kept (now props) (now sums) × (unit ≡ unitWait (Random.words (rng .s))) ⌝ }
     ensures is { λ net r. let before = Stepping.stateOf net (now (counts .entry)) (now (ats .entry)) (now (owners .entry)) ring t (rng .s) in
         ⌜ Stepping.AdvancedBy net (Rule.step room (Record.readable net) before) before
         (Stepping.stateOf net (now (counts .exit)) (now (ats .exit)) (now (owners .exit)) (r .timers) (r .clock) (r .rng .s))
@@ -186,7 +192,7 @@ fn advance<'a>(
         marks: fresh.marks,
         a0: a0,
     };
-    let w = jump::waiting(a0, rng);
+    let w = jump::waiting(a0, unit, rng);
     let dt = w.dt;
     let g = w.rng;
     let x = timers::first(ats, owners, left);
@@ -232,6 +238,17 @@ fn higher(peak: u64, tokens: u64) -> u64
     peak
 }
 
+// The generator after the event: a race draws.
+fn after_event(rng: Xoshiro256, completes: bool) -> Xoshiro256
+    ensures { λ r. ⌜ Random.words (r .s) ≡ pick completes (Random.words (rng .s)) (drawn (Random.words (rng .s))) ⌝ }
+{
+    if completes {
+        return rng;
+    }
+    let d = rng.next_u64();
+    d.rng
+}
+
 // One step.
 pub fn one_step<'a>(
     places: usize,
@@ -267,7 +284,8 @@ pub fn one_step<'a>(
         × Keeps.Tables net (now rates) (now ends) (now guards) timed heavy × Keeps.Carried net (Engine.marking places (now counts)) (s .kept) (now props) (now sums)
         × (s .next ≤ length (now instants)) × (length (now instants) ≤ 1024)
         × (places * length (now instants) ≤ length (now table))
-        × (s .tokens ≡ Stepping.tokensOf (Stepping.stateOf net (now counts) (now ats) (now owners) (s .timers) (s .clock) (s .rng .s))) ⌝ }
+        × (s .tokens ≡ Stepping.tokensOf (Stepping.stateOf net (now counts) (now ats) (now owners) (s .timers) (s .clock) (s .rng .s)))
+        × (s .unit ≡ unitWait (Random.words (s .rng .s))) ⌝ }
     ensures is { λ net r. let before = Stepping.stateOf net (now (counts .entry)) (now (ats .entry)) (now (owners .entry)) (s .timers) (s .clock) (s .rng .s) in
         ⌜ Stepping.StepBy (Rule.step room (Record.readable net) before) before last
         (λ u. Cells.ShownBy places (now (instants .entry)) (u .clock) (u .counts) (s .next) (r .now .next) (now (table .entry)) (now (table .exit)))
@@ -277,7 +295,8 @@ pub fn one_step<'a>(
         (r .rounded) (r .ending) ⌝ }
     ensures ready { λ net r. ⌜ Stepping.Ready net (now (limit .entry)) (now (counts .exit)) (now (ats .exit)) (now (owners .exit)) (r .now .timers)
         × Stepping.Roomy room (r .now .timers)
-        × (r .ending ≡ Ending.GoesOn → Keeps.Carried net (Engine.marking places (now (counts .exit))) (r .now .kept) (now (props .exit)) (now (sums .exit)))
+        × (r .ending ≡ Ending.GoesOn → Keeps.Carried net (Engine.marking places (now (counts .exit))) (r .now .kept) (now (props .exit)) (now (sums .exit))
+        × (r .now .unit ≡ unitWait (Random.words (r .now .rng .s))))
         × (length (now (table .exit)) ≡ length (now (table .entry)))
         × Cells.Stay places (length (now (instants .entry))) (now (table .entry)) (now (table .exit)) ⌝ }
 {
@@ -312,6 +331,7 @@ pub fn one_step<'a>(
         t,
         rng,
         kept,
+        s.unit,
     );
     let left = d.timers;
     let rounded = d.rounded;
@@ -329,6 +349,7 @@ pub fn one_step<'a>(
                 peak: s.peak,
                 rng: g,
                 kept: fresh,
+                unit: s.unit,
             };
             Stepped {
                 now: now,
@@ -345,6 +366,7 @@ pub fn one_step<'a>(
                 peak: s.peak,
                 rng: g,
                 kept: fresh,
+                unit: s.unit,
             };
             Stepped {
                 now: now,
@@ -363,6 +385,7 @@ pub fn one_step<'a>(
                     peak: s.peak,
                     rng: g,
                     kept: fresh,
+                    unit: s.unit,
                 };
                 return Stepped {
                     now: now,
@@ -370,6 +393,7 @@ pub fn one_step<'a>(
                     ending: Ending::Reached,
                 };
             }
+            let unit = jump::unit_wait(after_event(g, d.completes));
             let e = firing::happen(
                 places,
                 transitions,
@@ -412,6 +436,7 @@ pub fn one_step<'a>(
                 peak: higher(s.peak, e.tokens),
                 rng: h,
                 kept: later,
+                unit: unit,
             };
             if e.fits {
                 return Stepped {

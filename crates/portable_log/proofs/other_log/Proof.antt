@@ -1,24 +1,14 @@
--- The four tests on x are the definition's, in its order (`at-nan` to `at-number`). The exponent that `frexp` gives is small, so it is read back unchanged.
-use mathlib.Core.Path.{_≡_, ap, _∙_}
-use Prim.Native.Nat.{_<_}
-use lib.IntN.{ℤ}
-use lib.Signed.{mag}
-use Rattle.portable_log.specs.Log.{ofParts, plog}
-use mir.Facts.{toZ-ofZ}
-use Rattle.portable_log.proofs.Laws.{inf-bits, minus-inf-bits, zero-over-zero, inf-is-no-nan, minus-inf-is-no-nan, at-nan, at-infinity, at-negative, at-zero, at-number, exp-small, exp-fits}
-use borrow.Author.Needs.{needs}
+-- The four tests on x are the definition's, in its order (`at-nan` to `at-number`). What passes them is subnormal, and its parts are those of its product with 2 ^ 52
+-- (`parts-of-subnormal`).
+use mathlib.Core.Path.{sym, _∙_, subst}
+use lib.Dec.{T}
+use native.Mathlib.Omega.{arith}
+use lib.Ieee.{binary64, mul, toBits}
+use lib.Ieee.Positive.{positive}
+use Rattle.portable_log.specs.Log.{partsOf, two52}
+use Rattle.portable_log.proofs.Laws.{inf-bits, minus-inf-bits, zero-over-zero, inf-is-no-nan, minus-inf-is-no-nan, no-nan, scaled-number, at-nan, at-infinity, at-negative, at-zero, at-number, past-tests, scaled-lt, parts-of-subnormal}
 use Rattle.portable_log.proofs.other_log.Statement.{statement}
 use Rattle.portable_log.proofs.other_log.Tie as tie
-
--- past the first four tests the definition goes by what `frexp` gave
-past : (f : tie.After-frexp) → ofParts (f .frexp .result) ≡ plog (f .before .before .before .before .before .args .x)
-past f =
-    let e = f .before .before .before in
-    at-number (e .before .before .args .x) (f .frexp .result) (f .frexp .ensures) (e .before .if1 .left)
-    (rw inf-bits at (e .if2 .left)) (f .before .before .if3 .left) (f .before .if4 .left)
-
-small : (f : tie.After-frexp) → mag (f .frexp .result .exp) < 65536
-small f = exp-small (f .frexp .result) (f .before .before .before .before .before .args .x) (f .frexp .ensures)
 
 returns : tie.Need-returns
 returns c = at-nan (c .before .args .x) (c .if1 .taken)
@@ -43,17 +33,27 @@ returns-4 c =
     minus-inf-bits
     ∙ at-zero (b .before .args .x) (b .if1 .left) (rw inf-bits at (c .before .before .if2 .left)) (c .before .if3 .left) (c .if4 .taken)
 
-frexp-requires : tie.Need-frexp-requires
-frexp-requires c κs = search needs
+-- past the four tests x is finite and above 0
+above : (c : tie.Else4) → T (positive (c .before .before .before .before .args .x))
+above c =
+    let b = c .before .before .before in
+    past-tests (b .before .args .x) (b .if1 .left) (rw inf-bits at (c .before .before .if2 .left)) (c .before .if3 .left) (c .if4 .left)
 
-of-parts-requires : tie.Need-of-parts-requires
-of-parts-requires c κs = let f = c .before in rw (toZ-ofZ (exp-fits (f .frexp .result .exp) (small f))) (small f)
+float-to-bits-scaled-log : tie.Need-float-to-bits-scaled-log
+float-to-bits-scaled-log c = let b = c .before .before .before in scaled-number (b .before .args .x) (no-nan (b .before .args .x) (b .if1 .left))
+
+scaled-log-requires : tie.Need-scaled-log-requires
+scaled-log-requires c κs = (scaled-lt (c .before .before .before .before .args .x) (above c), omega arith)
 
 returns-5 : tie.Need-returns-5
 returns-5 c =
-    let f = c .before .before in
-    let p = f .frexp .result in
-    c .of-parts .ensures ∙ ap (λ (z : ℤ). ofParts (record { frac = p .frac; exp = z })) (toZ-ofZ (exp-fits (p .exp) (small f))) ∙ past f
+    let e = c .before in
+    let b = e .before .before .before in
+    let s = b .before in
+    let x = s .args .x in
+    c .scaled-log .ensures
+    ∙ at-number x (partsOf 52 (toBits binary64 (mul binary64 x two52))) (parts-of-subnormal x (subst T (sym (s .good .0 .1)) tt) (above e) (s .pre))
+    (b .if1 .left) (rw inf-bits at (e .before .before .if2 .left)) (e .before .if3 .left) (e .if4 .left)
 
 pub other-log-spec : {M : Type 1} → statement M
 other-log-spec =
@@ -65,6 +65,6 @@ other-log-spec =
     returns-3
     float-from-bits-result
     returns-4
-    frexp-requires
-    of-parts-requires
+    float-to-bits-scaled-log
+    scaled-log-requires
     returns-5)

@@ -1,4 +1,4 @@
--- `c_face::path::cild_path` meets its contract: what `path` ensures of the fields and words lent, read off field by field. Assumes nothing.
+-- `c_face::path::cild_path` meets its contract: what `fields_path` ensures of the fields and words lent, read off field by field. Assumes nothing.
 use borrow.Author.Needs.{needs}
 use Prim.Native.Nat.{ℕ}
 use mathlib.Core.Path.{_≡_, ap, _∙_}
@@ -20,8 +20,8 @@ left r table n s l e h k =
 from-state-requires : tie.Need-from-state-requires
 from-state-requires c κs = search needs
 
-path-requires : tie.Need-path-requires
-path-requires c κs = search needs
+fields-path-requires : tie.Need-fields-path-requires
+fields-path-requires c κs = search needs
 
 end-number-requires : tie.Need-end-number-requires
 end-number-requires c κs = search needs
@@ -34,15 +34,15 @@ same-length c = search needs
 
 returns : tie.Need-returns
 returns c =
-    let e = rw (c .before .before .before .before .before .before .before .before .from-state .ensures) at (c .before .before .before .before .before .before .path .ensures) in
-    left (c .before .before .before .before .before .before .path .result) _ _ _ _ e (c .before .before .before .end-number .ensures) (c .state .ensures)
+    let e = rw (c .before .before .before .before .before .before .before .before .from-state .ensures) at (c .before .before .before .before .before .before .fields-path .ensures) in
+    left (c .before .before .before .before .before .before .fields-path .result) _ _ _ _ e (c .before .before .before .end-number .ensures) (c .state .ensures)
 
 pub cild-path-spec : {M : Type 1} → statement M
 cild-path-spec =
     tie.close
     (tie.spec
     from-state-requires
-    path-requires
+    fields-path-requires
     end-number-requires
     state-requires
     same-length

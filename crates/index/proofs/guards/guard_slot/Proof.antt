@@ -11,26 +11,26 @@ threshold-requires c κs = search needs
 crossed-requires : tie.Need-crossed-requires
 crossed-requires c κs = search needs
 
-mul-with-bit : tie.Need-mul-with-bit
-mul-with-bit c = search needs
+mul-joined : tie.Need-mul-joined
+mul-joined c = search needs
 
-element-copy-out-with-bit : tie.Need-element-copy-out-with-bit
-element-copy-out-with-bit c = search needs
+element-copy-out-joined : tie.Need-element-copy-out-joined
+element-copy-out-joined c = search needs
 
-with-bit-requires : tie.Need-with-bit-requires
-with-bit-requires c κs = search needs
+joined-requires : tie.Need-joined-requires
+joined-requires c κs = search needs
 
-add-with-bit : tie.Need-add-with-bit
-add-with-bit c = search needs
+add-joined : tie.Need-add-joined
+add-joined c = search needs
 
-mul-with-bit-2 : tie.Need-mul-with-bit-2
-mul-with-bit-2 c = search needs
+mul-joined-2 : tie.Need-mul-joined-2
+mul-joined-2 c = search needs
 
-element-copy-out-with-bit-2 : tie.Need-element-copy-out-with-bit-2
-element-copy-out-with-bit-2 c = search needs
+element-copy-out-joined-2 : tie.Need-element-copy-out-joined-2
+element-copy-out-joined-2 c = search needs
 
-with-bit-requires-2 : tie.Need-with-bit-requires-2
-with-bit-requires-2 c κs = search needs
+joined-requires-2 : tie.Need-joined-requires-2
+joined-requires-2 c κs = search needs
 
 add-lower : tie.Need-add-lower
 add-lower c = search needs
@@ -96,8 +96,8 @@ returns c =
     let on = c .before .before .before .before .before .before .before .before .crossed .ensures in
     let least = c .before .before .lower in
     guarded-of (s .args .guards .now) (s .args .p) _ _ (least .result) (c .higher .result) (s .pre .0) (s .pre .2) (eqb (s .args .kind) 0) (x .result) (s .args .j)
-    (c .before .before .before .before .before .before .with-bit .ensures)
-    (c .before .before .before .before .with-bit2 .ensures)
+    (c .before .before .before .before .before .before .joined .ensures)
+    (c .before .before .before .before .joined2 .ensures)
     (least .ensures .0) (λ h. least .ensures .1 (on h)) (c .higher .ensures .0) (λ h. c .higher .ensures .1 (on h)) (x .ensures)
 
 pub guard-slot-spec : {M : Type 1} → statement M
@@ -106,13 +106,13 @@ guard-slot-spec =
     (tie.spec
     threshold-requires
     crossed-requires
-    mul-with-bit
-    element-copy-out-with-bit
-    with-bit-requires
-    add-with-bit
-    mul-with-bit-2
-    element-copy-out-with-bit-2
-    with-bit-requires-2
+    mul-joined
+    element-copy-out-joined
+    joined-requires
+    add-joined
+    mul-joined-2
+    element-copy-out-joined-2
+    joined-requires-2
     add-lower
     mul-lower
     element-copy-out-lower

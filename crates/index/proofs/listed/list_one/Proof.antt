@@ -36,14 +36,14 @@ mul-p c = search needs
 element-copy-out-p : tie.Need-element-copy-out-p Inv-loop μ-loop
 element-copy-out-p c = search needs
 
-mul-with-bit : tie.Need-mul-with-bit Inv-loop μ-loop
-mul-with-bit c = omega (arith, place-low (c .before .before))
+mul-joined : tie.Need-mul-joined Inv-loop μ-loop
+mul-joined c = omega (arith, place-low (c .before .before))
 
-element-copy-out-with-bit : tie.Need-element-copy-out-with-bit Inv-loop μ-loop
-element-copy-out-with-bit c = place-low (c .before .before)
+element-copy-out-joined : tie.Need-element-copy-out-joined Inv-loop μ-loop
+element-copy-out-joined c = place-low (c .before .before)
 
-with-bit-requires : tie.Need-with-bit-requires Inv-loop μ-loop
-with-bit-requires c κs = search needs
+joined-requires : tie.Need-joined-requires Inv-loop μ-loop
+joined-requires c κs = search needs
 
 mul-words : tie.Need-mul-words Inv-loop μ-loop
 mul-words c = omega (arith, place-low (c .before .before .before .before))
@@ -59,7 +59,7 @@ loop-again c =
     let i = c .before .before .before .before in
     let l = i .before in
     let s = l .before .args in
-    listing-more (s .capacity .now) (s .kind .now) (s .place .now) (s .weight .now) (s .from) (s .end) (s .j) (s .words .now) (l .loop .words) (l .loop .a) (c .with-bit .result) (c .before .before .before .lists .result) (l .loop .inv) (i .loop-test .taken) (place-low i) (c .before .before .before .lists .ensures) (c .with-bit .ensures)
+    listing-more (s .capacity .now) (s .kind .now) (s .place .now) (s .weight .now) (s .from) (s .end) (s .j) (s .words .now) (l .loop .words) (l .loop .a) (c .joined .result) (c .before .before .before .lists .result) (l .loop .inv) (i .loop-test .taken) (place-low i) (c .before .before .before .lists .ensures) (c .joined .ensures)
 
 returns : tie.Need-returns Inv-loop μ-loop
 returns c =
@@ -78,9 +78,9 @@ list-one-spec =
     lists-requires
     mul-p
     element-copy-out-p
-    mul-with-bit
-    element-copy-out-with-bit
-    with-bit-requires
+    mul-joined
+    element-copy-out-joined
+    joined-requires
     mul-words
     element-write-words
     loop-less

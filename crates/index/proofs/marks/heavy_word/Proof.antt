@@ -7,7 +7,7 @@ use lib.ListN.{getD}
 use Rattle.net.specs.declared.Net.{Net as NetRecord}
 use Rattle.net.specs.Readable.{transition}
 use Rattle.net.specs.Record.{lent}
-use Rattle.index.specs.Marks.{takesSeveral}
+use Rattle.engine.specs.Traits.{takesSeveral}
 use Rattle.index.proofs.Placed.{slots-fit}
 use Rattle.index.proofs.Marking.{Marked, marked-none, marked-more, marked-all, net-marks, several-slots}
 use Rattle.index.proofs.marks.heavy_word.Statement.{statement}
@@ -56,8 +56,8 @@ add-end c = omega (arith, fit (c .before))
 heavy-slots-requires : tie.Need-heavy-slots-requires Inv-loop μ-loop
 heavy-slots-requires c κs = fit (c .before)
 
-with-bit-requires : tie.Need-with-bit-requires Inv-loop μ-loop
-with-bit-requires c κs = low (c .before .before)
+joined-requires : tie.Need-joined-requires Inv-loop μ-loop
+joined-requires c κs = low (c .before .before)
 
 loop-less : tie.Need-loop-less Inv-loop μ-loop
 loop-less c = search needs
@@ -68,9 +68,9 @@ loop-again c =
     let i = h .before .before in
     let l = i .before in
     let n = net (l .before) in
-    marked-more (several n) (n .transitions) (l .loop .word) (c .with-bit .result) (l .loop .j) (h .heavy-slots .result) (l .loop .inv) (i .loop-test .taken)
+    marked-more (several n) (n .transitions) (l .loop .word) (c .joined .result) (l .loop .j) (h .heavy-slots .result) (l .loop .inv) (i .loop-test .taken)
     (several-slots n (l .loop .j) (h .heavy-slots .result) (h .heavy-slots .ensures))
-    (c .with-bit .ensures)
+    (c .joined .ensures)
 
 returns : tie.Need-returns Inv-loop μ-loop
 returns c =
@@ -91,7 +91,7 @@ heavy-word-spec =
     element-copy-out-end
     add-end
     heavy-slots-requires
-    with-bit-requires
+    joined-requires
     loop-less
     loop-again
     returns)

@@ -43,8 +43,8 @@ mul-on c = omega (arith, low c)
 element-copy-out-on : tie.Need-element-copy-out-on Inv-loop μ-loop
 element-copy-out-on c = omega (arith, low c)
 
-with-bit-requires : tie.Need-with-bit-requires Inv-loop μ-loop
-with-bit-requires c κs = low (c .before)
+joined-requires : tie.Need-joined-requires Inv-loop μ-loop
+joined-requires c κs = low (c .before)
 
 loop-less : tie.Need-loop-less Inv-loop μ-loop
 loop-less c = search needs
@@ -54,7 +54,7 @@ loop-again c =
     let i = c .before .before in
     let l = i .before in
     let n = net (l .before) in
-    marked-more (waits n) (n .transitions) (l .loop .word) (c .with-bit .result) (l .loop .j) _ (l .loop .inv) (i .loop-test .taken) refl (c .with-bit .ensures)
+    marked-more (waits n) (n .transitions) (l .loop .word) (c .joined .result) (l .loop .j) _ (l .loop .inv) (i .loop-test .taken) refl (c .joined .ensures)
 
 returns : tie.Need-returns Inv-loop μ-loop
 returns c =
@@ -72,7 +72,7 @@ timed-word-spec =
     add-k
     mul-on
     element-copy-out-on
-    with-bit-requires
+    joined-requires
     loop-less
     loop-again
     returns)

@@ -19,7 +19,7 @@ use Rattle.rules.specs.Moves.{transition}
 use Rattle.rules.specs.Propensity.{propensity}
 use Rattle.engine.specs.Engine.{marking}
 use Rattle.kept.proofs.Bitwise.{lowest-in, lowest-low, falls, Setting, setting-none, setting-more, setting-all}
-use Rattle.engine.proofs.Touching.{transition-at}
+use Rattle.engine.proofs.Sides.{transition-at}
 use Rattle.kept.proofs.marks.remark.Statement.{statement}
 use Rattle.kept.proofs.marks.remark.Tie as tie
 

@@ -19,7 +19,7 @@ use Rattle.rules.specs.Enabled.{enabled}
 use Rattle.rules.specs.Moves.{transition}
 use Rattle.engine.specs.Engine.{marking}
 use Rattle.kept.proofs.Bitwise.{lowest-in, lowest-low, falls, both-first, Setting, setting-none, setting-more, setting-all, Working, working-none, working-more, working-all}
-use Rattle.engine.proofs.Touching.{transition-at}
+use Rattle.engine.proofs.Sides.{transition-at}
 use Rattle.kept.proofs.openness.retest.Statement.{statement}
 use Rattle.kept.proofs.openness.retest.Tie as tie
 

@@ -9,7 +9,7 @@ use Rattle.net.specs.Net.{rateOf}
 use Rattle.net.specs.Readable.{readable}
 use Rattle.net.specs.Record.{lent}
 use Rattle.rules.specs.Moves.{transition}
-use Rattle.engine.proofs.Touching.{transition-at}
+use Rattle.engine.proofs.Sides.{transition-at}
 use Rattle.kept.proofs.Filling.{Filling, filling-none, filling-more}
 use Rattle.kept.proofs.tables.rates_of.Statement.{statement}
 use Rattle.kept.proofs.tables.rates_of.Tie as tie

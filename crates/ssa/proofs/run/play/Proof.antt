@@ -55,13 +55,16 @@ empty-requires c κs = search needs
 all-of-requires : tie.Need-all-of-requires
 all-of-requires c κs = search needs
 
+unit-wait-requires : tie.Need-unit-wait-requires
+unit-wait-requires c κs = search needs
+
 take-steps-requires : tie.Need-take-steps-requires
 take-steps-requires c κs =
-    let v = c .before .before .before .before .before .before .before .before .before .before .before .before .show in
-    let a = c .before .before .before .before .before .before .before .before .before .before .before .before .before .before .before .before .before .before in
+    let v = c .before .before .before .before .before .before .before .before .before .before .before .before .before .show in
+    let a = c .before .before .before .before .before .before .before .before .before .before .before .before .before .before .before .before .before .before .before in
     let s = a .args in
     let xs = s .instants .now in
-    let none = c .before .before .before .before .before .before .before .empty .ensures .list (replicate 256 zero64) (replicate 512 0) in (
+    let none = c .before .before .before .before .before .before .before .before .empty .ensures .list (replicate 256 zero64) (replicate 512 0) in (
       record {
         tidy = a .pre .0;
         limits = a .pre .1;
@@ -71,32 +74,33 @@ take-steps-requires c κs =
       },
       record { most = omega arith; few = omega arith },
       a .pre .4,
-      carried-first (lent (s .places) (s .transitions) (s .initial .now) (s .capacity .now) (s .rate .now) (s .delay .now) (s .arcs .now) (s .kind .now) (s .place .now) (s .weight .now)) _ _ (a .pre .0 .transitions) (c .before .before .before .before .before .before .all-of .ensures),
+      carried-first (lent (s .places) (s .transitions) (s .initial .now) (s .capacity .now) (s .rate .now) (s .delay .now) (s .arcs .now) (s .kind .now) (s .place .now) (s .weight .now)) _ _ (a .pre .0 .transitions) (c .before .before .before .before .before .before .before .all-of .ensures),
       shown-within (s .places) xs _ _ 0 (v .result) (s .table .now) (v .last .1 .0) (v .ensures) (omega arith),
       a .pre .6,
       omega (arith, a .pre .8, v .ensures .cells .long),
       omega arith,
-      omega (arith, c .before .before .before .before .before .before .before .before .sum .ensures, ap takenByTimers none),
+      omega (arith, c .before .before .before .before .before .before .before .before .before .sum .ensures, ap takenByTimers none),
+      c .before .before .before .before .before .before .unit-wait .ensures,
     )
 
 enum-known-end : tie.Need-enum-known-end
 enum-known-end c = search needs
 
 mul-clear : tie.Need-mul-clear
-mul-clear c = let a = c .before .before .before .before .before .before .before .before .before .before .before .before .before .before .before .before .before .before .before .before .before .before .before .before .before in omega (arith, mul-le-mul (a .pre .0 .places) (a .pre .6))
+mul-clear c = let a = c .before .before .before .before .before .before .before .before .before .before .before .before .before .before .before .before .before .before .before .before .before .before .before .before .before .before in omega (arith, mul-le-mul (a .pre .0 .places) (a .pre .6))
 
 clear-requires : tie.Need-clear-requires
 clear-requires c κs =
     let w = c .before .before .before .before .before .before .take-steps in
-    let v = c .before .before .before .before .before .before .before .before .before .before .before .before .before .before .before .before .before .before .before .show in
-    let a = c .before .before .before .before .before .before .before .before .before .before .before .before .before .before .before .before .before .before .before .before .before .before .before .before .before in
+    let v = c .before .before .before .before .before .before .before .before .before .before .before .before .before .before .before .before .before .before .before .before .show in
+    let a = c .before .before .before .before .before .before .before .before .before .before .before .before .before .before .before .before .before .before .before .before .before .before .before .before .before .before in
     omega (arith, a .pre .8, v .ensures .cells .long, w .ensures .1 .1)
 
 same-length : tie.Need-same-length
 same-length c =
     let w = c .before .before .before .before .before .before .before .before .before .take-steps in
-    let v = c .before .before .before .before .before .before .before .before .before .before .before .before .before .before .before .before .before .before .before .before .before .before .show in
-    let a = c .before .before .before .before .before .before .before .before .before .before .before .before .before .before .before .before .before .before .before .before .before .before .before .before .before .before .before .before in
+    let v = c .before .before .before .before .before .before .before .before .before .before .before .before .before .before .before .before .before .before .before .before .before .before .before .show in
+    let a = c .before .before .before .before .before .before .before .before .before .before .before .before .before .before .before .before .before .before .before .before .before .before .before .before .before .before .before .before .before in
     ap length (c .before .before .clear .ensures)
     ∙ cleared-long (a .args .places * length (a .args .instants .now)) (w .last .1 .1 .1 .1 .1 .1 .1 .1 .1 .1 .1 .1 .1 .1 .1 .1 .1 .1 .1 .1 .1 .1 .1 .1 .0) (omega (arith, a .pre .8, v .ensures .cells .long, w .ensures .1 .1))
     ∙ w .ensures .1 .1
@@ -105,49 +109,49 @@ same-length c =
 returns : tie.Need-returns
 returns c =
     let w = c .before .before .before .before .before .before .before .before .before .take-steps in
-    let u = c .before .before .before .before .before .before .before .before .before .before .before .before .before .before .before .before .before .before .sum in
-    let v = c .before .before .before .before .before .before .before .before .before .before .before .before .before .before .before .before .before .before .before .before .before .before .show in
-    let a = c .before .before .before .before .before .before .before .before .before .before .before .before .before .before .before .before .before .before .before .before .before .before .before .before .before .before .before .before in
+    let u = c .before .before .before .before .before .before .before .before .before .before .before .before .before .before .before .before .before .before .before .sum in
+    let v = c .before .before .before .before .before .before .before .before .before .before .before .before .before .before .before .before .before .before .before .before .before .before .before .show in
+    let a = c .before .before .before .before .before .before .before .before .before .before .before .before .before .before .before .before .before .before .before .before .before .before .before .before .before .before .before .before .before in
     let s = a .args in
     refused-path (readable (lent (s .places) (s .transitions) (s .initial .now) (s .capacity .now) (s .rate .now) (s .delay .now) (s .arcs .now) (s .kind .now) (s .place .now) (s .weight .now))) (words (s .rng .s)) (s .instants .now) (s .steps) (s .places) (v .result) (u .result)
     (marking (s .places) (s .counts .now)) (getD (s .instants .now) (length (s .instants .now) - 1) nan) (s .table .now) (v .last .1 .0)
     (a .pre .7) (a .pre .3) (last-at (s .instants .now) (a .pre .5)) (u .ensures) (v .ensures)
     (w .result) (marking (s .places) (w .last .1 .1 .1 .1 .1 .1 .1 .1 .1 .1 .1 .1 .1 .1 .1 .1 .0)) (w .last .1 .1 .1 .1 .1 .1 .1 .1 .1 .1 .1 .1 .1 .1 .1 .1 .1 .1 .1 .1 .1 .1 .1 .1 .0)
-    (c .before .before .before .before .before .end .given .0 .0) (w .result .end) (c .before .before .before .before .before .end .given .1) (rw (c .before .before .before .before .before .before .before .before .before .before .before .before .before .before .before .before .before .empty .ensures .list) at (w .ensures .0)) (w .ensures .1 .1) (w .ensures .1 .2)
+    (c .before .before .before .before .before .end .given .0 .0) (w .result .end) (c .before .before .before .before .before .end .given .1) (rw (c .before .before .before .before .before .before .before .before .before .before .before .before .before .before .before .before .before .before .empty .ensures .list) at (w .ensures .0)) (w .ensures .1 .1) (w .ensures .1 .2)
     (c .before .before .clear .last .0) (c .before .before .clear .ensures)
     (record { end = Refused (c .before .before .before .before .before .end .given .0 .0); steps = 0; settled = 0; peak = 0; rounded = 0; generator = s .rng }) refl refl refl refl refl refl
 
 fill-requires : tie.Need-fill-requires
 fill-requires c κs =
     let w = c .before .before .before .before .before .before .take-steps in
-    let u = c .before .before .before .before .before .before .before .before .before .before .before .before .before .before .before .sum in
-    let v = c .before .before .before .before .before .before .before .before .before .before .before .before .before .before .before .before .before .before .before .show in
-    let a = c .before .before .before .before .before .before .before .before .before .before .before .before .before .before .before .before .before .before .before .before .before .before .before .before .before in
+    let u = c .before .before .before .before .before .before .before .before .before .before .before .before .before .before .before .before .sum in
+    let v = c .before .before .before .before .before .before .before .before .before .before .before .before .before .before .before .before .before .before .before .before .show in
+    let a = c .before .before .before .before .before .before .before .before .before .before .before .before .before .before .before .before .before .before .before .before .before .before .before .before .before .before in
     let s = a .args in
     let h = still-within (readable (lent (s .places) (s .transitions) (s .initial .now) (s .capacity .now) (s .rate .now) (s .delay .now) (s .arcs .now) (s .kind .now) (s .place .now) (s .weight .now))) (words (s .rng .s)) (s .instants .now) (s .steps) (s .places) (v .result) (u .result)
     (marking (s .places) (s .counts .now)) (getD (s .instants .now) (length (s .instants .now) - 1) nan) (s .table .now) (v .last .1 .0)
     (a .pre .7) (a .pre .3) (last-at (s .instants .now) (a .pre .5)) (u .ensures) (v .ensures)
-    (w .result) (marking (s .places) (w .last .1 .1 .1 .1 .1 .1 .1 .1 .1 .1 .1 .1 .1 .1 .1 .1 .0)) (w .last .1 .1 .1 .1 .1 .1 .1 .1 .1 .1 .1 .1 .1 .1 .1 .1 .1 .1 .1 .1 .1 .1 .1 .1 .0) (w .result .end) (not-refused (w .result .end) (c .before .before .before .match .keys2)) (rw (c .before .before .before .before .before .before .before .before .before .before .before .before .before .before .empty .ensures .list) at (w .ensures .0)) in
+    (w .result) (marking (s .places) (w .last .1 .1 .1 .1 .1 .1 .1 .1 .1 .1 .1 .1 .1 .1 .1 .1 .0)) (w .last .1 .1 .1 .1 .1 .1 .1 .1 .1 .1 .1 .1 .1 .1 .1 .1 .1 .1 .1 .1 .1 .1 .1 .1 .0) (w .result .end) (not-refused (w .result .end) (c .before .before .before .match .keys2)) (rw (c .before .before .before .before .before .before .before .before .before .before .before .before .before .before .before .empty .ensures .list) at (w .ensures .0)) in
     (a .pre .0 .places, omega (arith, h), a .pre .6, omega (arith, a .pre .8, v .ensures .cells .long, w .ensures .1 .1), w .ensures .1 .0)
 
 settled-requires : tie.Need-settled-requires
 settled-requires c κs = search needs
 
 same-length-2 : tie.Need-same-length-2
-same-length-2 c = c .before .before .before .fill .ensures .long ∙ c .before .before .before .before .before .before .before .before .before .before .take-steps .ensures .1 .1 ∙ c .before .before .before .before .before .before .before .before .before .before .before .before .before .before .before .before .before .before .before .before .before .before .before .show .ensures .cells .long
+same-length-2 c = c .before .before .before .fill .ensures .long ∙ c .before .before .before .before .before .before .before .before .before .before .take-steps .ensures .1 .1 ∙ c .before .before .before .before .before .before .before .before .before .before .before .before .before .before .before .before .before .before .before .before .before .before .before .before .show .ensures .cells .long
 
 returns-2 : tie.Need-returns-2
 returns-2 c =
     let w = c .before .before .before .before .before .before .before .before .before .before .take-steps in
-    let u = c .before .before .before .before .before .before .before .before .before .before .before .before .before .before .before .before .before .before .before .sum in
-    let v = c .before .before .before .before .before .before .before .before .before .before .before .before .before .before .before .before .before .before .before .before .before .before .before .show in
-    let a = c .before .before .before .before .before .before .before .before .before .before .before .before .before .before .before .before .before .before .before .before .before .before .before .before .before .before .before .before .before in
+    let u = c .before .before .before .before .before .before .before .before .before .before .before .before .before .before .before .before .before .before .before .before .sum in
+    let v = c .before .before .before .before .before .before .before .before .before .before .before .before .before .before .before .before .before .before .before .before .before .before .before .before .show in
+    let a = c .before .before .before .before .before .before .before .before .before .before .before .before .before .before .before .before .before .before .before .before .before .before .before .before .before .before .before .before .before .before in
     let s = a .args in
     answered (readable (lent (s .places) (s .transitions) (s .initial .now) (s .capacity .now) (s .rate .now) (s .delay .now) (s .arcs .now) (s .kind .now) (s .place .now) (s .weight .now))) (words (s .rng .s)) (s .instants .now) (s .steps) (s .places) (v .result) (u .result)
     (marking (s .places) (s .counts .now)) (getD (s .instants .now) (length (s .instants .now) - 1) nan) (s .table .now) (v .last .1 .0)
     (a .pre .7) (a .pre .3) (last-at (s .instants .now) (a .pre .5)) (u .ensures) (v .ensures)
     (w .result) (marking (s .places) (w .last .1 .1 .1 .1 .1 .1 .1 .1 .1 .1 .1 .1 .1 .1 .1 .1 .0)) (w .last .1 .1 .1 .1 .1 .1 .1 .1 .1 .1 .1 .1 .1 .1 .1 .1 .1 .1 .1 .1 .1 .1 .1 .1 .0)
-    (w .result .end) (not-refused (w .result .end) (c .before .before .before .before .before .before .before .match .keys2)) (rw (c .before .before .before .before .before .before .before .before .before .before .before .before .before .before .before .before .before .before .empty .ensures .list) at (w .ensures .0))
+    (w .result .end) (not-refused (w .result .end) (c .before .before .before .before .before .before .before .match .keys2)) (rw (c .before .before .before .before .before .before .before .before .before .before .before .before .before .before .before .before .before .before .before .empty .ensures .list) at (w .ensures .0))
     (c .before .before .before .fill .last .0) (c .before .before .before .fill .ensures) (a .pre .8)
     _ refl refl (c .settled .ensures) refl refl refl
 
@@ -162,6 +166,7 @@ play-spec =
     sum-requires
     empty-requires
     all-of-requires
+    unit-wait-requires
     take-steps-requires
     enum-known-end
     mul-clear

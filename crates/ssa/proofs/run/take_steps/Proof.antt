@@ -6,7 +6,9 @@ use Prim.Native.Nat.{suc, _+_, _-_, _≤_}
 use lib.ListN.{length, drop}
 use Rattle.net.specs.Readable.{readable}
 use Rattle.net.specs.Record.{lent}
+use Rattle.rng.specs.State.{words}
 use Rattle.rules.proofs.Play.{higher, play}
+use Rattle.jump.specs.Answers.{unitWait}
 use Rattle.ssa.specs.declared.PathEnd.the-variants.{Quiet, Spent, Reached, Refused}
 use Rattle.ssa.specs.declared.run.Walked.{Walked}
 use Rattle.engine.specs.Engine.{marking}
@@ -28,6 +30,7 @@ Inv-loop places transitions initial capacity rate delay arcs kind place weight l
     (higher (at₀ .peak) (play room (readable net) last steps (drop (at₀ .next) instants) (stateOf net counts₀ ats₀ owners₀ (at₀ .timers) (at₀ .clock) (at₀ .rng .s))))
     (at₀ .next) table₀
     (steps - done) done rounded (at .next) (at .tokens) (at .peak) (stateOf net counts ats owners (at .timers) (at .clock) (at .rng .s)) table
+    × (at .unit ≡ unitWait (words (at .rng .s)))
 
 abbrev μ-loop : tie.MeasureT-loop
 μ-loop places transitions initial capacity rate delay arcs kind place weight limit rates ends guards timed heavy counts₀ ats₀ owners₀ props₀ sums₀ room instants last table₀ steps at₀ done₀ rounded₀ counts ats owners props sums table at done rounded =
@@ -43,13 +46,14 @@ loop-holds c =
       a .pre .1,
       a .pre .3,
       so-far-none (s .room) _ (s .last) (s .instants .now) (s .places) (s .steps) (s .s .next) (s .s .tokens) (s .s .peak) _ (s .table .now) (a .pre .4) (a .pre .8) (a .pre .7),
+      a .pre .9,
     )
 
 one-step-requires : tie.Need-one-step-requires Inv-loop μ-loop
 one-step-requires c κs =
     let l = c .before .before .before .before .before .before .before .before .before in
     let a = l .before .before .before in
-    (l .loop .inv .2, l .loop .inv .3, a .pre .2, l .loop .inv .4, l .loop .inv .5 .within, a .pre .5, omega (arith, a .pre .6, l .loop .inv .5 .listed .long), l .loop .inv .5 .now)
+    (l .loop .inv .2, l .loop .inv .3, a .pre .2, l .loop .inv .4, l .loop .inv .5 .within, a .pre .5, omega (arith, a .pre .6, l .loop .inv .5 .listed .long), l .loop .inv .5 .now, l .loop .inv .6)
 
 add-done : tie.Need-add-done Inv-loop μ-loop
 add-done c = let l = c .before .before .before .before .before .before .before .before .before .before .before .before .before .before in omega (arith, l .before .before .before .fits .steps, c .before .before .before .before .before .before .before .before .before .before .before .before .before .loop-test .taken)
@@ -75,8 +79,9 @@ loop-again c =
       omega (arith, l .loop .inv .1, c .before .before .one-more .ensures, one-at-most (o .one-step .result .rounded)),
       o .one-step .ensures .1 .0,
       o .one-step .ensures .1 .1,
-      o .one-step .ensures .1 .2 (c .enum-told .given .1),
+      o .one-step .ensures .1 .2 (c .enum-told .given .1) .0,
       goes-on (l .loop .inv .2 .tidy .once) f (l .before .before .before .args .steps - (l .loop .done + 1)) e (o .before .before .before .before .before .before .before .if1 .taken) (c .before .before .one-more .result) (c .before .before .one-more .ensures) (rw (c .enum-told .given .1) at (o .one-step .ensures .0)),
+      o .one-step .ensures .1 .2 (c .enum-told .given .1) .1,
     )
 
 enum-told-2 : tie.Need-enum-told-2 Inv-loop μ-loop

@@ -76,7 +76,7 @@ refresh-requires c κs =
     )
 
 waiting-requires : tie.Need-waiting-requires
-waiting-requires c κs = search needs
+waiting-requires c κs = c .before .before .before .before .before .before .before .before .before .before .before .before .before .before .pre .4
 
 first-requires : tie.Need-first-requires
 first-requires c κs = search needs

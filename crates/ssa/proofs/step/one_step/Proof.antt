@@ -9,13 +9,14 @@ use Rattle.net.specs.declared.Net.{Net as NetRecord}
 use Rattle.net.specs.Readable.{readable}
 use Rattle.net.specs.Record.{lent}
 use Rattle.rules.specs.Step.{State, Answer, Event, Step, step}
+use Rattle.jump.specs.Answers.{unitWait}
 use Rattle.ssa.specs.Stepping as Stepping
 use Rattle.ssa.specs.Stepping.{stateOf, eventOf, AdvancedBy}
 use Rattle.ssa.specs.declared.step.Ending.{Ending}
 use Rattle.ssa.specs.declared.step.Ending.the-variants.{GoesOn, Quiet, Reached, Refused}
 use Rattle.ssa.proofs.Carrying.{carried-on}
 use Rattle.ssa.proofs.Rooms.{fits-still}
-use Rattle.ssa.proofs.Steps.{Sets, if-full, if-nothing, if-event, step-reached, step-on, step-large, tokens-stay}
+use Rattle.ssa.proofs.Steps.{Sets, if-full, if-nothing, if-event, step-reached, step-on, step-large, tokens-stay, drawn-after}
 use Rattle.ssa.proofs.step.one_step.Statement.{statement}
 use Rattle.ssa.proofs.step.one_step.Tie as tie
 
@@ -76,7 +77,7 @@ not-on e = absurd (omega arith)
 advance-requires : tie.Need-advance-requires
 advance-requires c κs =
     let p = c .before .before .before .before .before .before .before .before .before .before .pre in
-    (p .0, p .1, p .2, p .3)
+    (p .0, p .1, p .2, p .3, p .8)
 
 enum-told : tie.Need-enum-told
 enum-told c = search needs
@@ -107,26 +108,34 @@ returns c =
 
 happen-requires : tie.Need-happen-requires
 happen-requires c κs =
-    let w = c .before .before .before .before .before .before .before .before in
+    let w = c .before .before .before .before .before .before .before .before .before .before in
     let v = at-event w .advance .ensures .1 in
     let k = v .2 (w .before .before .before .enum-told3 .given .1) .0 in
     (v .0, k .long-props, k .summed .each, start (at-event w) .pre .7 ∙ sym (tokens-stay (start (at-event w) .args .room) (net (at-event w)) (v .0 .tidy) (from (at-event w)) (reads (at-event w)) (follows w)), start (at-event w) .pre .2 .index)
+
+after-event-requires : tie.Need-after-event-requires
+after-event-requires c κs = search needs
+
+unit-wait-requires : tie.Need-unit-wait-requires
+unit-wait-requires c κs = search needs
 
 higher-requires : tie.Need-higher-requires
 higher-requires c κs = search needs
 
 same-length-2 : tie.Need-same-length-2
-same-length-2 c = c .before .before .before .before .before .before .before .before .before .before .before .before .before .show .ensures .cells .long
+same-length-2 c = c .before .before .before .before .before .before .before .before .before .before .before .before .before .before .before .show .ensures .cells .long
 
 returns-2 : tie.Need-returns-2
 returns-2 c =
     let f = c .before .before .before .before in
-    let b = f .before .before .before .before .before .before in
+    let b = f .before .before .before .before .before .before .before .before in
     let w = b .before .before .before in
     let v = at-event w .advance .ensures .1 .2 (w .before .before .before .enum-told3 .given .1) in
-    let k = v .0 in (
+    let k = v .0 in
+    let u = f .before .before .before .before .before .before in
+    let waits = u .unit-wait .ensures ∙ ap unitWait (u .before .after-event .ensures ∙ sym (drawn-after (net (at-event w)) (reads (at-event w)) (at-event w .advance .result .kept .a0) (props (at-event w)) (at-event w .advance .result .completes) _ _ _ (f .happen .ensures .0) (c .if2 .taken))) in (
       step-on {spec = rule (at-event w)} {rounded = at-event w .advance .result .rounded} {u = reads (at-event w)} {e = event-of (at-event w)} (follows w) (b .if1 .left) (w .show .ensures) (c .before .higher .ensures) (f .happen .ensures .0) (c .if2 .taken),
-      (f .happen .ensures .1 .0 .0, fits-still (at-event w .advance .ensures .1 .1) (f .happen .ensures .1 .0 .1), λ e. carried-on (net (at-event w)) _ _ _ _ _ _ _ k (v .1) (v .2) (f .happen .ensures .1 .1 (c .if2 .taken)), w .show .ensures .cells .long, w .show .ensures .cells .further),
+      (f .happen .ensures .1 .0 .0, fits-still (at-event w .advance .ensures .1 .1) (f .happen .ensures .1 .0 .1), λ e. (carried-on (net (at-event w)) _ _ _ _ _ _ _ k (v .1) (v .2) (f .happen .ensures .1 .1 (c .if2 .taken)), waits), w .show .ensures .cells .long, w .show .ensures .cells .further),
     )
 
 returns-3 : tie.Need-returns-3
@@ -143,12 +152,12 @@ returns-4 c =
     (Stepping.quiet (q .0) (q .1) (record { next = refl; table = refl }) refl, (v .0, v .1, λ e. not-on (ap goes e), refl, λ a h. refl))
 
 same-length-3 : tie.Need-same-length-3
-same-length-3 c = c .before .before .before .before .before .before .before .before .before .before .before .before .before .show .ensures .cells .long
+same-length-3 c = c .before .before .before .before .before .before .before .before .before .before .before .before .before .before .before .show .ensures .cells .long
 
 returns-5 : tie.Need-returns-5
 returns-5 c =
     let f = c .before .before .before .before in
-    let b = f .before .before .before .before .before .before in
+    let b = f .before .before .before .before .before .before .before .before in
     let w = b .before .before .before in (
       step-large {spec = rule (at-event w)} {rounded = at-event w .advance .result .rounded} {u = reads (at-event w)} {e = event-of (at-event w)} (follows w) (b .if1 .left) (f .happen .ensures .0) (c .if2 .left),
       (f .happen .ensures .1 .0 .0, fits-still (at-event w .advance .ensures .1 .1) (f .happen .ensures .1 .0 .1), λ e. not-on (ap goes e), w .show .ensures .cells .long, w .show .ensures .cells .further),
@@ -165,6 +174,8 @@ one-step-spec =
     show-requires
     same-length
     returns
+    after-event-requires
+    unit-wait-requires
     happen-requires
     higher-requires
     same-length-2

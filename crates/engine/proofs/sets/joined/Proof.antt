@@ -6,8 +6,8 @@ use lib.Dec.{eqb}
 use Rattle.words.specs.Bits.{bit}
 use Rattle.words.proofs.Bits.{bit-or, bit-one, one-shifted}
 use borrow.Author.Needs.{needs}
-use Rattle.index.proofs.join.with_bit.Statement.{statement}
-use Rattle.index.proofs.join.with_bit.Tie as tie
+use Rattle.engine.proofs.sets.joined.Statement.{statement}
+use Rattle.engine.proofs.sets.joined.Tie as tie
 
 shl-result : tie.Need-shl-result
 shl-result c = search needs
@@ -26,5 +26,5 @@ returns-2 c =
     let s = c .before .args in
     λ i. sym (or-false (bit (s .word) i)) ∙ ap (λ (b : Bool). bit (s .word) i || (b && eqb i (s .j))) (sym (c .if1 .left))
 
-pub with-bit-spec : {M : Type 1} → statement M
-with-bit-spec = tie.close (tie.spec shl-result returns returns-2)
+pub joined-spec : {M : Type 1} → statement M
+joined-spec = tie.close (tie.spec shl-result returns returns-2)

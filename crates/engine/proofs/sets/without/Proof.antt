@@ -1,7 +1,7 @@
 -- By the law of a difference. Assumes nothing.
-use Rattle.kept.proofs.Bitwise.{bit-without}
-use Rattle.kept.proofs.sets.without.Statement.{statement}
-use Rattle.kept.proofs.sets.without.Tie as tie
+use Rattle.engine.proofs.Without.{bit-without}
+use Rattle.engine.proofs.sets.without.Statement.{statement}
+use Rattle.engine.proofs.sets.without.Tie as tie
 
 returns : tie.Need-returns
 returns c = λ j. bit-without (c .args .a) (c .args .b) j

@@ -15,7 +15,7 @@ pub fn without(a: u64, b: u64) -> u64
 // The word, with j in it where `on` holds.
 pub fn joined(word: u64, j: usize, on: bool) -> u64
     requires { ⌜ j < 64 ⌝ }
-    ensures { λ r. ⌜ ((i : ℕ) → bit r i ≡ (bit word i || (eqb i j && on))) ⌝ }
+    ensures { λ r. ⌜ ((i : ℕ) → bit r i ≡ (bit word i || (on && eqb i j))) ⌝ }
 {
     if on {
         return word | (1u64 << j);
