@@ -2,12 +2,13 @@
 -- kinetic take there are none. The limit that the table has for a kinetic take is that of its arc. Assumes nothing.
 use Prim.Native.Nat.{ℕ, zero, suc, _+_, _-_, _*_, _/_, _≤_, _<_}
 use mathlib.Core.Path.{_≡_, refl, sym, ap, _∙_}
+use mathlib.Core.Bool.{Bool, true, false, _&&_, false≢true}
 use mathlib.Core.List.{List}
 use native.Mathlib.Omega.{arith}
-use lib.Dec.{eqb}
+use lib.Dec.{eqb, leb}
 use lib.ListN.{getD}
 use lib.Ieee.{Float, binary64, mul}
-use borrow.Author.Tests.{ne-eqb}
+use borrow.Author.Tests.{ne-eqb, eqb-true, leb-true}
 use Rattle.net.specs.declared.Net.{Net as NetRecord}
 use Rattle.net.specs.Net.{Transition, Marking, amount, rateOf}
 use Rattle.net.specs.Readable as Record
@@ -19,7 +20,7 @@ use Rattle.engine.specs.Limits.{noLimit, atLeast, slotLimit, limitAt, Says, its
 use Rattle.engine.proofs.Arcs.{amount-most, slots-end, slots-whole}
 use Rattle.engine.proofs.Factors.{pick-false, times, factored-turn}
 use Rattle.engine.proofs.Marks.{held-marking}
-use Rattle.kept.specs.Kept.{Alone}
+use Rattle.kept.specs.Kept.{single, Alone, Two}
 use Rattle.engine.proofs.Sides.{transition-at}
 
 -- ---- the limit of a kinetic take
@@ -100,11 +101,38 @@ amount-one zero h = refl
 amount-one (suc zero) h = refl
 amount-one (suc (suc w)) h = absurd (omega arith)
 
+both : (a b : Bool) → (a && b) ≡ true → (a ≡ true) × (b ≡ true)
+both true b e = (refl, e)
+both false b e = absurd (false≢true e)
+
+-- a kinetic take of one token multiplies by the count
+single-times : (kind weight : List ℕ) (a : ℕ) → single kind weight a ≡ true → (x : Float) (c : ℕ)
+    → times x (getD kind a 0) (getD weight a 0) c ≡ mul binary64 x (ways c 1)
+single-times kind weight a e x c =
+    let s = both (eqb (getD kind a 0) 0) (leb (getD weight a 0) 1) e in
+    rw (eqb-true (getD kind a 0) 0 (s .0), amount-one (getD weight a 0) (leb-true (getD weight a 0) 1 (s .1))) refl
+
 pub valuing-alone : (n : NetRecord) (counts : List ℕ) (j p : ℕ) → Tidy n → j < n .transitions → Alone n j p
     → (x y : Float) → x ≡ rateOf (transition (readable n) j) → y ≡ mul binary64 x (ways (getD counts p 0) 1)
     → y ≡ factored (marking (n .places) counts) (rateOf (transition (readable n) j)) (transition (readable n) j .takes)
 valuing-alone n counts j p tidy h a x y e f =
     valuing-all n counts j y (16 * j + 1)
     (valuing-more n counts j tidy x y (16 * j) (valuing-none n counts j h x e) (omega (arith, a .there))
-    (f ∙ sym (rw (a .kinetic, a .from, amount-one (getD (n .weight) (16 * j) 0) (a .single)))))
+    (f ∙ sym (single-times (n .kind) (n .weight) (16 * j) (a .takes) x (getD counts (getD (n .place) (16 * j) 0) 0) ∙ ap (λ (q : ℕ). mul binary64 x (ways (getD counts q 0) 1)) (a .from))))
     (λ b l u v z. a .behind b l v z)
+
+-- or those of two
+pub valuing-two : (n : NetRecord) (counts : List ℕ) (j : ℕ) → Tidy n → j < n .transitions → Two n j
+    → (x y : Float) → x ≡ rateOf (transition (readable n) j)
+    → y ≡ mul binary64 (mul binary64 x (ways (getD counts (getD (n .place) (16 * j) 0) 0) 1)) (ways (getD counts (getD (n .place) (16 * j + 1) 0) 0) 1)
+    → y ≡ factored (marking (n .places) counts) (rateOf (transition (readable n) j)) (transition (readable n) j .takes)
+valuing-two n counts j tidy h a x y e f =
+    valuing-all n counts j y (16 * j + 1 + 1)
+    (valuing-more n counts j tidy first y (16 * j + 1)
+    (valuing-more n counts j tidy x first (16 * j) (valuing-none n counts j h x e) (omega (arith, a .there)) (sym (single-times (n .kind) (n .weight) (16 * j) (a .takes) x _)))
+    (omega (arith, a .there))
+    (f ∙ sym (single-times (n .kind) (n .weight) (16 * j + 1) (a .takes-too) first _)))
+    (λ b l u v z. a .behind b (omega arith) v z)
+  where
+    first : Float
+    first = mul binary64 x (ways (getD counts (getD (n .place) (16 * j) 0) 0) 1)

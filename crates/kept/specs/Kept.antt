@@ -6,6 +6,7 @@ use Prim.Native.Nat.{ℕ, _+_, _-_, _*_, _≤_, _<_}
 use mathlib.Core.Path.{_≡_}
 use mathlib.Core.Bool.{Bool, true, false, _&&_, not}
 use mathlib.Core.List.{List}
+use lib.Dec.{eqb, leb}
 use lib.ListN.{length, getD}
 use lib.Ieee.{Float, nan}
 use Rattle.words.specs.Bits.{bit}
@@ -45,16 +46,28 @@ AllShut n m = (j : ℕ) → j < length (n .transitions) → timed (transition n 
 abbrev pub Rates : NetRecord → List Float → Type 0
 Rates n rates = (j : ℕ) → j < n .transitions → getD rates j nan ≡ rateOf (transition (readable n) j)
 
+-- whether slot a is a kinetic take of one token
+abbrev pub single : List ℕ → List ℕ → ℕ → Bool
+single kind weight a = eqb (getD kind a 0) 0 && leb (getD weight a 0) 1
+
 -- the first slot of transition j is its one kinetic take, of one token, from place p
 pub record Alone (n : NetRecord) (j p : ℕ) : Type 0 where
   pub there : 0 < getD (n .arcs) j 0
-  pub kinetic : getD (n .kind) (16 * j) 0 ≡ 0
-  pub single : getD (n .weight) (16 * j) 0 ≤ 1
+  pub takes : single (n .kind) (n .weight) (16 * j) ≡ true
   pub from : getD (n .place) (16 * j) 0 ≡ p
   pub behind : (a : ℕ) → 16 * j + 1 ≤ a → a < 16 * j + getD (n .arcs) j 0 → getD (n .kind) a 0 ≡ 0 → ⊥
 
--- for each transition an end of its slots behind which none is a kinetic take; or, where its ways are the count of one place, 2,048 and that place
+-- the first two slots of transition j are its kinetic takes, of one token each
+pub record Two (n : NetRecord) (j : ℕ) : Type 0 where
+  pub there : 1 < getD (n .arcs) j 0
+  pub takes : single (n .kind) (n .weight) (16 * j) ≡ true
+  pub takes-too : single (n .kind) (n .weight) (16 * j + 1) ≡ true
+  pub behind : (a : ℕ) → 16 * j + 2 ≤ a → a < 16 * j + getD (n .arcs) j 0 → getD (n .kind) a 0 ≡ 0 → ⊥
+
+-- for each transition an end of its slots behind which none is a kinetic take; or, where its ways are the count of one place, 2,048 and that place; or, where
+-- they are the counts of the places of its first two slots, 4,096
 pub record Ends (n : NetRecord) (ends : List ℕ) : Type 0 where
   pub inside : (j : ℕ) → j < n .transitions → getD ends j 0 < 2048 → getD ends j 0 ≤ 16 * j + getD (n .arcs) j 0
   pub behind : (j a : ℕ) → j < n .transitions → getD ends j 0 < 2048 → getD ends j 0 ≤ a → 16 * j ≤ a → a < 16 * j + getD (n .arcs) j 0 → getD (n .kind) a 0 ≡ 0 → ⊥
-  pub alone : (j : ℕ) → j < n .transitions → 2048 ≤ getD ends j 0 → Alone n j (getD ends j 0 - 2048)
+  pub alone : (j : ℕ) → j < n .transitions → 2048 ≤ getD ends j 0 → getD ends j 0 < 4096 → Alone n j (getD ends j 0 - 2048)
+  pub two : (j : ℕ) → j < n .transitions → 4096 ≤ getD ends j 0 → Two n j

@@ -1,5 +1,6 @@
 // What the net alone decides of its propensities, made once a call: the rates, and where the kinetic takes of a transition end.
 ghost use mathlib.Core.Path.{_≡_};
+ghost use mathlib.Core.Bool.{true};
 ghost use mathlib.Core.Logic.{_⊎_};
 ghost use Prim.Native.Nat.{ℕ, _+_, _<_, _≤_};
 ghost use lib.ListN.{length, getD};
@@ -56,6 +57,20 @@ fn end_of(kind: &[u64; 1024], from: usize, end: usize) -> usize
 // In the table of ends: this and a place, for a transition whose ways are the count of that place.
 pub const ALONE: usize = 2048;
 
+// In the table of ends: for a transition whose ways are the counts of the places of its first two slots.
+pub const TWO: usize = 4096;
+
+// Is slot a a kinetic take of one token?
+fn single<'a>(kind: &'a [u64; 1024], weight: &'a [u64; 1024], a: usize) -> bool
+    requires { ⌜ a < 1024 ⌝ }
+    ensures { λ r. ⌜ r ≡ Kept.single (now (kind .entry)) (now (weight .entry)) a ⌝ }
+{
+    if kind[a] == 0 {
+        return weight[a] <= 1;
+    }
+    false
+}
+
 // What the table has for a transition whose slots begin at `from`, and whose kinetic takes end at `end`.
 fn told<'a>(
     kind: &'a [u64; 1024],
@@ -64,13 +79,19 @@ fn told<'a>(
     from: usize,
     end: usize,
 ) -> usize
-    requires { ⌜ (from < 1024) × Engine.Below 32 (now place) ⌝ }
-    ensures { λ r. ⌜ (r ≡ end) ⊎ ((r ≡ 2048 + getD (now (place .entry)) from 0) × (end ≡ from + 1) × (getD (now (kind .entry)) from 0 ≡ 0) × (getD (now (weight .entry)) from 0 ≤ 1)) ⌝ }
+    requires { ⌜ (from < 1024) × (end ≤ 1024) × Engine.Below 32 (now place) ⌝ }
+    ensures { λ r. ⌜ (r ≡ end) ⊎ ((r ≡ 2048 + getD (now (place .entry)) from 0) × (end ≡ from + 1) × (Kept.single (now (kind .entry)) (now (weight .entry)) from ≡ true))
+        ⊎ ((r ≡ 4096) × (end ≡ from + 2) × (Kept.single (now (kind .entry)) (now (weight .entry)) from ≡ true) × (Kept.single (now (kind .entry)) (now (weight .entry)) (from + 1) ≡ true)) ⌝ }
 {
     if end == from + 1 {
-        if kind[from] == 0 {
-            if weight[from] <= 1 {
-                return ALONE + place[from];
+        if single(kind, weight, from) {
+            return ALONE + place[from];
+        }
+    }
+    if end == from + 2 {
+        if single(kind, weight, from) {
+            if single(kind, weight, from + 1) {
+                return TWO;
             }
         }
     }

@@ -2,6 +2,7 @@
 ghost use mathlib.Core.Path.{_≡_};
 ghost use mathlib.Core.Bool.{true};
 ghost use Prim.Native.Nat.{ℕ, _+_, _*_, _<_, _≤_};
+ghost use lib.Ieee.{binary64, mul};
 ghost use lib.ListN.{length, getD};
 ghost use Rattle.words.specs.Bits.{bit};
 ghost use Rattle.net.specs.Net as Reader;
@@ -55,7 +56,19 @@ fn walked<'a>(
 // The limit of a take of one token.
 const ONE_TOKEN: u64 = 0xFFFF_FFFF_FFFF_FFFF;
 
-// The same, where the table says that they are the count of one place without a walk.
+// x times the counts of the places of slots a and a + 1, each of which takes one token.
+fn times_two(x: f64, place: &[usize; 1024], counts: &[u64; 32], a: usize) -> f64
+    requires { ⌜ (a < 1023) × Engine.Below 32 (now place) × Engine.Counts (now counts) ⌝ }
+    ensures { λ r. ⌜ r ≡ mul binary64 (mul binary64 x (Propensity.ways (getD (now (counts .entry)) (getD (now (place .entry)) a 0) 0) 1))
+        (Propensity.ways (getD (now (counts .entry)) (getD (now (place .entry)) (a + 1) 0) 0) 1) ⌝ }
+{
+    let p = place[a];
+    let q = place[a + 1];
+    let y = marking::times(x, 0, ONE_TOKEN, counts[p]);
+    marking::times(y, 0, ONE_TOKEN, counts[q])
+}
+
+// The same, where the table says that they are the counts of one place or two without a walk.
 fn value<'a>(
     places: usize,
     transitions: usize,
@@ -82,6 +95,9 @@ fn value<'a>(
     let end = ends[j];
     let x = rates[j];
     if tables::ALONE <= end {
+        if tables::TWO <= end {
+            return times_two(x, place, counts, 16 * j);
+        }
         let p = end - tables::ALONE;
         return marking::times(x, 0, ONE_TOKEN, counts[p]);
     }

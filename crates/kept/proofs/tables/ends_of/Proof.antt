@@ -2,12 +2,13 @@
 use borrow.Author.Needs.{needs}
 use native.Mathlib.Omega.{arith}
 use mathlib.Core.Path.{_≡_}
+use mathlib.Core.Bool.{true}
 use mathlib.Core.Logic.{_⊎_, ⊎-elim}
 use Prim.Native.Nat.{ℕ, _+_, _-_, _*_, _≤_, _<_}
 use lib.ListN.{getD}
 use Rattle.net.specs.declared.Net.{Net as NetRecord}
 use Rattle.net.specs.Record.{lent}
-use Rattle.kept.specs.Kept.{Alone}
+use Rattle.kept.specs.Kept.{single, Alone, Two}
 use Rattle.kept.proofs.Filling.{Filling, filling-none, filling-more}
 use Rattle.kept.proofs.tables.ends_of.Statement.{statement}
 use Rattle.kept.proofs.tables.ends_of.Tie as tie
@@ -16,27 +17,32 @@ use Rattle.kept.proofs.tables.ends_of.Tie as tie
 pub record End (n : NetRecord) (j x : ℕ) : Type 0 where
   pub inside : x < 2048 → x ≤ 16 * j + getD (n .arcs) j 0
   pub behind : (a : ℕ) → x < 2048 → x ≤ a → 16 * j ≤ a → a < 16 * j + getD (n .arcs) j 0 → getD (n .kind) a 0 ≡ 0 → ⊥
-  pub alone : 2048 ≤ x → Alone n j (x - 2048)
+  pub alone : 2048 ≤ x → x < 4096 → Alone n j (x - 2048)
+  pub two : 4096 ≤ x → Two n j
 
 end-told : (n : NetRecord) (j e x : ℕ) → 16 * j + getD (n .arcs) j 0 ≤ 1024 → e ≤ 16 * j + getD (n .arcs) j 0
     → ((a : ℕ) → e ≤ a → 16 * j ≤ a → a < 16 * j + getD (n .arcs) j 0 → getD (n .kind) a 0 ≡ 0 → ⊥)
-    → (x ≡ e) ⊎ ((x ≡ 2048 + getD (n .place) (16 * j) 0) × (e ≡ 16 * j + 1) × (getD (n .kind) (16 * j) 0 ≡ 0) × (getD (n .weight) (16 * j) 0 ≤ 1)) → End n j x
-end-told n j e x low h f s =
+    → getD (n .place) (16 * j) 0 < 32
+    → (x ≡ e) ⊎ ((x ≡ 2048 + getD (n .place) (16 * j) 0) × (e ≡ 16 * j + 1) × (single (n .kind) (n .weight) (16 * j) ≡ true))
+    ⊎ ((x ≡ 4096) × (e ≡ 16 * j + 2) × (single (n .kind) (n .weight) (16 * j) ≡ true) × (single (n .kind) (n .weight) (16 * j + 1) ≡ true)) → End n j x
+end-told n j e x low h f p s =
     ⊎-elim
-    (λ z. record { inside = λ l. omega arith; behind = λ a l u v w k. f a (omega arith) v w k; alone = λ l. absurd (omega arith) })
+    (λ z. record { inside = λ l. omega arith; behind = λ a l u v w k. f a (omega arith) v w k; alone = λ l. absurd (omega arith); two = λ l. absurd (omega arith) })
+    (⊎-elim
     (λ z.
     record {
       inside = λ l. absurd (omega (arith, z .0));
       behind = λ a l. absurd (omega (arith, z .0));
-      alone = λ l.
-          record {
-            there = omega (arith, z .1);
-            kinetic = z .2;
-            single = z .3;
-            from = omega (arith, z .0);
-            behind = λ a u v k. f a (omega (arith, z .1)) (omega arith) v k;
-          };
+      alone = λ l k. record { there = omega (arith, z .1); takes = z .2; from = omega (arith, z .0); behind = λ a u v k. f a (omega (arith, z .1)) (omega arith) v k };
+      two = λ l. absurd (omega (arith, z .0));
     })
+    (λ z.
+    record {
+      inside = λ l. absurd (omega (arith, z .0));
+      behind = λ a l. absurd (omega (arith, z .0));
+      alone = λ l k. absurd (omega (arith, z .0));
+      two = λ l. record { there = omega (arith, z .1); takes = z .2; takes-too = z .3; behind = λ a u v k. f a (omega (arith, z .1)) (omega arith) v k };
+    }))
     s
 
 abbrev Inv-loop : tie.InvT-loop
@@ -84,7 +90,7 @@ told-requires c κs =
     let i = c .before .before in
     let l = i .before in
     let t = l .before .pre .0 in
-    (omega (arith, low i), λ a. omega (arith, t .place a, t .places))
+    (omega (arith, low i), omega (arith, c .end-of .ensures .0, low i, t .arcs (l .loop .j)), λ a. omega (arith, t .place a, t .places))
 
 mul-ends : tie.Need-mul-ends Inv-loop μ-loop
 mul-ends c = omega (arith, low (c .before .before .before))
@@ -101,7 +107,8 @@ loop-again c =
     let l = i .before in
     let e = c .before .end-of in
     filling-more 0 (End (net (l .before))) (l .loop .ends) (l .loop .j) (l .loop .inv) (low i) (c .told .result)
-    (end-told (net (l .before)) (l .loop .j) (e .result) (c .told .result) (omega (arith, low i, l .before .pre .0 .arcs (l .loop .j))) (e .ensures .0) (e .ensures .1) (c .told .ensures))
+    (end-told (net (l .before)) (l .loop .j) (e .result) (c .told .result) (omega (arith, low i, l .before .pre .0 .arcs (l .loop .j))) (e .ensures .0) (e .ensures .1)
+    (omega (arith, l .before .pre .0 .place (16 * l .loop .j), l .before .pre .0 .places)) (c .told .ensures))
 
 returns : tie.Need-returns Inv-loop μ-loop
 returns c =
@@ -110,6 +117,7 @@ returns c =
         inside = λ j h. l .loop .inv .each j (omega (arith, c .loop-test .left)) .inside;
         behind = λ j a h. l .loop .inv .each j (omega (arith, c .loop-test .left)) .behind a;
         alone = λ j h. l .loop .inv .each j (omega (arith, c .loop-test .left)) .alone;
+        two = λ j h. l .loop .inv .each j (omega (arith, c .loop-test .left)) .two;
       },
       l .loop .inv .long,
     )
