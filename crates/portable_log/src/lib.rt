@@ -1,10 +1,10 @@
 // The portable natural logarithm: every operation is one binary64 operation, in a fixed order, so that its bits are the
 // same on every machine.
 ghost use mathlib.Core.Path.{_≡_};
-ghost use mathlib.Core.Bool.{cond};
+ghost use mathlib.Core.Bool.{false, cond};
 ghost use Prim.Native.Nat.{_/_, _^_, _≤_, _<_};
 ghost use lib.IntN.{pos, _-ℤ_};
-ghost use lib.Ieee.{binary64, toBits};
+ghost use lib.Ieee.{binary64, toBits, ne};
 ghost use Rattle.portable_log.specs.Log as Spec;
 
 const EXP_MASK: u64 = 0x7FF << 52;
@@ -138,14 +138,11 @@ fn scaled_log(b: u64, scale: u64) -> f64
     combine(f, difference(b >> 52, 1022 + scale + d))
 }
 
-// The natural logarithm of an x that is no normal number above 0: the bits above its digits are 0, or 2047 and more.
+// The natural logarithm of a number x that is not normal and above 0: the bits above its digits are 0, or 2047 and more.
 fn other_log(x: f64) -> f64
-    requires { ⌜ (1 ≤ toBits binary64 x / 2 ^ 52 → 2047 ≤ toBits binary64 x / 2 ^ 52) ⌝ }
+    requires { ⌜ (ne x x ≡ false) × (1 ≤ toBits binary64 x / 2 ^ 52 → 2047 ≤ toBits binary64 x / 2 ^ 52) ⌝ }
     ensures { λ r. ⌜ r ≡ Spec.plog x ⌝ }
 {
-    if x != x {
-        return x;
-    }
     if x == f64::from_bits(0x7FF0_0000_0000_0000) {
         return x;
     }

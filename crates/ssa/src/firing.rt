@@ -7,6 +7,9 @@ ghost use lib.ListN as ListN;
 ghost use Rattle.net.specs.Readable as Record;
 ghost use Rattle.net.specs.Record.{lent};
 ghost use Rattle.net.specs.declared.Net.{Net as NetRecord};
+ghost use Rattle.net.specs.Net.{pick};
+ghost use Rattle.rng.specs.State as Random;
+ghost use Rattle.rng.specs.Xoshiro.{step as drawn};
 ghost use Rattle.rules.specs.Step as Rule;
 ghost use Rattle.rules.specs.RunningSums as Sums;
 ghost use Rattle.timers.specs.Turning as Turning;
@@ -186,6 +189,17 @@ fn race<'a>(
             }
         }
     }
+}
+
+// The generator that the event leaves, where one is due: a race draws.
+pub fn after_event(rng: Xoshiro256, completes: bool) -> Xoshiro256
+    ensures { λ r. ⌜ Random.words (r .s) ≡ pick completes (Random.words (rng .s)) (drawn (Random.words (rng .s))) ⌝ }
+{
+    if completes {
+        return rng;
+    }
+    let d = rng.next_u64();
+    d.rng
 }
 
 // The event: the completion where one is due, else the race.

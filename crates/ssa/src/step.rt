@@ -5,9 +5,7 @@ ghost use lib.ListN.{length};
 ghost use Rattle.net.specs.Readable as Record;
 ghost use Rattle.net.specs.Record.{lent};
 ghost use Rattle.net.specs.declared.Net.{Net as NetRecord};
-ghost use Rattle.net.specs.Net.{pick};
 ghost use Rattle.rng.specs.State as Random;
-ghost use Rattle.rng.specs.Xoshiro.{step as drawn};
 ghost use Rattle.rules.specs.Step as Rule;
 ghost use Rattle.jump.specs.Answers.{unitWait};
 ghost use Rattle.engine.specs.Engine as Engine;
@@ -238,17 +236,6 @@ fn higher(peak: u64, tokens: u64) -> u64
     peak
 }
 
-// The generator after the event: a race draws.
-fn after_event(rng: Xoshiro256, completes: bool) -> Xoshiro256
-    ensures { λ r. ⌜ Random.words (r .s) ≡ pick completes (Random.words (rng .s)) (drawn (Random.words (rng .s))) ⌝ }
-{
-    if completes {
-        return rng;
-    }
-    let d = rng.next_u64();
-    d.rng
-}
-
 // One step.
 pub fn one_step<'a>(
     places: usize,
@@ -393,7 +380,7 @@ pub fn one_step<'a>(
                     ending: Ending::Reached,
                 };
             }
-            let unit = jump::unit_wait(after_event(g, d.completes));
+            let unit = jump::unit_wait(firing::after_event(g, d.completes));
             let e = firing::happen(
                 places,
                 transitions,

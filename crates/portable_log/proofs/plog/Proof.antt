@@ -24,11 +24,13 @@ returns-2 c =
     c .scaled-log .ensures ∙ at-normal (p .before .args .x) (p .if1 .left) (omega arith) (omega arith)
 
 other-log-requires : tie.Need-other-log-requires
-other-log-requires c κs =
-    λ g. elim (c .if2 .came) [
-      | inl t ↦ t .1 .left
-      | inr t ↦ absurd (lt-irrefl 1 (lt-of-le-of-lt g (t .left)))
-    ]
+other-log-requires c κs = (
+  c .before .if1 .left,
+  λ g. elim (c .if2 .came) [
+    | inl t ↦ t .1 .left
+    | inr t ↦ absurd (lt-irrefl 1 (lt-of-le-of-lt g (t .left)))
+  ],
+)
 
 returns-3 : tie.Need-returns-3
 returns-3 c = search needs

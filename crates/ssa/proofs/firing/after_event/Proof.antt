@@ -1,7 +1,7 @@
 -- The test says which of the two the definition picks.
 use borrow.Author.Needs.{needs}
-use Rattle.ssa.proofs.step.after_event.Statement.{statement}
-use Rattle.ssa.proofs.step.after_event.Tie as tie
+use Rattle.ssa.proofs.firing.after_event.Statement.{statement}
+use Rattle.ssa.proofs.firing.after_event.Tie as tie
 
 returns : tie.Need-returns
 returns c = simp (c .if1 .taken)
