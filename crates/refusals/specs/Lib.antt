@@ -71,6 +71,18 @@ usedLabel = 18
 abbrev pub shortBuffer : ℕ
 shortBuffer = 19
 
+-- the nets of a change have unequal place counts
+abbrev pub unequalPlaces : ℕ
+unequalPlaces = 20
+
+-- a number of a renaming list that is out of range or listed twice on its side
+abbrev pub badRenaming : ℕ
+badRenaming = 21
+
+-- a running timer that is unlisted, or sent to a transition without delay
+abbrev pub badTimer : ℕ
+badTimer = 22
+
 -- a game on a net with a delayed transition
 abbrev pub delayedTransition : ℕ
 delayedTransition = 23

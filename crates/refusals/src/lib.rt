@@ -38,6 +38,12 @@ pub const USED_LABEL: u64 = 18;
 
 pub const SHORT_BUFFER: u64 = 19;
 
+pub const UNEQUAL_PLACES: u64 = 20;
+
+pub const BAD_RENAMING: u64 = 21;
+
+pub const BAD_TIMER: u64 = 22;
+
 pub const DELAYED_TRANSITION: u64 = 23;
 
 pub const BAD_SIDES: u64 = 24;

@@ -1,17 +1,18 @@
--- What a net record without a fault gives, as the comparison with Gillespie's rule asks it, and that counts stay at most 2^53 throughout a run.
-use Prim.Native.Nat.{ℕ, zero, suc, _+_, _-_, _^_, _≤_}
+-- What a net record without a fault gives, as the comparison with Gillespie's rule and order 8 ask it; and counts stay at most 2^53 in every run.
+use Prim.Native.Nat.{ℕ, zero, suc, _+_, _-_, _*_, _^_, _≤_, _<_}
 use mathlib.Core.Path.{_≡_, refl, subst}
-use mathlib.Core.Bool.{Bool, true, false}
-use mathlib.Core.List.{List, [], _∷_, map}
+use mathlib.Core.Bool.{Bool, true, false, _||_, not}
+use mathlib.Core.List.{List, [], _∷_, _++_, map}
 use mathlib.Core.Option.{Option, none, some}
 use native.Mathlib.Omega.{arith}
-use lib.Dec.{leb}
-use lib.ListN.{getD, set}
-use lib.Ieee.{Float, binary64, add, mul}
-use borrow.Author.Tests.{leb-true, le-leb}
+use lib.Dec.{eqb, leb, ltb}
+use lib.ListN.{length, getD, set, length-append, length-map}
+use lib.Ieee.{Float, nan, binary64, ofBits, add, mul, le}
+use borrow.Author.Tests.{leb-true, le-leb, ltb-false}
 use Rattle.net.specs.declared.Net.{Net as NetRecord}
-use Rattle.net.specs.Net.{Place, Take, Net, Marking, pick, amount, held}
-use Rattle.net.specs.Readable.{transitionsFrom, placesFrom, readable, fault}
+use Rattle.net.specs.Net.{Place, Arc, Take, Transition, Net, Marking, pick, zero64, amount, held}
+use Rattle.net.specs.Tests.{Test, any, asArc, arcs, rateFits, delayFits, outside, moveTests}
+use Rattle.net.specs.Readable.{slotsOf, strange, transition, transitionsFrom, placesFrom, readable, moveFault, movesFault, fault}
 use Rattle.net.specs.Sound.{Sound}
 use Rattle.net.proofs.Sound.{sound}
 use Rattle.net.proofs.Lengths.{transitions-length}
@@ -21,10 +22,12 @@ use Rattle.rules.specs.Propensity.{propensities, total}
 use Rattle.rules.specs.Exact.{addsRounded}
 use Rattle.rules.specs.Jump.{chosen}
 use Rattle.rules.specs.Timers.{Timer, first, others}
-use Rattle.rules.specs.Moves.{Entry, started, completed, fired, transition as transitionOf, taking, move, after}
+use Rattle.rules.specs.Moves.{Entry, started, completed, fired, withoutArcs, transition as transitionOf, taking, weightTaken, move, after}
 use Rattle.rules.specs.Step.{State, state, Answer, refused, given, Starts, starts, waiting, drawnFor, Next, nothingLeft, race, completion, next, Event, countsFit, event, fire, Step, still, sets, setClock, goOn, afterStarts, step}
 use Rattle.rules.specs.Gillespie.{Tested, Accepted, Reached, at-first, after-step}
-use Rattle.rules.proofs.Order.{both}
+use Rattle.rules.specs.Halting.{Bounded}
+use Rattle.rules.proofs.Order.{both, neither}
+use Rattle.rules.proofs.TakesOnce.{neither-fault, none-applies, no-move-fault, none-of}
 use Rattle.rules.proofs.Allowing.{leads-counts, starts-lead}
 
 -- ---- the tests
@@ -49,6 +52,65 @@ module _ (n : NetRecord) (s : Sound n) where
 pub accepted : (n : NetRecord) → fault n ≡ none → Accepted (readable n)
 accepted n e = accepted-by n (sound n e)
 
+-- ---- delays, and the weight of all takes
+
+amount-most : (w : ℕ) → w ≤ 1_000_000 → amount w ≤ 1_000_000
+amount-most zero h = omega arith
+amount-most (suc w) h = h
+
+light : (ks : List Take) → any (λ (a : Arc). ltb 1_000_000 (a .weight)) (map asArc ks) ≡ false → weightTaken ks ≤ 1_000_000 * length ks
+light [] h = omega arith
+light (k ∷ ks) h =
+    let w = neither (ltb 1_000_000 (k .weight)) (any (λ (a : Arc). ltb 1_000_000 (a .weight)) (map asArc ks)) h in
+    omega (arith, amount-most (k .weight) (ltb-false 1_000_000 (k .weight) (w .0)), light ks (w .1))
+
+module _ (n : NetRecord) where
+  move-light : (j : ℕ) → moveFault n j ≡ none → weightTaken (transition n j .takes) ≤ 16_000_000
+  move-light j h =
+      let t : Transition = transition n j in
+      let f : Arc → Bool = λ (a : Arc). ltb 1_000_000 (a .weight) in
+      let ahead : List Arc = map asArc (t .takes) in
+      let tests : List Test = moveTests (n .places) j (strange (slotsOf n j)) t in
+      let many : ltb 16 (length (arcs t)) ≡ false = neither (eqb (n .places) 0 || leb 64 j) (ltb 16 (length (arcs t))) (none-applies tests h 0) .1 in
+      let out : outside t ≡ false = neither (strange (slotsOf n j)) (outside t) (none-applies tests h 2) .1 in
+      let all : any f (arcs t) ≡ false = neither (not (rateFits (t .rate)) || not (delayFits (t .delay))) (any f (arcs t)) out .1 in
+      let mine : any f ahead ≡ false = none-of f ahead (t .puts) (none-of f (ahead ++ t .puts) (t .reads) (none-of f (ahead ++ t .puts ++ t .reads) (t .blocks) all .0) .0) .0 in
+      omega (
+        arith,
+        ltb-false 16 (length (arcs t)) many,
+        light (t .takes) mine,
+        length-map (t .takes) asArc,
+        length-append ahead (t .puts),
+        length-append (ahead ++ t .puts) (t .reads),
+        length-append (ahead ++ t .puts ++ t .reads) (t .blocks),
+      )
+
+  moves-light : (k j : ℕ) → movesFault n j k ≡ none → (i : ℕ) → i < k → weightTaken (getD (transitionsFrom n j k) i withoutArcs .takes) ≤ 16_000_000
+  moves-light zero j h i l = absurd (omega arith)
+  moves-light (suc k) j h zero l = move-light j (neither-fault (moveFault n j) (movesFault n (suc j) k) h .0)
+  moves-light (suc k) j h (suc i) l = moves-light k (suc j) (neither-fault (moveFault n j) (movesFault n (suc j) k) h .1) i (omega arith)
+
+  all-light : fault n ≡ none → (i : ℕ) → i < n .transitions → weightTaken (getD (transitionsFrom n 0 (n .transitions)) i withoutArcs .takes) ≤ 16_000_000
+  all-light h = moves-light (n .transitions) 0 (no-move-fault n h)
+
+  delays-from : Sound n → (k j : ℕ) → j + k ≤ n .transitions → (i : ℕ) → i < k
+      → le (getD (transitionsFrom n j k) i withoutArcs .delay) (ofBits binary64 0x41D0_0000_0000_0000) ≡ true
+  delays-from s zero j h i l = absurd (omega arith)
+  delays-from s (suc k) j h zero l =
+      both (le zero64 (getD (n .delay) j nan)) (le (getD (n .delay) j nan) (ofBits binary64 0x41D0_0000_0000_0000)) (s .delay j (omega arith)) .1
+  delays-from s (suc k) j h (suc i) l = delays-from s k (suc j) (omega arith) i (omega arith)
+
+-- what order 8 asks
+pub bounded : (n : NetRecord) → fault n ≡ none → Bounded (readable n)
+bounded n e =
+    let s : Sound n = sound n e in
+    let k : length (readable n .transitions) ≡ n .transitions = transitions-length n in
+    record {
+      initial = accepted n e .initial;
+      delays = λ j h. delays-from n s (n .transitions) 0 (omega arith) j (omega arith);
+      weights = λ j h. all-light n e j (omega arith);
+    }
+
 -- ---- counts that fit
 
 pub fit-held : (m : Marking) → countsFit m ≡ true → (p : ℕ) → held m p ≤ 2 ^ 53
@@ -63,7 +125,7 @@ fit-set (c ∷ cs) (suc p) v h l =
     let w = both (leb c (2 ^ 53)) (countsFit cs) h in
     rw (w .0) (fit-set cs p v (w .1) l)
 
-fit-taking : (ks : List Take) (m : Marking) → countsFit m ≡ true → countsFit (taking m ks) ≡ true
+pub fit-taking : (ks : List Take) (m : Marking) → countsFit m ≡ true → countsFit (taking m ks) ≡ true
 fit-taking [] m h = h
 fit-taking (k ∷ ks) m h =
     let l = fit-held m h (k .place) in

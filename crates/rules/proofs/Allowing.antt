@@ -1,6 +1,7 @@
--- Theory for demand 3 and orders 2 and 7: in every run each transition that starts or fires is enabled just then, each completion is that of the first
--- running timer, and the clock, counts and timers of each state are what the entries so far replay. No hypothesis about the net.
-use Prim.Native.Nat.{ℕ, zero, suc, _+_, _<_}
+-- Theory for demand 3 and orders 2, 7 and 8: in every step each transition that starts or fires is enabled just then, each that starts is delayed,
+-- each completion is that of the first running timer, and the clock, counts and timers of each state are what the entries so far replay. No
+-- hypothesis about the net. For runs see Runs.
+use Prim.Native.Nat.{ℕ, zero, suc, _<_}
 use mathlib.Core.Path.{_≡_, refl, sym, ap, _∙_, subst}
 use mathlib.Core.Bool.{Bool, true, false, _&&_}
 use mathlib.Core.Logic.{_⊎_, inl, inr}
@@ -21,7 +22,6 @@ use Rattle.rules.specs.Timers.{Timer, timerOf, insert, first, others}
 use Rattle.rules.specs.Moves.{Entry, reading, started, completed, fired, withoutArcs, transition, taking, move, after}
 use Rattle.rules.specs.Step.{State, state, Answer, refused, given, Starts, preceded, pass, nobody, unlessNone, passes, starts, waiting, drawnFor, Next, nothingLeft, race, completion, next, Event, countsFit, event, complete, fire, raced, Step, still, sets, setClock, goOn, afterStarts, step}
 use Rattle.rules.specs.Moments.{Moment, moment, happen, momentAfter}
-use Rattle.rules.specs.Run.{End, quiet, reached, Run, ends, refuses, steps, concluded, stepped, run, Outcome, outcome, entries}
 use Rattle.rules.proofs.Order.{never, both}
 use Rattle.rules.specs.Demand3.{Ready, Allowed, EachAllowed}
 
@@ -33,22 +33,23 @@ given-same p = cc
 pub refused-given : {A B : Type 0} {c : ℕ} {a : A} → _≡_ {A = Answer A} (refused c) (given a) → B
 refused-given p = absurd (let z : _≡_ {A = ℕ} 0 1 = cc in omega arith)
 
--- ---- entries that lead from moment to moment, each start and firing enabled and each completion due at its turn
+-- ---- entries that lead from moment to moment, each start and firing enabled and each start and completion due at its turn
 
 -- the first of the running timers is one of transition j
 abbrev pub FirstIs : List Timer → ℕ → Type 0
 FirstIs [] j = ⊥
 FirstIs (z ∷ q) j = z .who ≡ j
 
-abbrev pub Due : Moment → Entry → Type 0
-Due x (reading t) = Unit
-Due x (started j) = Unit
-Due x (completed j) = FirstIs (x .timers) j
-Due x (fired j) = Unit
+-- a start is of a delayed transition, a completion of the first timer
+abbrev pub Due : Net → Moment → Entry → Type 0
+Due n x (reading t) = Unit
+Due n x (started j) = timed (transition n j) ≡ true
+Due n x (completed j) = FirstIs (x .timers) j
+Due n x (fired j) = Unit
 
 abbrev pub EachDue : Net → Moment → List Entry → Type 0
 EachDue n x [] = Unit
-EachDue n x (e ∷ es) = Due x e × EachDue n (happen n x e) es
+EachDue n x (e ∷ es) = Due n x e × EachDue n (happen n x e) es
 
 pub record Leads (n : Net) (x : Moment) (es : List Entry) (y : Moment) : Type 0 where
   pub allowed : EachAllowed n (x .counts) es
@@ -139,8 +140,8 @@ module _ (room : ℕ) (n : Net) (t : Float) where
       w : (j < length (n .transitions)) × (transition n j ≡ this) × (drop (suc j) (n .transitions) ≡ rest)
       w = drop-here (n .transitions) j this rest d
 
-      one : enabled n m this ≡ true → Leads n (at-clock m q) (started j ∷ []) (at-clock (taking m (this .takes)) (insert timer q))
-      one e = record { allowed = ((w .0, rw (w .1) e), tt); due = (tt, tt); to = rw (w .1) }
+      one : (timed this ≡ true) × (enabled n m this ≡ true) → Leads n (at-clock m q) (started j ∷ []) (at-clock (taking m (this .takes)) (insert timer q))
+      one e = record { allowed = ((w .0, rw (w .1) (e .1)), tt); due = (rw (w .1) (e .0), tt); to = rw (w .1) }
 
       go : (c : Bool) → timed this && enabled n m this ≡ c → (d : Bool)
           → Led m q (pass room n t (suc j) rest m q)
@@ -148,7 +149,7 @@ module _ (room : ℕ) (n : Net) (t : Float) where
           → Led m q (pick c (pick d (preceded (j ∷ []) (pass room n t (suc j) rest (taking m (this .takes)) (insert timer q))) (refused 15)) (pass room n t (suc j) rest m q))
       go false e d a b = a
       go true e false a b = led-refused m q 15
-      go true e true a b = led-preceded m (taking m (this .takes)) q (insert timer q) (j ∷ []) _ (one (both (timed this) (enabled n m this) e .1)) b
+      go true e true a b = led-preceded m (taking m (this .takes)) q (insert timer q) (j ∷ []) _ (one (both (timed this) (enabled n m this) e)) b
 
   passes-lead : (k : ℕ) (m : Marking) (q : List Timer) → Led m q (passes k room n t m q)
   passes-lead zero m q = led-given m q _ (leads-none n _)
@@ -239,7 +240,7 @@ StepGood n s (given (still b)) = Unit
 StepGood n s (given (sets b js u e)) = Stepping n s js u e
 
 -- an event whose entry is allowed and due, and leaves these timers
-event-good : (n : Net) (u : State) (e : Entry) (q : List Timer) (g : Generator) → Lone (e ∷ []) → Allowed n (u .counts) e → Due (moment u) e
+event-good : (n : Net) (u : State) (e : Entry) (q : List Timer) (g : Generator) → Lone (e ∷ []) → Allowed n (u .counts) e → Due n (moment u) e
     → happen n (moment u) e ≡ record { clock = u .clock; counts = move n (u .counts) e; timers = q } → EventGood n u (event n u e q g)
 event-good n u e q g l a d h = go (countsFit (move n (u .counts) e))
   where
@@ -266,13 +267,22 @@ complete-good : (n : Net) (u : State) → FirstIs (u .timers) (first (u .timers)
 complete-good n u d =
     event-good n u (completed (first (u .timers) .who)) (others (u .timers)) (u .generator) (oneCompletion (first (u .timers) .who)) tt d refl
 
--- a completion comes next only where a timer runs
-next-first : (a0 t dt : Float) (q : List Timer) (at : Float) → next a0 t dt q ≡ completion at → FirstIs q (first q .who)
-next-first a0 t dt [] at p = go (le a0 zero64) p
+-- a completion is of the first timer, at its time
+pub next-completion : (a0 t dt : Float) (q : List Timer) (at : Float) → next a0 t dt q ≡ completion at → (x : Timer) × (xs : List Timer) × (q ≡ x ∷ xs) × (x .at ≡ at)
+next-completion a0 t dt [] at p = go (le a0 zero64) p
   where
-    go : (c : Bool) → pick c nothingLeft (race dt) ≡ completion at → ⊥
-    go true e = let z : _≡_ {A = ℕ} 0 1 = cc in omega arith
-    go false e = let z : _≡_ {A = ℕ} 0 1 = cc in omega arith
+    go : (c : Bool) → pick c nothingLeft (race dt) ≡ completion at → (x : Timer) × (xs : List Timer) × ([] ≡ x ∷ xs) × (x .at ≡ at)
+    go true p = absurd (let z : _≡_ {A = ℕ} 0 1 = cc in omega arith)
+    go false p = absurd (let z : _≡_ {A = ℕ} 0 1 = cc in omega arith)
+next-completion a0 t dt (x ∷ xs) at p = go (le (x .at) (add binary64 t dt)) p
+  where
+    go : (c : Bool) → pick c (completion (x .at)) (race dt) ≡ completion at → (y : Timer) × (ys : List Timer) × (x ∷ xs ≡ y ∷ ys) × (y .at ≡ at)
+    go true p = (x, xs, refl, (cc))
+    go false p = absurd (let z : _≡_ {A = ℕ} 0 1 = cc in omega arith)
+
+-- so where a completion comes next a timer runs
+next-first : (a0 t dt : Float) (q : List Timer) (at : Float) → next a0 t dt q ≡ completion at → FirstIs q (first q .who)
+next-first a0 t dt [] at p = let w = next-completion a0 t dt [] at p .2 in absurd (let z : _≡_ {A = ℕ} 0 1 = cc in omega arith)
 next-first a0 t dt (z ∷ q) at p = refl
 
 module _ (n : Net) (s : State) (b : Bool) (js : List ℕ) (v : State) (a0 : Float)
@@ -296,56 +306,12 @@ step-good room n s = go (starts room n s) (λ b p. starts-lead room n (s .clock)
         go-on-good n s (addsRounded n (b .counts)) (b .who) v a0 (h b refl) (next a0 (s .clock) (waiting a0 (s .generator)) (b .timers))
         (next-first a0 (s .clock) (waiting a0 (s .generator)) (b .timers))
 
--- ---- a run
+-- ---- up to the clock reading
 
-leads-reading : (n : Net) (x : Moment) (t : Float) → Leads n x (reading t ∷ []) (record { clock = t; counts = x .counts; timers = x .timers })
+pub leads-reading : (n : Net) (x : Moment) (t : Float) → Leads n x (reading t ∷ []) (record { clock = t; counts = x .counts; timers = x .timers })
 leads-reading n x t = record { allowed = (tt, tt); due = (tt, tt); to = refl }
 
 -- what happens in a step up to its clock reading
 pub up-to-reading : {n : Net} {s : State} {js : List ℕ} {u : State} {e : Answer Event} → Stepping n s js u e
     → Leads n (moment s) (map started js ++ reading (u .clock) ∷ []) (moment u)
 up-to-reading {n} {s} {js} {u} g = leads-on (g .starts) (leads-reading n _ (u .clock))
-
--- a run from the moment x: each start and firing is enabled, each completion due, and what is left at the end is what the entries replay
-pub record Goes (n : Net) (x : Moment) (r : Run) : Type 0 where
-  pub allowed : EachAllowed n (x .counts) (entries r)
-  pub due : EachDue n x (entries r)
-  pub left : (o : Outcome) → outcome r ≡ given o → momentAfter n x (entries r) ≡ moment (o .left)
-
-goes-end : (n : Net) (e : End) (s : State) → Goes n (moment s) (ends e s)
-goes-end n e s = record { allowed = tt; due = tt; left = λ o p. ap (λ (o : Outcome). moment (o .left)) (given-same p) }
-
-goes-refused : (n : Net) (x : Moment) (c : ℕ) → Goes n x (refuses c)
-goes-refused n x c = record { allowed = tt; due = tt; left = λ o p. refused-given p }
-
-goes-step : {n : Net} {x y : Moment} {w : Bool} {es : List Entry} {r : Run} → Leads n x es y → Goes n y r → Goes n x (steps w es r)
-goes-step {n} {x} {y} {w} {es} {r} a b =
-    let c : Leads n x (es ++ entries r) (momentAfter n y (entries r)) = leads-on a (record { allowed = b .allowed; due = b .due; to = refl }) in
-    record { allowed = c .allowed; due = c .due; left = λ o p. c .to ∙ b .left o p }
-
-pub run-goes : (room : ℕ) (n : Net) (last : Float) (k : ℕ) (s : State) → Goes n (moment s) (run room n last k s)
-run-goes room n last zero s = goes-end n _ s
-run-goes room n last (suc k) s = below (lt (s .clock) last) (one (step room n s) (step-good room n s) (λ u. run-goes room n last k u))
-  where
-    one : (r : Answer Step) → StepGood n s r → ((u : State) → Goes n (moment u) (run room n last k u))
-        → Goes n (moment s) (stepped last s r (run room n last k))
-    one (refused c) g ih = goes-refused n (moment s) c
-    one (given (still b)) g ih = goes-step (leads-none n (moment s)) (goes-end n quiet s)
-    one (given (sets b js u e)) g ih = past (lt last (u .clock)) e (g .event)
-      where
-        es : List Entry
-        es = map started js ++ reading (u .clock) ∷ []
-
-        past : (c : Bool) (e : Answer Event) → EventGood n u e
-            → Goes n (moment s) (pick c (steps b es (ends reached u)) (concluded b es e (run room n last k)))
-        past true e h = goes-step (up-to-reading g) (goes-end n reached u)
-        past false (refused c) h = goes-step (up-to-reading g) (goes-refused n (moment u) c)
-        past false (given ev) h = goes-step (leads-on (up-to-reading g) (h .leads)) (ih (ev .leaves))
-
-    below : (c : Bool) → Goes n (moment s) (stepped last s (step room n s) (run room n last k))
-        → Goes n (moment s) (pick c (stepped last s (step room n s) (run room n last k)) (ends reached s))
-    below true h = h
-    below false h = goes-end n reached s
-
-pub run-allowed : (room : ℕ) (n : Net) (last : Float) (k : ℕ) (s : State) → EachAllowed n (s .counts) (entries (run room n last k s))
-run-allowed room n last k s = run-goes room n last k s .allowed

@@ -19,14 +19,15 @@ use Rattle.rules.specs.Timers.{Timer, timerOf, insert, others}
 use Rattle.rules.specs.Moves.{Entry, reading, started, completed, fired, withoutArcs, transition, taking, putting, move, after, initialCounts}
 use Rattle.rules.specs.Step.{State, refused, given}
 use Rattle.rules.specs.Moments.{Moment, moment, start, happen, momentAfter}
-use Rattle.rules.specs.Run.{run, beginning, entries, trace}
+use Rattle.rules.specs.Run.{End, spent, runWithin, beginning, entries, trace}
 use Rattle.rules.specs.Shown.{before, lastOf, runOf}
 use Rattle.rules.specs.Demand3.{placesOnce, takesOnce, Allowed, EachAllowed}
 use Rattle.rules.specs.Balance.{weightAt, takesWeigh, putsWeigh, even, allEven, balanced, firstUneven, unbalanced, someAbove1000, balance, countsWeigh, timersWeigh, weightOf, startsOf, completionsOf, runningOf, AllCompleted, Conserved}
 use Rattle.rules.proofs.Order.{both}
 use Rattle.rules.proofs.Counts.{move-length, taking-length, covered, once-each}
 use Rattle.rules.proofs.Weighing.{weigh, weighTakes, weighPuts, weigh-taking, weigh-putting, Inside, overTimers, over-insert}
-use Rattle.rules.proofs.Allowing.{given-same, refused-given, moment-counts, FirstIs, Due, EachDue, Goes, run-goes}
+use Rattle.rules.proofs.Allowing.{given-same, refused-given, moment-counts, FirstIs, Due, EachDue}
+use Rattle.rules.proofs.Runs.{Goes, run-goes}
 
 -- ---- the list of weights as a function of the place
 
@@ -63,7 +64,7 @@ beyond-list ws k e (a ∷ rest) = (go (decLt (a .place) k), beyond-list ws k e r
 
 -- ---- what the answer says
 
-each-even : (ws : List ℕ) (ts : List Transition) → allEven ws ts ≡ true → (j : ℕ)
+pub each-even : (ws : List ℕ) (ts : List Transition) → allEven ws ts ≡ true → (j : ℕ)
     → putsWeigh ws (getD ts j withoutArcs .puts) ≡ takesWeigh ws (getD ts j withoutArcs .takes)
 each-even ws [] h j = refl
 each-even ws (t ∷ ts) h zero = eqb-true _ _ (both (even ws t) (allEven ws ts) h .0)
@@ -152,7 +153,7 @@ module _ (n : Net) (ws : List ℕ) (once : (j : ℕ) → placesOnce (transition 
   ended [] j f = absurd f
   ended (z ∷ q) j f = rw f
 
-  entry-weight : (x : Moment) (e : Entry) → length ws ≡ length (x .counts) → Allowed n (x .counts) e → Due x e → weightOf n ws (happen n x e) ≡ weightOf n ws x
+  entry-weight : (x : Moment) (e : Entry) → length ws ≡ length (x .counts) → Allowed n (x .counts) e → Due n x e → weightOf n ws (happen n x e) ≡ weightOf n ws x
   entry-weight x (reading t) l a d = refl
   entry-weight x (started j) l a d = omega (arith, took (x .counts) j a, set-timer (timerOf (x .clock) j (transition n j)) (x .timers))
   entry-weight x (completed j) l a d = omega (arith, put (x .counts) j l, ended (x .timers) j d)
@@ -219,18 +220,18 @@ none-runs (z ∷ q) h =
     absurd (omega (arith, h (z .who)))
 
 -- from any state on, so also from one that was carried: the weight stays, whatever it is
-pub run-weight : (room : ℕ) (n : Net) (ws : List ℕ) → takesOnce (n .transitions) ≡ true → balanced n ws ≡ true
+pub run-weight : (out : End) (room : ℕ) (n : Net) (ws : List ℕ) → takesOnce (n .transitions) ≡ true → balanced n ws ≡ true
     → (last : Float) (k : ℕ) (s : State) → length ws ≡ length (s .counts)
-    → (past later : List Entry) → entries (run room n last k s) ≡ past ++ later
+    → (past later : List Entry) → entries (runWithin out room n last k s) ≡ past ++ later
     → weightOf n ws (momentAfter n (moment s) past) ≡ weightOf n ws (moment s)
-run-weight room n ws once b last k s l past later p =
-    let g : Goes n (moment s) (run room n last k s) = run-goes room n last k s in
+run-weight out room n ws once b last k s l past later p =
+    let g : Goes n (moment s) (runWithin out room n last k s) = run-goes out room n last k s in
     entries-weight n ws (once-each n once) b past (moment s) l (allowed-past n past later (s .counts) (rw p at (g .allowed)))
     (due-past n past later (moment s) (rw p at (g .due)))
 
 -- ---- the promise
 
-conserving : (n : Net) (ws : List ℕ) → balance n ws ≡ given none → (length ws ≡ length (n .places)) × (balanced n ws ≡ true)
+pub conserving : (n : Net) (ws : List ℕ) → balance n ws ≡ given none → (length ws ≡ length (n .places)) × (balanced n ws ≡ true)
 conserving n ws p = long (eqb (length ws) (length (n .places))) refl p
   where
     light : (c : Bool) → pick c (refused 4) (given (unbalanced n ws)) ≡ given none → balanced n ws ≡ true
@@ -244,7 +245,7 @@ conserving n ws p = long (eqb (length ws) (length (n .places))) refl p
 
 module _ (n : Net) (once : takesOnce (n .transitions) ≡ true) (g : Generator) (xs : List Float) (k : ℕ) where
   goes : Goes n (start n) (runOf n g xs k)
-  goes = run-goes 256 n (lastOf xs) k (beginning n g)
+  goes = run-goes spent 256 n (lastOf xs) k (beginning n g)
 
   module _ (past later : List Entry) (p : trace (runOf n g xs k) ≡ past ++ later) where
     due : EachDue n (start n) past

@@ -13,13 +13,14 @@ use Rattle.net.specs.Net.{Place, Net, Marking, pick, zero64, held}
 use Rattle.rng.specs.State.{State as Generator}
 use Rattle.rules.specs.Moves.{Entry, reading, after, initialCounts, takenAt, putAt}
 use Rattle.rules.specs.Step.{Answer, refused, given}
-use Rattle.rules.specs.Run.{End, quiet, spent, reached, Run, beginning, Outcome, outcome, entries, trace}
+use Rattle.rules.specs.Run.{End, quiet, spent, reached, halted, Run, beginning, Outcome, outcome, entries, trace}
 use Rattle.rules.specs.Shown.{before, reaches, shownAt, reachedFrom, settledOf, rising, instantsFit, limitFits, lastOf, Path, reported, runOf, acceptedPath}
 use Rattle.rules.proofs.Order.{both, le-refl, le-trans, le-nan-r, eq-le}
 use Rattle.rules.specs.Demand3.{takesOnce, EachAllowed, instant, count, earlier, Demand3}
 use Rattle.rules.proofs.Counts.{counted, once-each, allowed-before}
-use Rattle.rules.proofs.Allowing.{given-same, refused-given, run-allowed}
-use Rattle.rules.proofs.Agree.{before-equal, before-reached, same, Longer, grows}
+use Rattle.rules.proofs.Allowing.{given-same, refused-given}
+use Rattle.rules.proofs.Runs.{run-allowed, Longer, grows}
+use Rattle.rules.proofs.Agree.{before-equal, before-reached, same}
 
 -- ---- lists of instants
 
@@ -39,7 +40,7 @@ below-last low x (y ∷ ys) h =
     le-trans x y _ (rising-first x y ys r .0) (below-last x y ys r)
 
 -- each instant is a number, and at most the last
-instant-fits : (low : Float) (xs : List Float) → rising low xs ≡ true → (i : ℕ) → i < length xs
+pub instant-fits : (low : Float) (xs : List Float) → rising low xs ≡ true → (i : ℕ) → i < length xs
     → (isNan (instant xs i) ≡ false) × (le (instant xs i) (lastOf xs) ≡ true)
 instant-fits low [] h i l = absurd (omega arith)
 instant-fits low (x ∷ xs) h zero l = (le-nan-r low x (rising-first low x xs h .0), below-last low x xs h)
@@ -83,7 +84,7 @@ at-instant f [] i h = absurd (omega arith)
 at-instant f (x ∷ xs) zero h = refl
 at-instant f (x ∷ xs) (suc i) h = at-instant f xs i (le-of-suc-le-suc h)
 
-settled-reached : (es : List Entry) (xs : List Float) (i : ℕ) → i < reachedFrom es xs → reaches (instant xs i) es ≡ true
+pub settled-reached : (es : List Entry) (xs : List Float) (i : ℕ) → i < reachedFrom es xs → reaches (instant xs i) es ≡ true
 settled-reached es [] i h = absurd (omega arith)
 settled-reached es (x ∷ xs) i h = go (reaches x es) refl i h (settled-reached es xs)
   where
@@ -93,7 +94,7 @@ settled-reached es (x ∷ xs) i h = go (reaches x es) refl i h (settled-reached 
     go true e zero l ih = e
     go true e (suc i) l ih = ih i (le-of-suc-le-suc l)
 
-reached-few : (es : List Entry) (xs : List Float) → reachedFrom es xs ≤ length xs
+pub reached-few : (es : List Entry) (xs : List Float) → reachedFrom es xs ≤ length xs
 reached-few es [] = omega arith
 reached-few es (x ∷ xs) = go (reaches x es) (reached-few es xs)
   where
@@ -105,6 +106,7 @@ settled-few : (e : End) (es : List Entry) (xs : List Float) → settledOf e es x
 settled-few quiet es xs = omega arith
 settled-few spent es xs = reached-few es xs
 settled-few reached es xs = omega arith
+settled-few halted es xs = reached-few es xs
 
 -- ---- the demand
 
@@ -144,24 +146,24 @@ module _ (n : Net) (g : Generator) where
           go true q = refl
           go false q =
               ap (λ (es : List Entry). reading zero64 ∷ es)
-              (same 256 n (instant xs i) (lastOf xs) (lastOf ys) (fx .0) (fx .1) (eq-le (instant xs i) (instant ys j) (lastOf ys) e ∙ fy .1) k (beginning n g) q)
+              (same spent 256 n (instant xs i) (lastOf xs) (lastOf ys) (fx .0) (fx .1) (eq-le (instant xs i) (instant ys j) (lastOf ys) e ∙ fy .1) k (beginning n g) q .0)
 
   limits : (xs : List Float) (k l : ℕ) (a b : Path) → acceptedPath n g xs k ≡ given a → acceptedPath n g xs l ≡ given b → k ≤ l
       → (i : ℕ) → i < a .settled
       → (p : ℕ) → count a i p ≡ count b i p
   limits xs k l a b ha hb le i s p =
       shown xs k a ha i inside p
-      ∙ ap (λ (es : List Entry). held (after n (initialCounts n) es) p) (go (grows 256 n (lastOf xs) k l le (beginning n g)))
+      ∙ ap (λ (es : List Entry). held (after n (initialCounts n) es) p) (go (grows spent 256 n (lastOf xs) k l le (beginning n g)))
       ∙ sym (shown xs l b hb i inside p)
     where
       inside : i < length xs
       inside = omega (arith, answered n g xs k a ha .settles, settled-few (answered n g xs k a ha .ending .end) (trace (runOf n g xs k)) xs)
 
-      go : (runOf n g xs l ≡ runOf n g xs k) ⊎ Longer (runOf n g xs k) (runOf n g xs l) → earlier n g xs k i ≡ earlier n g xs l i
+      go : (runOf n g xs l ≡ runOf n g xs k) ⊎ Longer spent (runOf n g xs k) (runOf n g xs l) → earlier n g xs k i ≡ earlier n g xs l i
       go (inl q) = ap (λ (r : Run). before (instant xs i) (trace r)) (sym q)
       go (inr m) =
           let o : Outcome = answered n g xs k a ha .ending in
-          let e : o .end ≡ spent = m .left-spent o (answered n g xs k a ha .ended) in
+          let e : o .end ≡ spent = m .left-out o (answered n g xs k a ha .ended) in
           let c : a .settled ≡ reachedFrom (trace (runOf n g xs k)) xs =
           answered n g xs k a ha .settles ∙ ap (λ (x : End). settledOf x (trace (runOf n g xs k)) xs) e in
           let r : reaches (instant xs i) (trace (runOf n g xs k)) ≡ true = settled-reached (trace (runOf n g xs k)) xs i (subst (λ (z : ℕ). i < z) c s) in
@@ -169,7 +171,7 @@ module _ (n : Net) (g : Generator) where
           ∙ before-reached (instant xs i) (trace (runOf n g xs k)) (m .more) r)
 
   all-allowed : (xs : List Float) (k : ℕ) → EachAllowed n (initialCounts n) (trace (runOf n g xs k))
-  all-allowed xs k = (tt, run-allowed 256 n (lastOf xs) k (beginning n g))
+  all-allowed xs k = (tt, run-allowed spent 256 n (lastOf xs) k (beginning n g))
 
   pub demand3 : takesOnce (n .transitions) ≡ true → Demand3 n g
   demand3 once = record {

@@ -1,11 +1,10 @@
 -- Theory: rules of document 01 that the definitions state by a detour. A race with a0 > 0 always has a chosen transition; the passes
--- of a step do end with one in which none starts; a step that finds nothing left has changed nothing; a run takes at most its limit of
--- steps, and exactly so many if spent.
+-- of a step do end with one in which none starts; a step that finds nothing left has changed nothing.
 use Prim.Native.Nat.{ℕ, zero, suc, _+_, _-_, _*_, _^_, _≤_, _<_}
 use mathlib.Core.Path.{_≡_, refl, sym, ap, _∙_, subst}
 use mathlib.Core.Bool.{Bool, true, false, _&&_, cond, true≢false}
 use mathlib.Core.Logic.{_⊎_, inl, inr, _≢_}
-use mathlib.Core.List.{List, [], _∷_, _++_, map, List·Memᴰ, List·Memᴰ·head, List·Memᴰ·tail, List·Memᴰ·not-nil, List·Memᴰ·cases-cons}
+use mathlib.Core.List.{List, [], _∷_, _++_, List·Memᴰ, List·Memᴰ·head, List·Memᴰ·tail, List·Memᴰ·not-nil, List·Memᴰ·cases-cons}
 use mathlib.Core.Option.{Option, none, some}
 use native.Mathlib.Nat.{mul-pos, zero-mul}
 use native.Mathlib.Omega.{arith}
@@ -24,23 +23,21 @@ use Rattle.rng.specs.State.{State as Generator}
 use Rattle.rng.specs.Xoshiro.{step as drawn, uniform}
 use Rattle.rules.specs.Jump.{chosenFrom, chosen}
 use Rattle.rules.specs.Timers.{Timer, timerOf, insert, first, others}
-use Rattle.rules.specs.Moves.{Entry, reading, started, completed, fired, taking, move}
+use Rattle.rules.specs.Moves.{Entry, completed, fired, taking, move}
 use Rattle.rules.specs.Step.{State, state, Answer, refused, given, Starts, preceded, pass, nobody, unlessNone, passes, starts, waiting, drawnFor, Next, nothingLeft, race, completion, next, Event, countsFit, event, fire, Step, still, sets, setClock, goOn, afterStarts, step}
-use Rattle.rules.specs.Run.{End, quiet, spent, reached, Run, ends, refuses, steps, concluded, stepped, run, Outcome, outcome, stepsOf, roundedOf}
 use Rattle.rules.proofs.Order.{never, lt-le}
-use Rattle.rules.proofs.Allowing.{given-same, refused-given}
 
 -- ---- a0 > 0: something is chosen
 
 -- not above 0: a NaN, -∞, a negative number or a zero
-Low : Float → Type 0
+abbrev pub Low : Float → Type 0
 Low nan = Unit
 Low (inf s) = s ≡ true
 Low (fin true m e) = Unit
 Low (fin false m e) = m ≡ 0
 
-low-is : (x : Float) → lt zero64 x ≡ false → Low x
-unfolding Low lt ofBits
+pub low-is : (x : Float) → lt zero64 x ≡ false → Low x
+unfolding lt ofBits
 low-is nan p = tt
 low-is (inf true) p = refl
 low-is (inf false) p = never (sym p)
@@ -51,8 +48,8 @@ low-is (fin false (suc m) e) p =
     let b : suc m * up e * 1 ≤ 0 * down e = ltb-false _ _ p in
     omega (arith, zero-mul (down e)))
 
-is-low : (x : Float) → Low x → lt zero64 x ≡ false
-unfolding Low lt ofBits
+pub is-low : (x : Float) → Low x → lt zero64 x ≡ false
+unfolding lt ofBits
 is-low nan h = refl
 is-low (inf true) h = refl
 is-low (inf false) h = never h
@@ -61,7 +58,7 @@ is-low (fin false m e) h = le-ltb (0 * down e) (m * up e * 1) (rw h (omega (arit
 
 -- a rounded negative fraction, and a rounded 0
 units-low : (q k : ℕ) → Low (units binary64 true q k)
-unfolding Low units odd
+unfolding units odd
 units-low q k = go (ltb (q * 2 ^ k) (2 ^ 2098)) q
   where
     go : (c : Bool) (q : ℕ) → Low (cond c (odd 54 true q k 1074) (inf true))
@@ -73,7 +70,7 @@ negative-low : (n d : ℕ) → Low (round binary64 true n d)
 negative-low n d = rw (round-is binary64 true n d) (units-low _ _)
 
 zero-low : (n d : ℕ) → n ≡ 0 → 0 < d → Low (round binary64 false n d)
-unfolding Low round units odd
+unfolding round units odd
 zero-low n d e h = rw e (subst (λ (x : Float). Low x) (sym (round-same binary64 false 0 d 0 1 h (omega arith) (omega (arith, zero-mul d)))) refl)
 
 sum-low : (s t : Bool) (a b c : ℕ) → 0 < c → (s ≡ false → a ≡ 0) → (t ≡ false → b ≡ 0) → Low (sum binary64 s a t b c)
@@ -94,7 +91,7 @@ sum-low false true a b c h p q = go (ltb a b)
     go false = zero-low _ c (omega (arith, p refl)) h
 
 add-low : (x y : Float) → Low x → Low y → Low (add binary64 x y)
-unfolding Low add
+unfolding add
 add-low nan y h k = tt
 add-low (inf s) nan h k = tt
 add-low (inf true) (inf true) h k = refl
@@ -341,89 +338,3 @@ not-drawn a0 g h = go (lt zero64 a0) refl
     go : (c : Bool) → lt zero64 a0 ≡ c → pick c (drawn g) g ≡ g
     go false e = refl
     go true e = absurd (true≢false (sym (lt-le zero64 a0 zero64 e h) ∙ zero-not-above))
-
--- ---- steps and the limit
-
--- no more steps are rounded than are taken
-pub rounded-most : (r : Run) → roundedOf r ≤ stepsOf r
-rounded-most (ends e s) = omega arith
-rounded-most (refuses c) = omega arith
-rounded-most (steps b es r) = go b (rounded-most r)
-  where
-    go : (b : Bool) → roundedOf r ≤ stepsOf r → pick b 1 0 + roundedOf r ≤ suc (stepsOf r)
-    go true h = omega arith
-    go false h = omega arith
-
-module _ (room : ℕ) (n : Net) (last : Float) where
-  pub steps-most : (k : ℕ) (s : State) → stepsOf (run room n last k s) ≤ k
-  steps-most zero s = omega arith
-  steps-most (suc k) s = below (lt (s .clock) last) (one (step room n s) (λ v. steps-most k v))
-    where
-      one : (r : Answer Step) → ((v : State) → stepsOf (run room n last k v) ≤ k) → stepsOf (stepped last s r (run room n last k)) ≤ suc k
-      one (refused c) ih = omega arith
-      one (given (still b)) ih = omega arith
-      one (given (sets b js u e)) ih = past (lt last (u .clock)) e
-        where
-          es : List Entry
-          es = map started js ++ reading (u .clock) ∷ []
-
-          past : (c : Bool) (e : Answer Event) → stepsOf (pick c (steps b es (ends reached u)) (concluded b es e (run room n last k))) ≤ suc k
-          past true e = omega arith
-          past false (refused c) = omega arith
-          past false (given ev) = omega (arith, ih (ev .leaves))
-
-      below : (c : Bool) → stepsOf (stepped last s (step room n s) (run room n last k)) ≤ suc k
-          → stepsOf (pick c (stepped last s (step room n s) (run room n last k)) (ends reached s)) ≤ suc k
-      below true h = h
-      below false h = omega arith
-
-  -- "*Spent* exactly if the limit's last step is done …": a spent run has taken all its steps
-  Full : ℕ → Run → Type 0
-  Full k r = (o : Outcome) → outcome r ≡ given o → o .end ≡ spent → stepsOf r ≡ k
-
-  other-end : (e : End) (s : State) (k : ℕ) → ((e ≡ spent) → ⊥) → (r : Run) → outcome r ≡ given (record { end = e; left = s }) → Full k r
-  unfolding Full
-  other-end e s k h r p o q z = absurd (h (ap (λ (o : Outcome). o .end) (given-same (sym p ∙ q)) ∙ z))
-
-  full-step : (k : ℕ) (b : Bool) (es : List Entry) (r : Run) → Full k r → Full (suc k) (steps b es r)
-  unfolding Full
-  full-step k b es r h o q z = ap suc (h o q z)
-
-  quiet-spent : quiet ≡ spent → ⊥
-  quiet-spent p = let z : _≡_ {A = ℕ} 0 1 = cc in omega arith
-
-  reached-spent : reached ≡ spent → ⊥
-  reached-spent p = let z : _≡_ {A = ℕ} 0 1 = cc in omega arith
-
-  full-refused : (k c : ℕ) (r : Run) → outcome r ≡ refused c → Full k r
-  unfolding Full
-  full-refused k c r p o q z = refused-given (sym p ∙ q)
-
-  run-full : (k : ℕ) (s : State) → Full k (run room n last k s)
-  run-full zero s = go (lt (s .clock) last)
-    where
-      go : (c : Bool) → Full 0 (ends (pick c spent reached) s)
-      go c = unfold Full in λ o q z. refl
-  run-full (suc k) s = below (lt (s .clock) last) (one (step room n s) (λ v. run-full k v))
-    where
-      one : (r : Answer Step) → ((v : State) → Full k (run room n last k v)) → Full (suc k) (stepped last s r (run room n last k))
-      one (refused c) ih = full-refused (suc k) c _ refl
-      one (given (still b)) ih = other-end quiet s (suc k) quiet-spent _ refl
-      one (given (sets b js u e)) ih = past (lt last (u .clock)) e
-        where
-          es : List Entry
-          es = map started js ++ reading (u .clock) ∷ []
-
-          past : (c : Bool) (e : Answer Event) → Full (suc k) (pick c (steps b es (ends reached u)) (concluded b es e (run room n last k)))
-          past true e = other-end reached u (suc k) reached-spent _ refl
-          past false (refused c) = full-refused (suc k) c _ refl
-          past false (given ev) = full-step k b (es ++ ev .what) _ (ih (ev .leaves))
-
-      below : (c : Bool) → Full (suc k) (stepped last s (step room n s) (run room n last k))
-          → Full (suc k) (pick c (stepped last s (step room n s) (run room n last k)) (ends reached s))
-      below true h = h
-      below false h = other-end reached s (suc k) reached-spent _ refl
-
-  pub spent-steps : (k : ℕ) (s : State) (o : Outcome) → outcome (run room n last k s) ≡ given o → o .end ≡ spent → stepsOf (run room n last k s) ≡ k
-  unfolding Full
-  spent-steps k s = run-full k s

@@ -3,6 +3,7 @@ pub mod Order
 pub mod Counts
 pub mod Weighing
 pub mod Allowing
+pub mod Runs
 pub mod Peaks
 pub mod Balancing
 pub mod Agree
@@ -10,6 +11,11 @@ pub mod Detours
 pub mod Demand3Held
 pub mod Play
 pub mod PlayLaws
+pub mod Recording
+pub mod PlayingOn
+pub mod PlayedOn
+pub mod Naming
+pub mod SameCounts
 pub mod TakesOnce
 pub mod Changes
 pub mod Rounded
@@ -25,3 +31,10 @@ pub mod Shows
 pub mod Values
 pub mod Index
 pub mod RunningSums
+pub mod Times
+pub mod Sizes
+pub mod Logs
+pub mod Fitting
+pub mod Happening
+pub mod Passing
+pub mod HaltingHeld

@@ -45,14 +45,14 @@ once (k ∷ ks) h =
 
 -- ---- no fault
 
-no-some : {A : Type 0} {c : ℕ} → some c ≡ none → A
+pub no-some : {A : Type 0} {c : ℕ} → some c ≡ none → A
 no-some p = absurd (let z : _≡_ {A = ℕ} 0 1 = cc in omega arith)
 
-neither-fault : (a b : Option ℕ) → orElse a b ≡ none → (a ≡ none) × (b ≡ none)
+pub neither-fault : (a b : Option ℕ) → orElse a b ≡ none → (a ≡ none) × (b ≡ none)
 neither-fault none b h = (refl, h)
 neither-fault (some c) b h = no-some h
 
-none-applies : (ts : List Test) → firstOf ts ≡ none → (i : ℕ) → getD ts i (0, false) .1 ≡ false
+pub none-applies : (ts : List Test) → firstOf ts ≡ none → (i : ℕ) → getD ts i (0, false) .1 ≡ false
 none-applies [] h zero = refl
 none-applies [] h (suc i) = refl
 none-applies (t ∷ ts) h i = go (t .1) refl h i (none-applies ts)
@@ -73,7 +73,7 @@ module _ (n : NetRecord) where
       let w : (moveFault n j ≡ none) × (movesFault n (suc j) k ≡ none) = neither-fault (moveFault n j) (movesFault n (suc j) k) h in
       rw (once (transition n j .takes) (move-once j (w .0)), moves-once k (suc j) (w .1))
 
-  no-move-fault : fault n ≡ none → movesFault n 0 (n .transitions) ≡ none
+  pub no-move-fault : fault n ≡ none → movesFault n 0 (n .transitions) ≡ none
   unfolding fault
   no-move-fault h =
       let places : Option ℕ = placesFault (n .initial) (n .capacity) (n .label) (n .lengths) 0 (n .places) in
@@ -86,7 +86,7 @@ module _ (n : NetRecord) where
 
 -- ---- puts land in places that there are (refusal 3)
 
-none-of : (f : Arc → Bool) (xs ys : List Arc) → any f (xs ++ ys) ≡ false → (any f xs ≡ false) × (any f ys ≡ false)
+pub none-of : (f : Arc → Bool) (xs ys : List Arc) → any f (xs ++ ys) ≡ false → (any f xs ≡ false) × (any f ys ≡ false)
 none-of f [] ys h = (refl, h)
 none-of f (x ∷ xs) ys h =
     let w : (f x ≡ false) × (any f (xs ++ ys) ≡ false) = neither (f x) (any f (xs ++ ys)) h in

@@ -12,6 +12,9 @@ pub mod Values
 pub mod Shown
 pub mod Balance
 pub mod Demand3
+pub mod Carried
+pub mod Change
+pub mod Halting
 pub mod Tokens
 pub mod Index
 pub mod RunningSums

@@ -1,6 +1,6 @@
 -- The moments of a run, replayed from its entries, and the peak. Document 02, order 2: "the peak is the largest value, at any moment of the path, of
 -- all place counts plus the weights taken by each running timer. Moments are the start, and after every start, completion and firing."
--- The states that a run goes through are what its entries replay (proofs/Allowing, run-goes).
+-- The states that a run goes through are what its entries replay (proofs/Runs, run-goes).
 use Prim.Native.Nat.{ℕ, _+_, max}
 use mathlib.Core.List.{List, [], _∷_}
 use lib.Ieee.{Float}

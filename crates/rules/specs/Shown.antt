@@ -10,9 +10,9 @@ use Rattle.refusals.specs as Refusal
 use Rattle.net.specs.Net.{Net, Marking, pick, zero64}
 use Rattle.rng.specs.State.{State as Generator}
 use Rattle.rules.specs.Moves.{Entry, reading, started, completed, fired, after, initialCounts}
-use Rattle.rules.specs.Step.{State, Answer, refused, given}
+use Rattle.rules.specs.Step.{Answer, refused, given}
 use Rattle.rules.specs.Moments.{peakOf}
-use Rattle.rules.specs.Run.{End, quiet, spent, reached, Run, Outcome, beginning, run, outcome, stepsOf, roundedOf, trace}
+use Rattle.rules.specs.Run.{End, quiet, spent, reached, halted, Run, Outcome, beginning, run, outcome, stepsOf, roundedOf, trace}
 
 -- ---- the clock first reaches x at the first reading not below it
 
@@ -31,13 +31,18 @@ reaches x (started j ∷ es) = reaches x es
 reaches x (completed j ∷ es) = reaches x es
 reaches x (fired j ∷ es) = reaches x es
 
--- the counts shown at the instant x
+-- the counts shown at the instant x, where entries follow the counts m
+abbrev pub shownFrom : Net → Marking → List Entry → Float → Marking
+shownFrom n m es x = after n m (before x es)
+
+-- … and where they are a whole run's
 abbrev pub shownAt : Net → List Entry → Float → Marking
-shownAt n es x = after n (initialCounts n) (before x es)
+shownAt n es x = shownFrom n (initialCounts n) es x
 
 -- ---- the other answers
 
--- "Settled are then the instants ≤ some clock reading so far, else all": how many, from the first
+-- "Settled are then the instants ≤ some clock reading so far, else all": how many, from the first. Halted: "with instants settled as for spent"
+-- (order 8).
 abbrev pub reachedFrom : List Entry → List Float → ℕ
 reachedFrom es [] = 0
 reachedFrom es (x ∷ xs) = pick (reaches x es) (suc (reachedFrom es xs)) 0
@@ -46,6 +51,7 @@ abbrev pub settledOf : End → List Entry → List Float → ℕ
 settledOf quiet es xs = length xs
 settledOf spent es xs = reachedFrom es xs
 settledOf reached es xs = length xs
+settledOf halted es xs = reachedFrom es xs
 
 -- ---- the path call
 
