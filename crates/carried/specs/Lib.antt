@@ -1,0 +1,3 @@
+pub mod Timers
+pub mod Records
+pub mod Pairs
