@@ -259,7 +259,7 @@ fn arc_limit(kind: u64, weight: u64) -> u64
     0xFFFF_FFFF_FFFF_FFFF - w + 1
 }
 
-// The limit of slot a.
+// The limit of slot a. A place without a capacity has room at every count.
 fn slot_limit<'a>(
     places: usize,
     transitions: usize,
@@ -282,11 +282,14 @@ fn slot_limit<'a>(
     if k != net::PUT {
         return arc_limit(k, weight[a]);
     }
+    let p = place[a];
+    let q = capacity[p];
+    if q == 0 {
+        return NO_LIMIT;
+    }
     let j = a / 16;
     let from = 16 * j;
     let end = from + arcs[j];
-    let p = place[a];
-    let q = capacity[p];
     let c = change_at(kind, place, weight, from, end, p);
     room_limit(q, c)
 }

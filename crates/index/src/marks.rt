@@ -28,7 +28,7 @@ pub fn timed_word<'a>(
 ) -> u64
     ghost { NetRecord }
     requires { λ net. ⌜ lent places transitions (now initial) (now capacity) (now rate) (now delay) (now arcs) (now kind) (now place) (now weight) ≡ net ⌝ }
-    requires { λ net. ⌜ Engine.Tidy net ⌝ }
+    requires { λ net. ⌜ net .transitions ≤ 64 ⌝ }
     ensures { λ net r. ⌜ Traits.Marks net Reader.timed r ⌝ }
 {
     let mut word: u64 = 0;

@@ -4,7 +4,7 @@ use Rattle.net.specs.Net.{timed}
 use Rattle.net.specs.Tests.{any}
 use Rattle.net.specs.Record.{lent}
 use Rattle.net.specs.Readable.{transitionsFrom}
-use Rattle.gates.proofs.Arcs.{any-whole, any-stop, any-go, any-end}
+use Rattle.engine.proofs.Lists.{any-whole, any-stop, any-go, any-end}
 use borrow.Author.Needs.{needs}
 use mathlib.Core.Path.{_≡_}
 use Prim.Native.Nat.{_-_}

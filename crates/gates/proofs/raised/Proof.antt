@@ -4,7 +4,8 @@ use Rattle.net.specs.Tests.{any}
 use Rattle.net.specs.Record.{lent}
 use Rattle.net.specs.Readable.{transitionsFrom}
 use Rattle.gates.specs.Gated.{raises}
-use Rattle.gates.proofs.Arcs.{light, any-whole, any-stop, any-go, any-end, raises-yes, raises-no}
+use Rattle.engine.proofs.Lists.{any-whole, any-stop, any-go, any-end}
+use Rattle.gates.proofs.Arcs.{light, raises-yes, raises-no}
 use borrow.Author.Needs.{needs}
 use native.Mathlib.Omega.{arith}
 use mathlib.Core.Path.{_≡_}

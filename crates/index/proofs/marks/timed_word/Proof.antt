@@ -29,7 +29,7 @@ net r =
 
 -- the transition in hand is one of the record's
 low : (c : tie.In-loop Inv-loop μ-loop) → c .before .loop .j < 64
-low c = omega (arith, c .loop-test .taken, c .before .before .pre .transitions)
+low c = omega (arith, c .loop-test .taken, c .before .before .pre)
 
 loop-holds : tie.Need-loop-holds Inv-loop μ-loop
 loop-holds c = marked-none (waits (net c)) (c .args .transitions)
