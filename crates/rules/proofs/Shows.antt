@@ -18,8 +18,8 @@ use Rattle.rules.specs.Jump.{chosen}
 use Rattle.rules.specs.Timers.{Timer, first, others}
 use Rattle.rules.specs.Moves.{Entry, reading, started, completed, fired, move, after, initialCounts}
 use Rattle.rules.specs.Step.{State, state, Answer, refused, given, Starts, starts, waiting, drawnFor, Next, nothingLeft, race, completion, next, Event, countsFit, event, fire, Step, still, sets, setClock, goOn, afterStarts, step}
-use Rattle.rules.specs.Run.{ends, steps, reached, concluded, stepped, run, entries, beginning, trace}
-use Rattle.rules.specs.Shown.{before, shownAt, lastOf, Path, runOf, acceptedPath}
+use Rattle.rules.specs.Run.{End, spent, reached, ends, steps, concluded, stepped, runWithin, entries, beginning, trace}
+use Rattle.rules.specs.Shown.{before, shownFrom, shownAt, lastOf, Path, runOf, acceptedPath}
 use Rattle.rules.specs.Demand3.{count}
 use Rattle.rules.proofs.Allowing.{leads-counts, starts-lead}
 use Rattle.rules.proofs.Accepted.{accepted, fit-held, starts-fit}
@@ -115,12 +115,13 @@ step-reads room n s h = go (starts room n s) (λ b p. starts-fit room n s b p h)
 
 -- ---- a run
 
-run-reads : (room : ℕ) (n : Net) (last : Float) (k : ℕ) (s : State) → countsFit (s .counts) ≡ true → ReadFit n (s .counts) (entries (run room n last k s))
-run-reads room n last zero s h = h
-run-reads room n last (suc k) s h = below (lt (s .clock) last) (one (step room n s) (step-reads room n s h) (λ u f. run-reads room n last k u f))
+run-reads : (out : End) (room : ℕ) (n : Net) (last : Float) (k : ℕ) (s : State) → countsFit (s .counts) ≡ true
+    → ReadFit n (s .counts) (entries (runWithin out room n last k s))
+run-reads out room n last zero s h = h
+run-reads out room n last (suc k) s h = below (lt (s .clock) last) (one (step room n s) (step-reads room n s h) (λ u f. run-reads out room n last k u f))
   where
-    one : (r : Answer Step) → StepReads n s r → ((u : State) → countsFit (u .counts) ≡ true → ReadFit n (u .counts) (entries (run room n last k u)))
-        → ReadFit n (s .counts) (entries (stepped last s r (run room n last k)))
+    one : (r : Answer Step) → StepReads n s r → ((u : State) → countsFit (u .counts) ≡ true → ReadFit n (u .counts) (entries (runWithin out room n last k u)))
+        → ReadFit n (s .counts) (entries (stepped last s r (runWithin out room n last k)))
     one (refused c) w ih = h
     one (given (still b)) w ih = h
     one (given (sets b js u e)) w ih = past (lt last (u .clock)) e (w .event)
@@ -135,21 +136,26 @@ run-reads room n last (suc k) s h = below (lt (s .clock) last) (one (step room n
             (started-on n js (reading (u .clock) ∷ fs) (s .counts) (subst (λ (m : Marking). ReadFit n m (reading (u .clock) ∷ fs)) (sym (w .to)) (w .fit, k)))
 
         past : (c : Bool) (e : Answer Event) → EventReads n u e
-            → ReadFit n (s .counts) (entries (pick c (steps b es (ends reached u)) (concluded b es e (run room n last k))))
+            → ReadFit n (s .counts) (entries (pick c (steps b es (ends reached u)) (concluded b es e (runWithin out room n last k))))
         past true e v = up-to [] (w .fit)
         past false (refused c) v = up-to [] (w .fit)
         past false (given ev) v =
-            rw (append-assoc es (ev .what) (entries (run room n last k (ev .leaves))))
-            (up-to (ev .what ++ entries (run room n last k (ev .leaves))) (v .on _ (ih (ev .leaves) (v .fit))))
+            rw (append-assoc es (ev .what) (entries (runWithin out room n last k (ev .leaves))))
+            (up-to (ev .what ++ entries (runWithin out room n last k (ev .leaves))) (v .on _ (ih (ev .leaves) (v .fit))))
 
-    below : (c : Bool) → ReadFit n (s .counts) (entries (stepped last s (step room n s) (run room n last k)))
-        → ReadFit n (s .counts) (entries (pick c (stepped last s (step room n s) (run room n last k)) (ends reached s)))
+    below : (c : Bool) → ReadFit n (s .counts) (entries (stepped last s (step room n s) (runWithin out room n last k)))
+        → ReadFit n (s .counts) (entries (pick c (stepped last s (step room n s) (runWithin out room n last k)) (ends reached s)))
     below true k = k
     below false k = h
 
+-- the counts that a run shows at any instant, from counts that fit on
+pub run-shows : (out : End) (room : ℕ) (n : Net) (last : Float) (k : ℕ) (s : State) → countsFit (s .counts) ≡ true → (x : Float)
+    → countsFit (shownFrom n (s .counts) (entries (runWithin out room n last k s)) x) ≡ true
+run-shows out room n last k s h x = fit-before n x (entries (runWithin out room n last k s)) (s .counts) (run-reads out room n last k s h)
+
 -- ---- what is shown
 
-each-fits : (f : Float → Marking) → ((x : Float) → countsFit (f x) ≡ true) → (xs : List Float) (i : ℕ) → countsFit (getD (map f xs) i []) ≡ true
+pub each-fits : (f : Float → Marking) → ((x : Float) → countsFit (f x) ≡ true) → (xs : List Float) (i : ℕ) → countsFit (getD (map f xs) i []) ≡ true
 each-fits f h [] i = refl
 each-fits f h (x ∷ xs) zero = h x
 each-fits f h (x ∷ xs) (suc i) = each-fits f h xs i
@@ -166,4 +172,4 @@ shown-fits n e g xs k a q i p =
     at : (x : Float) → countsFit (shownAt (readable n) (trace (runOf (readable n) g xs k)) x) ≡ true
     at x =
         fit-before (readable n) x (trace (runOf (readable n) g xs k)) (initialCounts (readable n))
-        (first-fit, run-reads 256 (readable n) (lastOf xs) k (beginning (readable n) g) first-fit)
+        (first-fit, run-reads spent 256 (readable n) (lastOf xs) k (beginning (readable n) g) first-fit)
