@@ -1,7 +1,7 @@
 -- The tests of a path call, in their order. The instants are tested one by one: what is left to test from here is the whole. Each answer of the
 -- call is the definition's by the tests that led to it. Assumes nothing.
 use Prim.Native.Nat.{ℕ, _+_, _*_, _^_, _≤_, _<_}
-use mathlib.Core.Path.{_≡_, sym, ap, _∙_, subst}
+use mathlib.Core.Path.{_≡_, refl, sym, ap, _∙_, subst}
 use mathlib.Core.Bool.{Bool, true, false, _&&_, and-false}
 use mathlib.Core.List.{List}
 use mathlib.Core.Option.{Option, none, some}
@@ -21,8 +21,11 @@ use Rattle.net.specs.Sound.{Sound}
 use Rattle.net.proofs.Lengths.{places-length}
 use Rattle.rng.specs.State.{State as Generator}
 use Rattle.rules.specs.Shown.{rising, instantsFit, limitFits, worked}
+use Rattle.rules.specs.Carried.{playOn, begun}
 use Rattle.rules.proofs.Order.{both}
 use Rattle.ssa.specs.Path.{Call, turnedDown, played, tableFits, afterNet, unlessFault, called}
+use Rattle.ssa.specs.Halted as Naming
+use Rattle.ssa.specs.Halted.{unbegun, namingAfterNet, naming}
 use Rattle.engine.proofs.Arcs.{and-stop, and-go}
 
 -- ---- the instants
@@ -96,55 +99,70 @@ same-run places g xs k table e h = h ∙ ap (λ (z : Net). played places (length
 
 -- ---- the call
 
-module _ (n : NetRecord) (g : Generator) (xs : List Float) (k : ℕ) (table : List Float) where
-  abbrev run : ℕ → Call
-  run places = played places (length xs) g table (worked (readable n) g xs k)
+-- what a path call answers by its tests: turned down by a number, or the run over so many places
+pub record Tested {A : Type 0} (down run : ℕ → A) (n : NetRecord) (xs : List Float) (k : ℕ) (table : List Float) (call : A) : Type 0 where
+  pub by-net : {c : ℕ} → fault n ≡ some c → call ≡ down c
+  pub by-instants : fault n ≡ none → instantsFit xs ≡ false → call ≡ down Refusal.badInstants
+  pub by-limit : fault n ≡ none → instantsFit xs ≡ true → limitFits k ≡ false → call ≡ down Refusal.badLimit
+  pub by-table : fault n ≡ none → instantsFit xs ≡ true → limitFits k ≡ true → length table < n .places * length xs → call ≡ down Refusal.shortTable
+  pub by-run : fault n ≡ none → instantsFit xs ≡ true → limitFits k ≡ true → n .places * length xs ≤ length table → call ≡ run (n .places)
 
-  -- the answer by the tests of instants, limit and table
-  abbrev answer : Bool → Bool → Bool → Call
-  answer a b c =
-      pick a
-      (pick b
-      (pick c (run (length (readable n .places))) (turnedDown Refusal.shortTable g table))
-      (turnedDown Refusal.badLimit g table))
-      (turnedDown Refusal.badInstants g table)
+module _ {A : Type 0} (down run : ℕ → A) (n : NetRecord) (xs : List Float) (k : ℕ) (table : List Float) where
+  -- the answer by the tests of instants, limit and table, over so many places
+  abbrev answer : ℕ → Bool → Bool → Bool → A
+  answer places a b c = pick a (pick b (pick c (run places) (down Refusal.shortTable)) (down Refusal.badLimit)) (down Refusal.badInstants)
 
-  abbrev room : Bool
-  room = tableFits (length (readable n .places)) (length xs) table
+  abbrev testing : Option ℕ → A
+  testing none = answer (length (readable n .places)) (instantsFit xs) (limitFits k) (tableFits (length (readable n .places)) (length xs) table)
+  testing (some c) = down c
 
-  pub by-net : {c : ℕ} → fault n ≡ some c → called n g xs k table ≡ turnedDown c g table
-  unfolding called
-  by-net e = ap (λ (f : Option ℕ). unlessFault f g table (afterNet (readable n) g xs k table)) e
+  module _ {call : A} (is : call ≡ testing (fault n)) where
+    answered : fault n ≡ none → {a b c : Bool} → instantsFit xs ≡ a → limitFits k ≡ b → tableFits (n .places) (length xs) table ≡ c
+        → call ≡ answer (n .places) a b c
+    answered e f l t =
+        is
+        ∙ ap testing e
+        ∙ ap (λ (p : ℕ). answer p (instantsFit xs) (limitFits k) (tableFits p (length xs) table)) (places-length n)
+        ∙ (λ i. answer (n .places) (f i) (l i) (t i))
 
-  module _ (e : fault n ≡ none) where
-    tested : called n g xs k table ≡ answer (instantsFit xs) (limitFits k) room
-    unfolding called
-    tested = ap (λ (f : Option ℕ). unlessFault f g table (afterNet (readable n) g xs k table)) e
+    tests-of : Tested down run n xs k table call
+    tests-of =
+        record {
+          by-net = λ e. is ∙ ap testing e;
+          by-instants = λ e f. answered e f refl refl;
+          by-limit = λ e f l. answered e f l refl;
+          by-table = λ e f l h. answered e f l (lt-leb (n .places * length xs) (length table) h);
+          by-run = λ e f l h. answered e f l (le-leb (n .places * length xs) (length table) h);
+        }
 
-    pub by-instants : instantsFit xs ≡ false → called n g xs k table ≡ turnedDown Refusal.badInstants g table
-    by-instants a = tested ∙ ap (λ (b : Bool). answer b (limitFits k) room) a
+-- a path call
 
-    module _ (a : instantsFit xs ≡ true) where
-      timely : called n g xs k table ≡ answer true (limitFits k) room
-      timely = tested ∙ ap (λ (b : Bool). answer b (limitFits k) room) a
+abbrev pub pathRun : NetRecord → Generator → List Float → ℕ → List Float → ℕ → Call
+pathRun n g xs k table places = played places (length xs) g table (worked (readable n) g xs k)
 
-      pub by-limit : limitFits k ≡ false → called n g xs k table ≡ turnedDown Refusal.badLimit g table
-      by-limit b = timely ∙ ap (λ (t : Bool). answer true t room) b
+pub called-tests : (n : NetRecord) (g : Generator) (xs : List Float) (k : ℕ) (table : List Float)
+    → Tested (λ (c : ℕ). turnedDown c g table) (pathRun n g xs k table) n xs k table (called n g xs k table)
+unfolding called
+called-tests n g xs k table = tests-of _ _ n xs k table (go (fault n))
+  where
+    go : (f : Option ℕ) → unlessFault f g table (afterNet (readable n) g xs k table)
+        ≡ testing (λ (c : ℕ). turnedDown c g table) (pathRun n g xs k table) n xs k table f
+    go none = refl
+    go (some c) = refl
 
-      module _ (b : limitFits k ≡ true) where
-        limited : called n g xs k table ≡ answer true true (leb (n .places * length xs) (length table))
-        limited =
-            timely
-            ∙ ap (λ (t : Bool). answer true t room) b
-            ∙ ap (λ (p : ℕ). answer true true (leb (p * length xs) (length table))) (places-length n)
+-- one that names a number of steps
 
-        pub by-table : length table < n .places * length xs → called n g xs k table ≡ turnedDown Refusal.shortTable g table
-        by-table h = limited ∙ ap (λ (t : Bool). answer true true t) (lt-leb (n .places * length xs) (length table) h)
+abbrev pub namingRun : NetRecord → Generator → List Float → (limit named : ℕ) → List Float → ℕ → Naming.Call
+namingRun n g xs limit named table places =
+    Naming.played places (length xs) 0 (unbegun (n .places) g) table (playOn 256 (readable n) (begun (readable n) g xs limit) named)
 
-        pub by-run : {x : Call} → n .places * length xs ≤ length table → x ≡ run (n .places) → x ≡ called n g xs k table
-        by-run h e =
-            e
-            ∙ sym
-            (limited
-            ∙ ap (λ (t : Bool). answer true true t) (le-leb (n .places * length xs) (length table) h)
-            ∙ ap run (places-length n))
+pub naming-tests : (n : NetRecord) (g : Generator) (xs : List Float) (limit named : ℕ) (table : List Float)
+    → Tested (λ (c : ℕ). Naming.turnedDown c (unbegun (n .places) g) table) (namingRun n g xs limit named table) n xs limit table
+    (naming n g xs limit named table)
+unfolding naming
+naming-tests n g xs limit named table = tests-of _ _ n xs limit table (go (fault n))
+  where
+    go : (f : Option ℕ) → Naming.unlessFault f (unbegun (n .places) g) table (namingAfterNet (n .places) (readable n) g xs limit named table)
+        ≡ testing (λ (c : ℕ). Naming.turnedDown c (unbegun (n .places) g) table) (namingRun n g xs limit named table) n xs limit table f
+    go none = refl
+    go (some c) = refl

@@ -151,10 +151,10 @@ map-at f [] i d h = absurd (not-suc-le-zero h)
 map-at f (x ∷ xs) zero d h = refl
 map-at f (x ∷ xs) (suc i) d h = map-at f xs i d (le-of-suc-le-suc h)
 
-row-long : (shown : List Marking) (p : ℕ) → length (row shown p) ≡ length shown
+pub row-long : (shown : List Marking) (p : ℕ) → length (row shown p) ≡ length shown
 row-long shown p = length-map shown (λ (m : Marking). float (held m p))
 
-row-at : (shown : List Marking) (p i : ℕ) → i < length shown → getD (row shown p) i nan ≡ float (held (getD shown i []) p)
+pub row-at : (shown : List Marking) (p i : ℕ) → i < length shown → getD (row shown p) i nan ≡ float (held (getD shown i []) p)
 row-at shown p i h = map-at (λ (m : Marking). float (held m p)) shown i [] h
 
 pub rows-long : (shown : List Marking) (p k : ℕ) → length (rowsFrom shown p k) ≡ k * length shown

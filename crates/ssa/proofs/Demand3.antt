@@ -17,7 +17,7 @@ use Rattle.rng.specs.State.{State as Generator}
 use Rattle.rules.specs.Propensity.{float}
 use Rattle.rules.specs.Moves.{Entry}
 use Rattle.rules.specs.Step.{Answer, refused, given}
-use Rattle.rules.specs.Run.{End, quiet, spent, reached, trace}
+use Rattle.rules.specs.Run.{End, quiet, spent, reached, halted, trace}
 use Rattle.rules.specs.Shown.{Path, reaches, reachedFrom, settledOf, instantsFit, limitFits, worked, acceptedPath, runOf}
 use Rattle.rules.specs.Demand3 as Rule
 use Rattle.rules.proofs.Demand3Held as Held
@@ -83,6 +83,7 @@ settled-few : (e : End) (es : List Entry) (xs : List Float) → settledOf e es x
 settled-few quiet es xs = omega arith
 settled-few spent es xs = few es xs
 settled-few reached es xs = omega arith
+settled-few halted es xs = few es xs
 
 module _ (n : NetRecord) (g : Generator) (xs : List Float) (k : ℕ) (t : List Float) (w : Whole n g xs k t) where
   shown-long : length (w .answer .shown) ≡ length xs

@@ -1,12 +1,9 @@
 -- The sums over an ensemble's paths. The loop keeps the list of the paths that it has added: what is left to do, put behind them, is the whole; the mean
 -- and deviation tables hold the sums over them (crate averages, Sums), the path table the last of them, and the cells behind are as they were.
 -- What is made of the sums at the end is the call's answer. Assumes nothing.
-use types.Run.{OneOf}
-use denote.Enum.Declared.{tagOf}
 use Prim.Native.Nat.{ℕ, zero, suc, _+_, _-_, _*_, _≤_, _<_}
 use mathlib.Core.Path.{_≡_, refl, sym, ap, _∙_}
 use mathlib.Core.Bool.{Bool, true, false, not}
-use mathlib.Core.Logic.{⊎-elim}
 use mathlib.Core.List.{List, [], _∷_, _++_, map, map-append}
 use native.Mathlib.Omega.{arith}
 use native.Mathlib.Nat.{mul-zero, le-of-suc-le-suc, not-suc-le-zero}
@@ -20,7 +17,7 @@ use Rattle.rng.specs.State.{State as Generator}
 use Rattle.rng.specs.Splitmix.{seeded}
 use Rattle.rules.specs.Propensity.{float}
 use Rattle.rules.specs.Step.{Answer, refused, given}
-use Rattle.rules.specs.Run.{End, Outcome, quiet, spent, reached, outcome}
+use Rattle.rules.specs.Run.{End, Outcome, quiet, spent, reached, halted, outcome}
 use Rattle.rules.specs.Shown.{Path, worked, reported, runOf}
 use Rattle.averages.specs.Front.{onFront, withFront}
 use Rattle.averages.specs.Moments.{plus, plusSquare, summedUp, meanOf, meanAt, deviationOf, deviationAt, cellsFrom, tableBy}
@@ -32,7 +29,7 @@ use Rattle.averages.proofs.Members.{withAll, with-more, with-refused, with-none
 use Rattle.averages.proofs.Sums as Sums
 use Rattle.ssa.specs.declared.EnsembleAnswer.the-variants.{Averaged, Stopped}
 use Rattle.ssa.specs.declared.PathEnd.{PathEnd}
-use Rattle.ssa.specs.declared.PathEnd.the-variants.{Quiet, Spent, Reached, Refused}
+use Rattle.ssa.specs.declared.PathEnd.the-variants.{Quiet, Spent, Reached, Halted, Refused}
 use Rattle.ssa.specs.declared.PathAnswer.{PathAnswer}
 use Rattle.ssa.specs.declared.members.Turn.{Turn}
 use Rattle.ssa.specs.declared.members.Turn.the-variants as Turn
@@ -46,8 +43,7 @@ use Rattle.ssa.specs.Ensemble.{oneIfSpent, spentOf, cellsOf, lastShown, 
 use Rattle.ssa.specs.Summing as Summing
 use Rattle.ssa.specs.Summing.{drawn, oneBySpent, TurnBy, sumAt, SummedBy}
 use Rattle.ssa.proofs.Cells.{rows-long}
-use Rattle.ssa.proofs.PathEnd.{the-type}
-use Rattle.ssa.proofs.Playing.{NotRefused}
+use Rattle.ssa.proofs.Answered.{NotRefused}
 
 -- ---- tables and the cells behind
 
@@ -141,12 +137,6 @@ pub own-path : {x : Path.Call} (n : Net) (seed k places : ℕ) (xs path : List F
 unfolding drawn
 own-path n seed k places xs path g steps h e = h ∙ ap (λ (o : Generator). played places (length xs) o path (worked n o xs steps)) e
 
-pub not-refused : (end : PathEnd) → OneOf (0 ∷ 1 ∷ 2 ∷ []) (tagOf the-type end) → NotRefused end
-not-refused Quiet h = tt
-not-refused Spent h = tt
-not-refused Reached h = tt
-not-refused (Refused c) h = ⊎-elim (λ a. omega arith) (⊎-elim (λ a. omega arith) (λ a. omega arith)) h
-
 abbrev spentIn : Answer End → ℕ
 spentIn (refused c) = 0
 spentIn (given e) = oneIfSpent e
@@ -155,12 +145,14 @@ spent-by : (end : PathEnd) → oneBySpent end ≡ spentIn (endOf end)
 spent-by Quiet = refl
 spent-by Spent = refl
 spent-by Reached = refl
+spent-by Halted = refl
 spent-by (Refused c) = refl
 
 pub one-by-spent : (end : PathEnd) → oneBySpent end ≤ 1
 one-by-spent Quiet = omega arith
 one-by-spent Spent = omega arith
 one-by-spent Reached = omega arith
+one-by-spent Halted = omega arith
 one-by-spent (Refused c) = omega arith
 
 -- A path's answer r, and what is done with it.
@@ -185,6 +177,7 @@ module _ (places n many : ℕ) (g : Generator) (mean mean′ deviation deviation
       none Quiet t i = let z : _≡_ {A = ℕ} 0 1 = cc in omega arith
       none Spent t i = let z : _≡_ {A = ℕ} 0 1 = cc in omega arith
       none Reached t i = let z : _≡_ {A = ℕ} 0 1 = cc in omega arith
+      none Halted t i = let z : _≡_ {A = ℕ} 0 1 = cc in omega arith
       none (Refused c) t i = t
   turn-goes one s (given a) e nr o q m v =
       Summing.goes a s refl
@@ -219,6 +212,7 @@ one-at-most : (e : End) → oneIfSpent e ≤ 1
 one-at-most quiet = omega arith
 one-at-most spent = omega arith
 one-at-most reached = omega arith
+one-at-most halted = omega arith
 
 module _ (w : ℕ → Answer Path) (places n r : ℕ) (mean deviation path : List Float) where
   pub none-added : mean ≡ cleared (places * n) mean → deviation ≡ cleared (places * n) deviation

@@ -46,7 +46,7 @@ taken-first [] = refl
 taken-first (z ∷ q) = refl
 
 -- 32 counts of at most 2^53
-sum-few : (k : ℕ) (counts : List ℕ) → AtMost (2 ^ 53) counts → sumOf (take k counts) ≤ 2 ^ 53 * k
+pub sum-few : (k : ℕ) (counts : List ℕ) → AtMost (2 ^ 53) counts → sumOf (take k counts) ≤ 2 ^ 53 * k
 sum-few zero counts h = omega arith
 sum-few (suc k) [] h = omega arith
 sum-few (suc k) (c ∷ cs) h = omega (arith, h 0, sum-few k cs (λ a. h (suc a)))

@@ -1,13 +1,15 @@
 -- The lent table. Document 01: "Vec<Vec<f64>> becomes a lent table: place p, instant i at cell p × n + i, n instants. Further cells stay."
-use Prim.Native.Nat.{ℕ, suc, _+_, _*_, _≤_, _<_}
+use Prim.Native.Nat.{ℕ, zero, suc, _+_, _*_, _≤_, _<_}
 use mathlib.Core.Path.{_≡_}
 use mathlib.Core.Logic.{_⊎_}
 use mathlib.Core.List.{List, [], _∷_, _++_}
-use lib.ListN.{length, getD, drop}
+use lib.ListN.{length, getD, take, drop}
 use lib.Ieee.{Float, nan, le}
 use Rattle.net.specs.Net.{Marking, pick, held}
 use Rattle.rules.specs.Propensity.{float}
 use Rattle.averages.specs.Tables as Tables
+use Rattle.ssa.specs.declared.PathEnd.{PathEnd}
+use Rattle.ssa.specs.declared.PathEnd.the-variants.{Quiet, Spent, Reached, Halted, Refused}
 pub use Rattle.averages.specs.Tables.{cleared}
 
 -- the count of place p, as a float
@@ -25,6 +27,19 @@ rowsFrom shown p k = Tables.rowsFrom countAt shown p k
 -- the table that shows these counts at its instants; "Further cells stay"
 abbrev pub tableOf : ℕ → List Marking → List Float → List Float
 tableOf places shown table = rowsFrom shown 0 places ++ drop (places * length shown) table
+
+-- Counts written from instant `from` on, cells before and behind them left as they are: of place p, into the cells of its row
+abbrev pub rowWith : ℕ → List Marking → ℕ → List Float → List Float
+rowWith from shown p cells = take from cells ++ row shown p ++ drop (from + length shown) cells
+
+-- of k places from place p on, n cells each, into the table from there on
+abbrev pub rowsWith : ℕ → ℕ → List Marking → ℕ → ℕ → List Float → List Float
+rowsWith n from shown p zero table = table
+rowsWith n from shown p (suc k) table = rowWith from shown p (take n table) ++ rowsWith n from shown (suc p) k (drop n table)
+
+-- of all places
+abbrev pub tableWith : ℕ → ℕ → ℕ → List Marking → List Float → List Float
+tableWith places n from shown table = rowsWith n from shown 0 places table
 
 -- "Further cells stay": those from places × n on
 abbrev pub Stay : ℕ → ℕ → List Float → List Float → Type 0
@@ -55,3 +70,12 @@ pub record ShownBy (places : ℕ) (xs : List Float) (clock : Float) (m : Marking
 pub record NotShown (i i′ : ℕ) (before after : List Float) : Type 0 where
   pub next : i′ ≡ i
   pub table : after ≡ before
+
+-- ---- as a run ends with the counts m and the instants from `next` on left
+
+abbrev pub FinishedBy : ℕ → ℕ → ℕ → Marking → List Float → List Float → PathEnd → Type 0
+FinishedBy places n next m before after Quiet = Filled places n next n m before after
+FinishedBy places n next m before after Spent = Filled places n next n m before after
+FinishedBy places n next m before after Reached = Filled places n next n m before after
+FinishedBy places n next m before after Halted = after ≡ before
+FinishedBy places n next m before after (Refused c) = after ≡ cleared (places * n) before

@@ -11,7 +11,7 @@ use Rattle.net.specs.declared.Net.{Net as NetRecord}
 use Rattle.net.specs.Net.{Net, Marking}
 use Rattle.net.specs.Readable.{readable}
 use Rattle.rules.specs.Step.{Answer}
-use Rattle.rules.specs.Run.{End, quiet, spent, reached}
+use Rattle.rules.specs.Run.{End, quiet, spent, reached, halted}
 use Rattle.rules.specs.Shown.{Path, worked}
 use Rattle.averages.specs.Request.{Request, generatorOf, grid}
 use Rattle.averages.specs.Members.{Members, refusedAt, members, pathsFrom, lastOf}
@@ -35,6 +35,7 @@ abbrev pub oneIfSpent : End → ℕ
 oneIfSpent quiet = 0
 oneIfSpent spent = 1
 oneIfSpent reached = 0
+oneIfSpent halted = 0
 
 abbrev pub spentOf : List Path → ℕ
 spentOf [] = 0

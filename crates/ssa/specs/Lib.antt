@@ -3,8 +3,10 @@ pub mod Keeping
 pub mod Cells
 pub mod Stepping
 pub mod Path
+pub mod Halted
 pub mod Playing
 pub mod Demand3
+pub mod Edition
 pub mod Subscribers
 pub mod Ensemble
 pub mod Summing

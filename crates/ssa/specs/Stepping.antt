@@ -1,16 +1,19 @@
 -- What a step of the program is, in the rules' words. The rules of a step are in the crate rules (Step, Run); nothing here adds to them.
-use Prim.Native.Nat.{ℕ, _≤_, max}
+use Prim.Native.Nat.{ℕ, _≤_, _<_, max}
 use mathlib.Core.Path.{_≡_}
-use mathlib.Core.Bool.{Bool, true, false}
+use mathlib.Core.Bool.{Bool, true, false, not}
 use mathlib.Core.List.{List, [], _∷_}
+use mathlib.Core.Logic.{_⊎_}
 use lib.ListN.{take}
 use lib.Ieee.{Float, lt}
 use Rattle.refusals.specs as Refusal
 use Rattle.net.specs.declared.Net.{Net as NetRecord}
-use Rattle.net.specs.Net.{pick}
+use Rattle.net.specs.Net.{Net, pick}
+use Rattle.net.specs.Tests.{any, empty}
 use Rattle.net.specs.Readable.{readable}
 use Rattle.rng.specs.State.{words}
 use Rattle.rules.specs.Timers.{Timer}
+use Rattle.rules.specs.Change.{timeFits}
 use Rattle.rules.specs.Moments.{moment, tokens}
 use Rattle.rules.specs.Step as Rule
 use Rattle.rules.specs.Step.{State, state, Answer, refused, given, Event, Step, still, sets}
@@ -45,9 +48,26 @@ pub record Roomy (room : ℕ) (ring : Ring) : Type 0 where
 abbrev pub stateOf : NetRecord → List ℕ → List Float → List ℕ → Ring → Float → List ℕ → State
 stateOf n counts ats owners ring clock words₄ = state clock (marking (n .places) counts) (timersOf ats owners ring) (words words₄)
 
+-- what a path that is played on brings with it: counts in bounds, at most 256 timers that are light and in a sound ring, and a clock and completion times that
+-- are times
+pub record Resumes (counts : List ℕ) (ats : List Float) (owners : List ℕ) (ring : Ring) (clock : Float) : Type 0 where
+  pub small : Counts counts
+  pub light : Light (timersOf ats owners ring)
+  pub sound : Sound ats owners ring
+  pub clock-fits : timeFits clock ≡ true
+  pub times-fit : any (λ (x : Timer). not (timeFits (x .at))) (timersOf ats owners ring) ≡ false
+
 -- its tokens: all place counts plus the weights taken by each running timer
 abbrev pub tokensOf : State → ℕ
 tokensOf s = tokens (moment s)
+
+-- Where another step is to be taken, the peak so far has the tokens of the state s; or that step starts no timer, and its event is a moment. So starts need not be
+-- looked at for the peak: they leave the tokens as they are. (A carried peak may be lower than its tokens.)
+abbrev pub Topped : ℕ → Net → Float → ℕ → State → ℕ → Type 0
+Topped room n last k s most =
+    (tokensOf s ≤ most)
+    ⊎ (0 < k → lt (s .clock) last ≡ true → (b : Bool) (js : List ℕ) (u : State) (e : Answer Event) → Rule.step room n s ≡ given (sets b js u e)
+    → (js ≡ []) × ((ev : Event) → e ≡ given ev → empty (ev .what) ≡ false))
 
 -- the event that ends a step in the state u: the completion of the first timer, or the firing of a race with these propensities and this total
 abbrev pub eventOf : NetRecord → State → Float → List Float → Bool → Answer Event

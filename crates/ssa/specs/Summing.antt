@@ -16,7 +16,7 @@ use Rattle.averages.specs.Request.{seedOf}
 use Rattle.averages.specs.Members.{Members, refusedAt, members}
 pub use Rattle.averages.specs.Members.{pathsFrom}
 use Rattle.ssa.specs.declared.PathEnd.{PathEnd}
-use Rattle.ssa.specs.declared.PathEnd.the-variants.{Quiet, Spent, Reached, Refused}
+use Rattle.ssa.specs.declared.PathEnd.the-variants.{Quiet, Spent, Reached, Halted, Refused}
 use Rattle.ssa.specs.declared.members.Turn.{Turn}
 use Rattle.ssa.specs.declared.members.Turn.the-variants as Turn
 use Rattle.ssa.specs.declared.members.Summed.{Summed}
@@ -43,6 +43,7 @@ abbrev pub oneBySpent : PathEnd → ℕ
 oneBySpent Quiet = 0
 oneBySpent Spent = 1
 oneBySpent Reached = 0
+oneBySpent Halted = 0
 oneBySpent (Refused c) = 0
 
 -- the path w: refused, with its cells cleared and the sums as they were; or shown, and added to the sums, with s spent paths from then on

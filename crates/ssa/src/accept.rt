@@ -15,7 +15,7 @@ ghost use Rattle.engine.specs.Engine as Engine;
 ghost use Rattle.ssa.specs.Path as Path;
 use crate::PathAnswer;
 use crate::PathEnd;
-use crate::run;
+use crate::start;
 use crate::tables;
 use engine::slots;
 use rng::Xoshiro256;
@@ -131,7 +131,7 @@ fn lent_path<'a>(
         &mut guards,
     );
     let mut counts = slots::first_counts(places, initial);
-    run::play(
+    start::play(
         places,
         transitions,
         initial,

@@ -12,7 +12,7 @@ ghost use Rattle.ssa.specs.Path as Path;
 ghost use Rattle.ssa.specs.Summing as Summing;
 use crate::PathAnswer;
 use crate::PathEnd;
-use crate::run;
+use crate::start;
 use averages::moments;
 use averages::request;
 use engine::slots;
@@ -62,7 +62,7 @@ fn one_path<'a>(
 {
     let mut counts = slots::first_counts(places, initial);
     let rng = Xoshiro256::new(request::seed_of(seed, k));
-    run::play(
+    start::play(
         places,
         transitions,
         initial,
@@ -95,6 +95,7 @@ fn one_if_spent(end: PathEnd) -> u64
         PathEnd::Quiet => 0,
         PathEnd::Spent => 1,
         PathEnd::Reached => 0,
+        PathEnd::Halted => 0,
         PathEnd::Refused(_) => 0,
     }
 }

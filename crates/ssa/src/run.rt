@@ -2,28 +2,25 @@
 ghost use mathlib.Core.Path.{_≡_};
 ghost use mathlib.Core.Bool.{true};
 ghost use Prim.Native.Nat.{ℕ, _+_, _*_, _<_, _≤_};
+ghost use lib.Dec.{ltb};
 ghost use lib.ListN.{length};
 ghost use lib.ListN as ListN;
+ghost use Rattle.words.specs.Bits.{bit};
 ghost use Rattle.net.specs.Net as Net;
 ghost use Rattle.net.specs.Readable as Record;
 ghost use Rattle.net.specs.Record.{lent};
 ghost use Rattle.net.specs.declared.Net.{Net as NetRecord};
 ghost use Rattle.rng.specs.State as Random;
-ghost use Rattle.rules.specs.Moments as Moments;
-ghost use Rattle.rules.specs.Moves as Moves;
 ghost use Rattle.rules.specs.Shown as Shown;
+ghost use Rattle.rules.specs.Step.{given};
 ghost use Rattle.rules.proofs.Play as Play;
 ghost use Rattle.jump.specs.Answers.{unitWait};
 ghost use Rattle.engine.specs.Engine as Engine;
-ghost use Rattle.engine.specs.Limits as Limits;
-ghost use Rattle.words.specs.Bits.{bit};
-ghost use lib.Dec.{ltb};
 ghost use Rattle.ssa.specs.Keeping as Keeps;
 ghost use Rattle.ssa.specs.Cells as Cells;
 ghost use Rattle.ssa.specs.Stepping as Stepping;
 ghost use Rattle.ssa.specs.Playing as Playing;
 ghost use Rattle.ssa.specs.Path as Path;
-use crate::PathAnswer;
 use crate::PathEnd;
 use crate::shown;
 use crate::step;
@@ -31,17 +28,32 @@ use crate::step::Ending;
 use crate::step::Keeping;
 use crate::step::Now;
 use rng::Xoshiro256;
+use timers::Ring;
 
 // How many timers may run in a path.
-const ROOM: usize = 256;
+pub const ROOM: usize = 256;
 
-// How the steps ended: after so many, of which so many add a rounded propensity, with so many instants shown, and the peak.
+// Where a path stands between two steps, beside its counts and the slots of its timers: the clock, the timers' ring, how many instants have been shown, the
+// tokens (all place counts plus the weights taken by the running timers), the peak so far and the generator.
+pub struct Standing {
+    pub clock: f64,
+    pub timers: Ring,
+    pub next: usize,
+    pub tokens: u64,
+    pub peak: u64,
+    pub rng: Xoshiro256,
+}
+
+// How the steps ended: after so many, of which so many add a rounded propensity, with so many instants shown, the peak, and the clock, timers and generator
+// that are left.
 pub struct Walked {
     pub end: PathEnd,
     pub steps: u64,
     pub rounded: u64,
     pub next: usize,
     pub peak: u64,
+    pub clock: f64,
+    pub timers: Ring,
     pub rng: Xoshiro256,
 }
 
@@ -56,7 +68,17 @@ fn one_more(rounded: u64, so: bool) -> u64
     rounded
 }
 
-// The steps of a path, at most so many.
+// The end where the steps are done and another would follow.
+fn out(halts: bool) -> PathEnd
+    ensures { λ r. ⌜ Path.endOf r ≡ given (Playing.outOf halts) ⌝ }
+{
+    if halts {
+        return PathEnd::Halted;
+    }
+    PathEnd::Spent
+}
+
+// The steps of a path, at most so many; where another would follow, the path is halted or spent.
 fn take_steps<'a>(
     places: usize,
     transitions: usize,
@@ -83,6 +105,7 @@ fn take_steps<'a>(
     instants: &[f64],
     last: f64,
     table: &mut [f64],
+    halts: bool,
     steps: u64,
     s: Now,
 ) -> Walked
@@ -90,14 +113,16 @@ fn take_steps<'a>(
     requires { λ net. ⌜ lent places transitions (now initial) (now capacity) (now rate) (now delay) (now arcs) (now kind) (now place) (now weight) ≡ net ⌝ }
     requires { λ net. ⌜ Stepping.Ready net (now limit) (now counts) (now ats) (now owners) (s .timers) × Stepping.Roomy room (s .timers)
         × Keeps.Tables net (now rates) (now ends) (now guards) timed heavy × Keeps.Carried net (Engine.marking places (now counts)) (s .kept) (now props) (now sums)
-        × (s .next ≤ length (now instants)) × (length (now instants) ≤ 1024)
-        × (places * length (now instants) ≤ length (now table)) × (s .tokens ≤ s .peak)
+        × (s .next ≤ length (now instants)) × (length (now instants) ≤ 1024) × (places * length (now instants) ≤ length (now table))
+        × Stepping.Topped room (Record.readable net) last steps
+        (Stepping.stateOf net (now counts) (now ats) (now owners) (s .timers) (s .clock) (s .rng .s)) (s .peak)
         × (s .tokens ≡ Stepping.tokensOf (Stepping.stateOf net (now counts) (now ats) (now owners) (s .timers) (s .clock) (s .rng .s)))
         × (s .unit ≡ unitWait (Random.words (s .rng .s))) ⌝ }
     ensures is { λ net r. ⌜ Playing.WalkBy
-        (Play.higher (s .peak) (Play.play room (Record.readable net) last steps (ListN.drop (s .next) (now (instants .entry)))
+        (Play.higher (s .peak) (Play.playWithin (Playing.outOf halts) room (Record.readable net) last steps (ListN.drop (s .next) (now (instants .entry)))
         (Stepping.stateOf net (now (counts .entry)) (now (ats .entry)) (now (owners .entry)) (s .timers) (s .clock) (s .rng .s))))
-        (now (instants .entry)) (Engine.marking places (now (counts .exit)))
+        (now (instants .entry))
+        (Stepping.stateOf net (now (counts .exit)) (now (ats .exit)) (now (owners .exit)) (r .timers) (r .clock) (r .rng .s))
         (λ sh. Playing.Listed places (length (now (instants .entry))) (s .next) (r .next) sh (now (table .entry)) (now (table .exit)))
         r (r .end) ⌝ }
     ensures kept { λ _ _. ⌜ Engine.Counts (now (counts .exit)) × (length (now (table .exit)) ≡ length (now (table .entry)))
@@ -108,6 +133,7 @@ fn take_steps<'a>(
     let mut rounded: u64 = 0;
     while done < steps {
         let clock = at.clock;
+        let ring = at.timers;
         let rng = at.rng;
         if clock < last {
             let r = step::one_step(
@@ -140,6 +166,7 @@ fn take_steps<'a>(
             );
             let after = r.now;
             let ending = r.ending;
+            let left = after.timers;
             let g = after.rng;
             done += 1;
             rounded = one_more(rounded, r.rounded);
@@ -151,6 +178,8 @@ fn take_steps<'a>(
                     rounded: rounded,
                     next: after.next,
                     peak: after.peak,
+                    clock: after.clock,
+                    timers: left,
                     rng: g,
                 },
                 Ending::Reached => return Walked {
@@ -159,6 +188,8 @@ fn take_steps<'a>(
                     rounded: rounded,
                     next: after.next,
                     peak: after.peak,
+                    clock: after.clock,
+                    timers: left,
                     rng: g,
                 },
                 Ending::Refused(c) => return Walked {
@@ -167,6 +198,8 @@ fn take_steps<'a>(
                     rounded: rounded,
                     next: after.next,
                     peak: after.peak,
+                    clock: after.clock,
+                    timers: left,
                     rng: g,
                 },
             }
@@ -177,19 +210,24 @@ fn take_steps<'a>(
                 rounded: rounded,
                 next: at.next,
                 peak: at.peak,
+                clock: clock,
+                timers: ring,
                 rng: rng,
             };
         }
     }
     let clock = at.clock;
+    let ring = at.timers;
     let rng = at.rng;
     if clock < last {
         return Walked {
-            end: PathEnd::Spent,
+            end: out(halts),
             steps: done,
             rounded: rounded,
             next: at.next,
             peak: at.peak,
+            clock: clock,
+            timers: ring,
             rng: rng,
         };
     }
@@ -199,34 +237,10 @@ fn take_steps<'a>(
         rounded: rounded,
         next: at.next,
         peak: at.peak,
+        clock: clock,
+        timers: ring,
         rng: rng,
     }
-}
-
-// How many instants are settled.
-fn settled(end: PathEnd, next: usize, n: usize) -> u64
-    ensures { λ r. ⌜ r ≡ Playing.settledAt end next n ⌝ }
-{
-    match end {
-        PathEnd::Quiet => n as u64,
-        PathEnd::Spent => next as u64,
-        PathEnd::Reached => n as u64,
-        PathEnd::Refused(_) => n as u64,
-    }
-}
-
-// The sum of the place counts.
-fn sum(counts: &[u64; 32], places: usize) -> u64
-    requires { ⌜ (places ≤ 32) × Engine.Counts (now counts) ⌝ }
-    ensures { λ r. ⌜ r ≡ Moments.sumOf (Engine.marking places (now (counts .entry))) ⌝ }
-{
-    let mut total: u64 = 0;
-    let mut p: usize = 0;
-    while p < places {
-        total = total + counts[p];
-        p += 1;
-    }
-    total
 }
 
 // All of so many transitions.
@@ -240,8 +254,9 @@ fn all_of(transitions: usize) -> u64
     (1u64 << transitions) - 1
 }
 
-// A path from the initial counts: its answer, and the table filled, or cleared where the run is refused.
-pub fn play<'a>(
+// Plays a path on from where it stands, at most so many steps. Its cells: what is shown on the way, and at the end the instants that are left, unless it is
+// halted; +0 in every cell of the answer where the run is refused.
+pub fn play_on<'a>(
     places: usize,
     transitions: usize,
     initial: &'a [u64; 32],
@@ -259,29 +274,36 @@ pub fn play<'a>(
     timed: u64,
     heavy: u64,
     counts: &mut [u64; 32],
+    ats: &mut [f64; 256],
+    owners: &mut [u64; 512],
+    room: usize,
     instants: &[f64],
+    halts: bool,
     steps: u64,
-    rng: Xoshiro256,
+    s: Standing,
     table: &mut [f64],
-) -> PathAnswer
+) -> Walked
     ghost { NetRecord }
     requires { λ net. ⌜ lent places transitions (now initial) (now capacity) (now rate) (now delay) (now arcs) (now kind) (now place) (now weight) ≡ net ⌝ }
-    requires { λ net. ⌜ Engine.Tidy net × Limits.Limits net (now limit) × Engine.Counts (now counts)
-        × (Engine.marking places (now counts) ≡ Moves.initialCounts (Record.readable net)) × Keeps.Tables net (now rates) (now ends) (now guards) timed heavy
-        × (0 < length (now instants)) × (length (now instants) ≤ 1024) × (Shown.rising Net.zero64 (now instants) ≡ true)
-        × (places * length (now instants) ≤ length (now table)) ⌝ }
-    ensures { λ net r. ⌜ Path.callOf r (now (table .exit)) ≡ Path.played places (length (now (instants .entry))) (Random.words (rng .s)) (now (table .entry))
-        (Shown.worked (Record.readable net) (Random.words (rng .s)) (now (instants .entry)) steps) ⌝ }
+    requires { λ net. ⌜ Stepping.Ready net (now limit) (now counts) (now ats) (now owners) (s .timers) × Stepping.Roomy room (s .timers)
+        × Keeps.Tables net (now rates) (now ends) (now guards) timed heavy
+        × (0 < length (now instants)) × (s .next ≤ length (now instants)) × (length (now instants) ≤ 1024) × (places * length (now instants) ≤ length (now table))
+        × Stepping.Topped room (Record.readable net) (Shown.lastOf (now instants)) steps
+        (Stepping.stateOf net (now counts) (now ats) (now owners) (s .timers) (s .clock) (s .rng .s)) (s .peak)
+        × (s .tokens ≡ Stepping.tokensOf (Stepping.stateOf net (now counts) (now ats) (now owners) (s .timers) (s .clock) (s .rng .s))) ⌝ }
+    ensures { λ net r. ⌜ Playing.PlayedBy
+        (Play.higher (s .peak) (Play.playWithin (Playing.outOf halts) room (Record.readable net) (Shown.lastOf (now (instants .entry))) steps
+        (ListN.drop (s .next) (now (instants .entry)))
+        (Stepping.stateOf net (now (counts .entry)) (now (ats .entry)) (now (owners .entry)) (s .timers) (s .clock) (s .rng .s))))
+        places (now (instants .entry)) (s .next) (now (table .entry)) (now (table .exit))
+        (Stepping.stateOf net (now (counts .exit)) (now (ats .exit)) (now (owners .exit)) (r .timers) (r .clock) (r .rng .s)) r (r .end) ⌝ }
 {
-    let mut ats = [0.0; 256];
-    let mut owners = [0u64; 512];
     let mut props = [0.0; 64];
     let mut sums = [0.0; 64];
     let n = instants.len();
     let last = instants[n - 1];
-    let first = shown::show(instants, table, counts, places, 0.0, 0);
-    let tokens = sum(counts, places);
-    let none = timers::empty();
+    let ring = s.timers;
+    let rng = s.rng;
     let kept = Keeping {
         moved: 0,
         crossed: all_of(transitions),
@@ -289,12 +311,12 @@ pub fn play<'a>(
         marks: 0,
         a0: 0.0,
     };
-    let s = Now {
-        clock: 0.0,
-        timers: none,
-        next: first,
-        tokens: tokens,
-        peak: tokens,
+    let at = Now {
+        clock: s.clock,
+        timers: ring,
+        next: s.next,
+        tokens: s.tokens,
+        peak: s.peak,
         rng: rng,
         kept: kept,
         unit: jump::unit_wait(rng),
@@ -317,38 +339,19 @@ pub fn play<'a>(
         timed,
         heavy,
         counts,
-        &mut ats,
-        &mut owners,
+        ats,
+        owners,
         &mut props,
         &mut sums,
-        ROOM,
+        room,
         instants,
         last,
         table,
+        halts,
         steps,
-        s,
+        at,
     );
     let end = w.end;
-    if let PathEnd::Refused(c) = end {
-        shown::clear(table, places * n);
-        return PathAnswer {
-            end: PathEnd::Refused(c),
-            steps: 0,
-            settled: 0,
-            peak: 0,
-            rounded: 0,
-            generator: rng,
-        };
-    }
-    let next = w.next;
-    let g = w.rng;
-    shown::fill(table, counts, places, n, next, n);
-    PathAnswer {
-        end: end,
-        steps: w.steps,
-        settled: settled(end, next, n),
-        peak: w.peak,
-        rounded: w.rounded,
-        generator: g,
-    }
+    shown::finish(table, counts, places, n, w.next, end);
+    w
 }

@@ -5,6 +5,7 @@ ghost use lib.ListN.{length};
 ghost use lib.ListN as ListN;
 ghost use Rattle.engine.specs.Engine as Engine;
 ghost use Rattle.ssa.specs.Cells as Cells;
+use crate::PathEnd;
 
 // The number of the first instant from next on that the clock has not reached.
 fn reached(instants: &[f64], clock: f64, next: usize) -> usize
@@ -74,4 +75,25 @@ pub fn show(
     let to = reached(instants, clock, next);
     fill(table, counts, places, instants.len(), next, to);
     to
+}
+
+// What the end of a run leaves in the cells: the counts at the instants from next on; nothing more where it is halted; +0 everywhere where it is refused.
+pub fn finish(
+    table: &mut [f64],
+    counts: &[u64; 32],
+    places: usize,
+    n: usize,
+    next: usize,
+    end: PathEnd,
+)
+    requires { ⌜ (places ≤ 32) × (n ≤ 1024) × (places * n ≤ length (now table)) × Engine.Counts (now counts) ⌝ }
+    ensures { λ _. ⌜ Cells.FinishedBy places n next (Engine.marking places (now (counts .entry))) (now (table .entry)) (now (table .exit)) end ⌝ }
+{
+    match end {
+        PathEnd::Quiet => fill(table, counts, places, n, next, n),
+        PathEnd::Spent => fill(table, counts, places, n, next, n),
+        PathEnd::Reached => fill(table, counts, places, n, next, n),
+        PathEnd::Halted => {}
+        PathEnd::Refused(_) => clear(table, places * n),
+    }
 }

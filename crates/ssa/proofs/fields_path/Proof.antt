@@ -11,7 +11,7 @@ use Rattle.net.specs.declared.Net.{Net as NetRecord}
 use Rattle.net.proofs.Sound.{sound}
 use Rattle.rng.specs.State.{words}
 use Rattle.rules.specs.Shown.{instantsFit, limitFits}
-use Rattle.ssa.proofs.Accepted.{fitting, cells-fit, by-net, by-instants, by-limit, by-table, by-run}
+use Rattle.ssa.proofs.Accepted.{fitting, cells-fit, called-tests}
 use Rattle.ssa.proofs.fields_path.Statement.{statement}
 use Rattle.ssa.proofs.fields_path.Tie as tie
 
@@ -45,8 +45,8 @@ returns c =
     let t = c .before .before .before .before in
     let s = t .before .before .before in
     let a = s .args in
-    c .turned-down .ensures (a .table .now)
-    ∙ sym (by-net (netAt s) (words (a .generator .s)) (a .instants .now) (a .limit) (a .table .now) (sym (t .fields-fault .ensures) ∙ ap meaning (c .before .before .c .given .1)))
+    let tests = called-tests (netAt s) (words (a .generator .s)) (a .instants .now) (a .limit) (a .table .now) in
+    c .turned-down .ensures (a .table .now) ∙ sym (tests .by-net (sym (t .fields-fault .ensures) ∙ ap meaning (c .before .before .c .given .1)))
 
 enum-told : tie.Need-enum-told
 enum-told c = search needs
@@ -62,8 +62,9 @@ returns-2 c =
     let i = c .before .before in
     let s = i .before .before .before .before .before .before in
     let a = s .args in
+    let tests = called-tests (netAt s) (words (a .generator .s)) (a .instants .now) (a .limit) (a .table .now) in
     c .turned-down2 .ensures (a .table .now)
-    ∙ sym (by-instants (netAt s) (words (a .generator .s)) (a .instants .now) (a .limit) (a .table .now) (accepted (i .before)) (sym (i .instants-fit .ensures) ∙ not-true _ (c .before .if1 .taken)))
+    ∙ sym (tests .by-instants (accepted (i .before)) (sym (i .instants-fit .ensures) ∙ not-true _ (c .before .if1 .taken)))
 
 limit-fits-requires : tie.Need-limit-fits-requires
 limit-fits-requires c κs = search needs
@@ -77,8 +78,9 @@ returns-3 c =
     let e = l .before in
     let s = e .before .before .before .before .before .before .before in
     let a = s .args in
+    let tests = called-tests (netAt s) (words (a .generator .s)) (a .instants .now) (a .limit) (a .table .now) in
     c .turned-down3 .ensures (a .table .now)
-    ∙ sym (by-limit (netAt s) (words (a .generator .s)) (a .instants .now) (a .limit) (a .table .now) (accepted (e .before .before)) (timely e) (sym (l .limit-fits .ensures) ∙ not-true _ (c .before .if2 .taken)))
+    ∙ sym (tests .by-limit (accepted (e .before .before)) (timely e) (sym (l .limit-fits .ensures) ∙ not-true _ (c .before .if2 .taken)))
 
 mul-if3 : tie.Need-mul-if3
 mul-if3 c =
@@ -96,8 +98,8 @@ returns-4 c =
     let e = l .before .before in
     let s = e .before .before .before .before .before .before .before in
     let a = s .args in
-    c .turned-down4 .ensures (a .table .now)
-    ∙ sym (by-table (netAt s) (words (a .generator .s)) (a .instants .now) (a .limit) (a .table .now) (accepted (e .before .before)) (timely e) (limited l) (c .before .if3 .taken))
+    let tests = called-tests (netAt s) (words (a .generator .s)) (a .instants .now) (a .limit) (a .table .now) in
+    c .turned-down4 .ensures (a .table .now) ∙ sym (tests .by-table (accepted (e .before .before)) (timely e) (limited l) (c .before .if3 .taken))
 
 accepted-path-requires : tie.Need-accepted-path-requires
 accepted-path-requires c κs =
@@ -113,8 +115,9 @@ returns-5 c =
     let e = l .before .before in
     let s = e .before .before .before .before .before .before .before in
     let a = s .args in
-    by-run (netAt s) (words (a .generator .s)) (a .instants .now) (a .limit) (a .table .now) (accepted (e .before .before)) (timely e) (limited l) (c .before .before .before .before .if3 .left)
-    (c .before .before .accepted-path .ensures)
+    let tests = called-tests (netAt s) (words (a .generator .s)) (a .instants .now) (a .limit) (a .table .now) in
+    c .before .before .accepted-path .ensures
+    ∙ sym (tests .by-run (accepted (e .before .before)) (timely e) (limited l) (c .before .before .before .before .if3 .left))
 
 pub fields-path-spec : {M : Type 1} → statement M
 fields-path-spec =

@@ -1,70 +1,37 @@
--- The instants at most 0 are shown first, the steps show theirs, and the rest show the last counts: one list (proofs/Playing, answered). A refusal
--- clears the cells of the answer (refused-path).
+-- The beginning shows the instants at most 0, and the run from there is the path's (proofs/Answered, path-answered).
 use borrow.Author.Needs.{needs}
-use types.Run.{OneOf}
-use denote.Enum.Declared.{tagOf}
 use native.Mathlib.Omega.{arith}
-use native.Mathlib.Nat.{mul-le-mul}
-use mathlib.Core.Path.{refl, sym, ap, subst, _∙_}
-use mathlib.Core.Logic.{⊎-elim}
-use mathlib.Core.List.{[], _∷_}
-use Prim.Native.Nat.{_-_, _*_}
-use lib.ListN.{length, getD, replicate}
-use lib.Ieee.{nan}
+use mathlib.Core.Path.{_≡_, refl, ap, sym, subst, _∙_}
+use mathlib.Core.Logic.{inl}
+use lib.ListN.{length, drop, replicate}
+use lib.Ieee.{Float}
+use mathlib.Core.List.{List, []}
 use Rattle.net.specs.Net.{zero64}
 use Rattle.net.specs.Readable.{readable}
 use Rattle.net.specs.Record.{lent}
 use Rattle.rng.specs.State.{words}
-use Rattle.ssa.specs.declared.PathEnd.{PathEnd}
-use Rattle.ssa.specs.declared.PathEnd.the-variants.{Quiet, Spent, Reached, Refused}
+use Rattle.rules.specs.Step.{state, Answer}
+use Rattle.rules.specs.Shown.{lastOf}
 use Rattle.rules.specs.Moments.{takenByTimers}
+use Rattle.rules.proofs.Play.{Played, higher, play}
 use Rattle.timers.specs.InOrder.{inOrder}
 use Rattle.engine.specs.Engine.{marking}
-use Rattle.ssa.specs.Stepping.{Light}
-use Rattle.ssa.proofs.Carrying.{carried-first}
-use Rattle.ssa.proofs.Cells.{cleared-long}
-use Rattle.ssa.proofs.PathEnd.{the-type}
-use Rattle.ssa.proofs.Playing.{shown-within, last-at, NotRefused, still-within, answered, refused-path}
-use Rattle.ssa.proofs.run.play.Statement.{statement}
-use Rattle.ssa.proofs.run.play.Tie as tie
+use Rattle.ssa.specs.Playing.{PlayedBy}
+use Rattle.ssa.specs.Stepping.{Light, stateOf}
+use Rattle.ssa.proofs.Answered.{path-answered}
+use Rattle.ssa.proofs.Playing.{shown-within}
+use Rattle.ssa.proofs.start.play.Statement.{statement}
+use Rattle.ssa.proofs.start.play.Tie as tie
 
-not-refused : (end : PathEnd) → OneOf (0 ∷ 1 ∷ 2 ∷ []) (tagOf the-type end) → NotRefused end
-not-refused Quiet h = tt
-not-refused Spent h = tt
-not-refused Reached h = tt
-not-refused (Refused c) h = ⊎-elim (λ a. omega arith) (⊎-elim (λ a. omega arith) (λ a. omega arith)) h
+begin-requires : tie.Need-begin-requires
+begin-requires c κs = search needs
 
-sub-last : tie.Need-sub-last
-sub-last c = search needs
-
-mul-last : tie.Need-mul-last
-mul-last c = search needs
-
-shared-slice-read-last : tie.Need-shared-slice-read-last
-shared-slice-read-last c = search needs
-
-show-requires : tie.Need-show-requires
-show-requires c κs = search needs
-
-sum-requires : tie.Need-sum-requires
-sum-requires c κs = search needs
-
-empty-requires : tie.Need-empty-requires
-empty-requires c κs = search needs
-
-all-of-requires : tie.Need-all-of-requires
-all-of-requires c κs = search needs
-
-unit-wait-requires : tie.Need-unit-wait-requires
-unit-wait-requires c κs = search needs
-
-take-steps-requires : tie.Need-take-steps-requires
-take-steps-requires c κs =
-    let v = c .before .before .before .before .before .before .before .before .before .before .before .before .before .show in
-    let a = c .before .before .before .before .before .before .before .before .before .before .before .before .before .before .before .before .before .before .before in
+play-on-requires : tie.Need-play-on-requires
+play-on-requires c κs =
+    let a = c .before .before .before .before .before .before .before .before .before .before .before in
     let s = a .args in
-    let xs = s .instants .now in
-    let none = c .before .before .before .before .before .before .before .before .empty .ensures .list (replicate 256 zero64) (replicate 512 0) in (
+    let b = c .before .before .before .before .before .before .begin in
+    let none = b .ensures .2 .list (replicate 256 zero64) (replicate 512 0) in (
       record {
         tidy = a .pre .0;
         limits = a .pre .1;
@@ -74,106 +41,39 @@ take-steps-requires c κs =
       },
       record { most = omega arith; few = omega arith },
       a .pre .4,
-      carried-first (lent (s .places) (s .transitions) (s .initial .now) (s .capacity .now) (s .rate .now) (s .delay .now) (s .arcs .now) (s .kind .now) (s .place .now) (s .weight .now)) _ _ (a .pre .0 .transitions) (c .before .before .before .before .before .before .before .all-of .ensures),
-      shown-within (s .places) xs _ _ 0 (v .result) (s .table .now) (v .last .1 .0) (v .ensures) (omega arith),
+      a .pre .5,
+      shown-within (s .places) (s .instants .now) _ _ 0 (b .result .next) (s .table .now) (b .last .1 .0) (b .ensures .0) (omega arith),
       a .pre .6,
-      omega (arith, a .pre .8, v .ensures .cells .long),
-      omega arith,
-      omega (arith, c .before .before .before .before .before .before .before .before .before .sum .ensures, ap takenByTimers none),
-      c .before .before .before .before .before .before .unit-wait .ensures,
+      omega (arith, a .pre .8, b .ensures .0 .cells .long),
+      inl (omega (arith, b .ensures .3, b .ensures .4, ap takenByTimers none)),
+      omega (arith, b .ensures .3, ap takenByTimers none),
     )
 
-enum-known-end : tie.Need-enum-known-end
-enum-known-end c = search needs
-
-mul-clear : tie.Need-mul-clear
-mul-clear c = let a = c .before .before .before .before .before .before .before .before .before .before .before .before .before .before .before .before .before .before .before .before .before .before .before .before .before .before in omega (arith, mul-le-mul (a .pre .0 .places) (a .pre .6))
-
-clear-requires : tie.Need-clear-requires
-clear-requires c κs =
-    let w = c .before .before .before .before .before .before .take-steps in
-    let v = c .before .before .before .before .before .before .before .before .before .before .before .before .before .before .before .before .before .before .before .before .show in
-    let a = c .before .before .before .before .before .before .before .before .before .before .before .before .before .before .before .before .before .before .before .before .before .before .before .before .before .before in
-    omega (arith, a .pre .8, v .ensures .cells .long, w .ensures .1 .1)
+answer-requires : tie.Need-answer-requires
+answer-requires c κs = search needs
 
 same-length : tie.Need-same-length
-same-length c =
-    let w = c .before .before .before .before .before .before .before .before .before .take-steps in
-    let v = c .before .before .before .before .before .before .before .before .before .before .before .before .before .before .before .before .before .before .before .before .before .before .before .show in
-    let a = c .before .before .before .before .before .before .before .before .before .before .before .before .before .before .before .before .before .before .before .before .before .before .before .before .before .before .before .before .before in
-    ap length (c .before .before .clear .ensures)
-    ∙ cleared-long (a .args .places * length (a .args .instants .now)) (w .last .1 .1 .1 .1 .1 .1 .1 .1 .1 .1 .1 .1 .1 .1 .1 .1 .1 .1 .1 .1 .1 .1 .1 .1 .0) (omega (arith, a .pre .8, v .ensures .cells .long, w .ensures .1 .1))
-    ∙ w .ensures .1 .1
-    ∙ v .ensures .cells .long
+same-length c = search needs
 
 returns : tie.Need-returns
 returns c =
-    let w = c .before .before .before .before .before .before .before .before .before .take-steps in
-    let u = c .before .before .before .before .before .before .before .before .before .before .before .before .before .before .before .before .before .before .before .sum in
-    let v = c .before .before .before .before .before .before .before .before .before .before .before .before .before .before .before .before .before .before .before .before .before .before .before .show in
-    let a = c .before .before .before .before .before .before .before .before .before .before .before .before .before .before .before .before .before .before .before .before .before .before .before .before .before .before .before .before .before in
+    let a = c .before .before .before .before .before .before .before .before .before .before .before .before .before .before .before in
     let s = a .args in
-    refused-path (readable (lent (s .places) (s .transitions) (s .initial .now) (s .capacity .now) (s .rate .now) (s .delay .now) (s .arcs .now) (s .kind .now) (s .place .now) (s .weight .now))) (words (s .rng .s)) (s .instants .now) (s .steps) (s .places) (v .result) (u .result)
-    (marking (s .places) (s .counts .now)) (getD (s .instants .now) (length (s .instants .now) - 1) nan) (s .table .now) (v .last .1 .0)
-    (a .pre .7) (a .pre .3) (last-at (s .instants .now) (a .pre .5)) (u .ensures) (v .ensures)
-    (w .result) (marking (s .places) (w .last .1 .1 .1 .1 .1 .1 .1 .1 .1 .1 .1 .1 .1 .1 .1 .1 .0)) (w .last .1 .1 .1 .1 .1 .1 .1 .1 .1 .1 .1 .1 .1 .1 .1 .1 .1 .1 .1 .1 .1 .1 .1 .1 .0)
-    (c .before .before .before .before .before .end .given .0 .0) (w .result .end) (c .before .before .before .before .before .end .given .1) (rw (c .before .before .before .before .before .before .before .before .before .before .before .before .before .before .before .before .before .before .empty .ensures .list) at (w .ensures .0)) (w .ensures .1 .1) (w .ensures .1 .2)
-    (c .before .before .clear .last .0) (c .before .before .clear .ensures)
-    (record { end = Refused (c .before .before .before .before .before .end .given .0 .0); steps = 0; settled = 0; peak = 0; rounded = 0; generator = s .rng }) refl refl refl refl refl refl
-
-fill-requires : tie.Need-fill-requires
-fill-requires c κs =
-    let w = c .before .before .before .before .before .before .take-steps in
-    let u = c .before .before .before .before .before .before .before .before .before .before .before .before .before .before .before .before .sum in
-    let v = c .before .before .before .before .before .before .before .before .before .before .before .before .before .before .before .before .before .before .before .before .show in
-    let a = c .before .before .before .before .before .before .before .before .before .before .before .before .before .before .before .before .before .before .before .before .before .before .before .before .before .before in
-    let s = a .args in
-    let h = still-within (readable (lent (s .places) (s .transitions) (s .initial .now) (s .capacity .now) (s .rate .now) (s .delay .now) (s .arcs .now) (s .kind .now) (s .place .now) (s .weight .now))) (words (s .rng .s)) (s .instants .now) (s .steps) (s .places) (v .result) (u .result)
-    (marking (s .places) (s .counts .now)) (getD (s .instants .now) (length (s .instants .now) - 1) nan) (s .table .now) (v .last .1 .0)
-    (a .pre .7) (a .pre .3) (last-at (s .instants .now) (a .pre .5)) (u .ensures) (v .ensures)
-    (w .result) (marking (s .places) (w .last .1 .1 .1 .1 .1 .1 .1 .1 .1 .1 .1 .1 .1 .1 .1 .1 .0)) (w .last .1 .1 .1 .1 .1 .1 .1 .1 .1 .1 .1 .1 .1 .1 .1 .1 .1 .1 .1 .1 .1 .1 .1 .1 .0) (w .result .end) (not-refused (w .result .end) (c .before .before .before .match .keys2)) (rw (c .before .before .before .before .before .before .before .before .before .before .before .before .before .before .before .empty .ensures .list) at (w .ensures .0)) in
-    (a .pre .0 .places, omega (arith, h), a .pre .6, omega (arith, a .pre .8, v .ensures .cells .long, w .ensures .1 .1), w .ensures .1 .0)
-
-settled-requires : tie.Need-settled-requires
-settled-requires c κs = search needs
-
-same-length-2 : tie.Need-same-length-2
-same-length-2 c = c .before .before .before .fill .ensures .long ∙ c .before .before .before .before .before .before .before .before .before .before .take-steps .ensures .1 .1 ∙ c .before .before .before .before .before .before .before .before .before .before .before .before .before .before .before .before .before .before .before .before .before .before .before .before .show .ensures .cells .long
-
-returns-2 : tie.Need-returns-2
-returns-2 c =
-    let w = c .before .before .before .before .before .before .before .before .before .before .take-steps in
-    let u = c .before .before .before .before .before .before .before .before .before .before .before .before .before .before .before .before .before .before .before .before .sum in
-    let v = c .before .before .before .before .before .before .before .before .before .before .before .before .before .before .before .before .before .before .before .before .before .before .before .before .show in
-    let a = c .before .before .before .before .before .before .before .before .before .before .before .before .before .before .before .before .before .before .before .before .before .before .before .before .before .before .before .before .before .before in
-    let s = a .args in
-    answered (readable (lent (s .places) (s .transitions) (s .initial .now) (s .capacity .now) (s .rate .now) (s .delay .now) (s .arcs .now) (s .kind .now) (s .place .now) (s .weight .now))) (words (s .rng .s)) (s .instants .now) (s .steps) (s .places) (v .result) (u .result)
-    (marking (s .places) (s .counts .now)) (getD (s .instants .now) (length (s .instants .now) - 1) nan) (s .table .now) (v .last .1 .0)
-    (a .pre .7) (a .pre .3) (last-at (s .instants .now) (a .pre .5)) (u .ensures) (v .ensures)
-    (w .result) (marking (s .places) (w .last .1 .1 .1 .1 .1 .1 .1 .1 .1 .1 .1 .1 .1 .1 .1 .1 .0)) (w .last .1 .1 .1 .1 .1 .1 .1 .1 .1 .1 .1 .1 .1 .1 .1 .1 .1 .1 .1 .1 .1 .1 .1 .1 .0)
-    (w .result .end) (not-refused (w .result .end) (c .before .before .before .before .before .before .before .match .keys2)) (rw (c .before .before .before .before .before .before .before .before .before .before .before .before .before .before .before .before .before .before .before .empty .ensures .list) at (w .ensures .0))
-    (c .before .before .before .fill .last .0) (c .before .before .before .fill .ensures) (a .pre .8)
-    _ refl refl (c .settled .ensures) refl refl refl
+    let b = c .before .before .before .before .before .before .before .before .before .before .begin in
+    let p = c .before .before .before .play-on in
+    let net = lent (s .places) (s .transitions) (s .initial .now) (s .capacity .now) (s .rate .now) (s .delay .now) (s .arcs .now) (s .kind .now) (s .place .now) (s .weight .now) in
+    let xs = s .instants .now in
+    let m = marking (s .places) (s .counts .now) in
+    let t = p .last .1 .1 .1 .1 .1 .1 .1 .1 .1 .1 .1 .1 .1 .1 .1 .1 .1 .1 .1 .1 .1 .1 .1 .1 .0 in
+    let none = b .ensures .2 .list (replicate 256 zero64) (replicate 512 0) in
+    let left = stateOf net (p .last .1 .1 .1 .1 .1 .1 .1 .1 .1 .1 .1 .1 .1 .1 .1 .1 .0) (p .last .1 .1 .1 .1 .1 .1 .1 .1 .1 .1 .1 .1 .1 .1 .1 .1 .1 .0) (p .last .1 .1 .1 .1 .1 .1 .1 .1 .1 .1 .1 .1 .1 .1 .1 .1 .1 .1 .0) (p .result .timers) (p .result .clock) (p .result .rng .s) in
+    c .answer .ensures t
+    ∙ path-answered (readable net) (words (s .rng .s)) xs (s .steps) (s .places) (b .result .next) (b .result .peak) m (s .table .now) (b .last .1 .0)
+    (a .pre .7) (a .pre .3) (b .ensures .4 ∙ b .ensures .3) (a .pre .8) (b .ensures .0) (p .result) left t refl (p .result .end)
+    (subst (λ (v : Answer Played). PlayedBy v (s .places) xs (b .result .next) (b .last .1 .0) t left (p .result) (p .result .end))
+    (λ i. higher (b .result .peak) (play 256 (readable net) (lastOf xs) (s .steps) (drop (b .result .next) xs) (state (b .ensures .1 i) m (none i) (words (b .ensures .5 i .s)))))
+    (p .ensures))
 
 pub play-spec : {M : Type 1} → statement M
 play-spec =
-    tie.close
-    (tie.spec
-    sub-last
-    mul-last
-    shared-slice-read-last
-    show-requires
-    sum-requires
-    empty-requires
-    all-of-requires
-    unit-wait-requires
-    take-steps-requires
-    enum-known-end
-    mul-clear
-    clear-requires
-    same-length
-    returns
-    fill-requires
-    settled-requires
-    same-length-2
-    returns-2)
+    tie.close (tie.spec begin-requires play-on-requires answer-requires same-length returns)

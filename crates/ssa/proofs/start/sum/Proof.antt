@@ -8,8 +8,8 @@ use borrow.Author.Needs.{needs}
 use native.Mathlib.Omega.{arith}
 use mathlib.Core.Path.{_≡_, refl, ap, _∙_}
 use Prim.Native.Nat.{ℕ, _+_, _-_, _*_, _^_, _≤_, _<_}
-use Rattle.ssa.proofs.run.sum.Statement.{statement}
-use Rattle.ssa.proofs.run.sum.Tie as tie
+use Rattle.ssa.proofs.start.sum.Statement.{statement}
+use Rattle.ssa.proofs.start.sum.Tie as tie
 
 sum-append : (xs ys : List ℕ) → sumOf (xs ++ ys) ≡ sumOf xs + sumOf ys
 sum-append [] ys = omega arith

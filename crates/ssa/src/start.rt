@@ -1,0 +1,175 @@
+// A path from its beginning: where it stands before the first step, and what a path call answers of it.
+ghost use mathlib.Core.Path.{_≡_};
+ghost use mathlib.Core.Bool.{true};
+ghost use mathlib.Core.List.{List};
+ghost use Prim.Native.Nat.{_*_, _<_, _≤_};
+ghost use lib.Ieee.{Float};
+ghost use lib.ListN.{length};
+ghost use Rattle.net.specs.Net.{zero64};
+ghost use Rattle.net.specs.Readable as Record;
+ghost use Rattle.net.specs.Record.{lent};
+ghost use Rattle.net.specs.declared.Net.{Net as NetRecord};
+ghost use Rattle.rng.specs.State as Random;
+ghost use Rattle.rules.specs.Moments as Moments;
+ghost use Rattle.rules.specs.Moves as Moves;
+ghost use Rattle.rules.specs.Shown as Shown;
+ghost use Rattle.engine.specs.Engine as Engine;
+ghost use Rattle.engine.specs.Limits as Limits;
+ghost use Rattle.timers.specs.Turning as Turning;
+ghost use Rattle.ssa.specs.Cells as Cells;
+ghost use Rattle.ssa.specs.Keeping as Keeps;
+ghost use Rattle.ssa.specs.Path as Path;
+ghost use Rattle.ssa.specs.Playing as Playing;
+use crate::PathAnswer;
+use crate::PathEnd;
+use crate::run;
+use crate::run::Standing;
+use crate::run::Walked;
+use crate::shown;
+use rng::Xoshiro256;
+
+// The sum of the place counts.
+pub fn sum(counts: &[u64; 32], places: usize) -> u64
+    requires { ⌜ (places ≤ 32) × Engine.Counts (now counts) ⌝ }
+    ensures { λ r. ⌜ r ≡ Moments.sumOf (Engine.marking places (now (counts .entry))) ⌝ }
+{
+    let mut total: u64 = 0;
+    let mut p: usize = 0;
+    while p < places {
+        total = total + counts[p];
+        p += 1;
+    }
+    total
+}
+
+// A path that has taken no step: the clock at 0, no timer, the counts as they are; instants at most 0 are shown.
+pub fn begin(
+    instants: &[f64],
+    table: &mut [f64],
+    counts: &[u64; 32],
+    places: usize,
+    rng: Xoshiro256,
+) -> Standing
+    requires { ⌜ (places ≤ 32) × (length (now instants) ≤ 1024) × (places * length (now instants) ≤ length (now table)) × Engine.Counts (now counts) ⌝ }
+    ensures { λ r. ⌜ Cells.ShownBy places (now (instants .entry)) zero64 (Engine.marking places (now (counts .entry))) 0 (r .next) (now (table .entry)) (now (table .exit))
+        × (r .clock ≡ zero64) × Turning.NoTimers (r .timers) × (r .tokens ≡ Moments.sumOf (Engine.marking places (now (counts .entry))))
+        × (r .peak ≡ r .tokens) × (r .rng ≡ rng) ⌝ }
+{
+    let first = shown::show(instants, table, counts, places, 0.0, 0);
+    let tokens = sum(counts, places);
+    let none = timers::empty();
+    Standing {
+        clock: 0.0,
+        timers: none,
+        next: first,
+        tokens: tokens,
+        peak: tokens,
+        rng: rng,
+    }
+}
+
+// How many instants are settled.
+pub fn settled(end: PathEnd, next: usize, n: usize) -> u64
+    ensures { λ r. ⌜ r ≡ Playing.settledAt end next n ⌝ }
+{
+    match end {
+        PathEnd::Quiet => n as u64,
+        PathEnd::Spent => next as u64,
+        PathEnd::Reached => n as u64,
+        PathEnd::Halted => next as u64,
+        PathEnd::Refused(_) => n as u64,
+    }
+}
+
+// What a path call answers of it.
+fn answer(w: Walked, n: usize, rng: Xoshiro256) -> PathAnswer
+    ensures { λ r. ⌜ ((table : List Float) → Path.callOf r table ≡ Playing.answerOf w n (Random.words (rng .s)) table (w .end)) ⌝ }
+{
+    let end = w.end;
+    if let PathEnd::Refused(c) = end {
+        return PathAnswer {
+            end: PathEnd::Refused(c),
+            steps: 0,
+            settled: 0,
+            peak: 0,
+            rounded: 0,
+            generator: rng,
+        };
+    }
+    let g = w.rng;
+    PathAnswer {
+        end: end,
+        steps: w.steps,
+        settled: settled(end, w.next, n),
+        peak: w.peak,
+        rounded: w.rounded,
+        generator: g,
+    }
+}
+
+// A path from the initial counts: its answer, and the table filled, or cleared where the run is refused.
+pub fn play<'a>(
+    places: usize,
+    transitions: usize,
+    initial: &'a [u64; 32],
+    capacity: &'a [u64; 32],
+    rate: &'a [f64; 64],
+    delay: &'a [f64; 64],
+    arcs: &'a [usize; 64],
+    kind: &'a [u64; 1024],
+    place: &'a [usize; 1024],
+    weight: &'a [u64; 1024],
+    limit: &'a [u64; 1024],
+    rates: &'a [f64; 64],
+    ends: &'a [usize; 64],
+    guards: &'a [u64; 160],
+    timed: u64,
+    heavy: u64,
+    counts: &mut [u64; 32],
+    instants: &[f64],
+    steps: u64,
+    rng: Xoshiro256,
+    table: &mut [f64],
+) -> PathAnswer
+    ghost { NetRecord }
+    requires { λ net. ⌜ lent places transitions (now initial) (now capacity) (now rate) (now delay) (now arcs) (now kind) (now place) (now weight) ≡ net ⌝ }
+    requires { λ net. ⌜ Engine.Tidy net × Limits.Limits net (now limit) × Engine.Counts (now counts)
+        × (Engine.marking places (now counts) ≡ Moves.initialCounts (Record.readable net)) × Keeps.Tables net (now rates) (now ends) (now guards) timed heavy
+        × (0 < length (now instants)) × (length (now instants) ≤ 1024) × (Shown.rising zero64 (now instants) ≡ true)
+        × (places * length (now instants) ≤ length (now table)) ⌝ }
+    ensures { λ net r. ⌜ Path.callOf r (now (table .exit)) ≡ Path.played places (length (now (instants .entry))) (Random.words (rng .s)) (now (table .entry))
+        (Shown.worked (Record.readable net) (Random.words (rng .s)) (now (instants .entry)) steps) ⌝ }
+{
+    let mut ats = [0.0; 256];
+    let mut owners = [0u64; 512];
+    let n = instants.len();
+    let s = begin(instants, table, counts, places, rng);
+    let w = run::play_on(
+        places,
+        transitions,
+        initial,
+        capacity,
+        rate,
+        delay,
+        arcs,
+        kind,
+        place,
+        weight,
+        limit,
+        rates,
+        ends,
+        guards,
+        timed,
+        heavy,
+        counts,
+        &mut ats,
+        &mut owners,
+        run::ROOM,
+        instants,
+        false,
+        steps,
+        s,
+        table,
+    );
+    answer(w, n, rng)
+}
