@@ -1,4 +1,4 @@
-# Shared by play, soak, game and balance, which source it and set `me`: the proved programs behind them.
+# Shared by play, soak, game, balance and carry, which source it and set `me`: the proved programs behind them.
 top=$(cd "$(dirname "${BASH_SOURCE[0]}")" && pwd -P)
 say() { echo "$me: $*" >&2; }
 
@@ -18,7 +18,17 @@ built() {
     say "built in $(cat "$spent") s"
 }
 
-# meaning NUMBER LINE: what a refusal's number says of a net, its text, its run, its game or, at line 0, its weights.
+# decimals FILE: what a program printed, with its floats as decimals. A label may itself be sixteen hexadecimal digits: only what stands behind it is a float.
+decimals() {
+    perl -pe 'if (/^(\((?:mean|dev) \S+|\(clock|\(timer \d+)(.*)/) {
+        my ($head, $row) = ($1, $2);
+        my $form = $head =~ /^\([md]/ ? "%.6g" : "%.10g";
+        $row =~ s/\b([0-9a-f]{16})\b/sprintf($form, unpack("d", pack("Q", hex $1)))/ge;
+        $_ = "$head$row\n";
+    }' "$1"
+}
+
+# meaning NUMBER LINE: what a refusal's number says of a net, its text, its run, its game, its change or, at line 0, its weights.
 meaning() {
     case $1,$2 in
     3,0) echo "a list has as many weights as the net has places" && return ;;
@@ -40,6 +50,9 @@ meaning() {
     15) echo "a 257th timer would start during a path" ;;
     17) echo "a place has a label of 1 to 16 letters a to z, digits or hyphens, behind its capacity" ;;
     18) echo "an earlier place has this label already" ;;
+    20) echo "two editions of a net have equally many places" ;;
+    21) echo "a renaming list names transitions that its nets have, each at most once on its side" ;;
+    22) echo "a renaming list has every transition whose timer runs, and sends it to one with a delay" ;;
     23) echo "a game has no delayed transition" ;;
     24) echo "a game gives each transition one side, f or r, at most 8 on each, and has 1 to 8 turns" ;;
     25) echo "the net has no such place" ;;
@@ -47,16 +60,16 @@ meaning() {
     esac
 }
 
-# explained LINE [WHAT]: where the line is (refused NUMBER LINE), what the number says; the status is 3. At line 0 it is said of WHAT, but for 2, which is
-# said of a text of too many bytes.
+# explained LINE [WHAT [TEXT]]: where the line is (refused NUMBER LINE), what the number says; the status is 3. At line 0 it is said of WHAT, but for 2, which
+# is said of a text of too many bytes; TEXT names the text where there are two.
 explained() {
     local number line where
     if [[ $1 =~ ^\(refused\ ([0-9]+)\ ([0-9]+)\)$ ]]; then
         number=${BASH_REMATCH[1]} line=${BASH_REMATCH[2]}
         case $number,$line in
-        2,0) where="the text as a whole" ;;
+        2,0) where="${3:-the text} as a whole" ;;
         *,0) where=${2:-the text as a whole} ;;
-        *) where="line $line" ;;
+        *) where="line $line${3:+ of $3}" ;;
         esac
         say "refused by $number, $where: $(meaning "$number" "$line")"
         exit 3

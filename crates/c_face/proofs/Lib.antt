@@ -1,3 +1,6 @@
 pub mod Sweep
 pub mod Mask
 pub mod Filling
+pub mod Parts
+pub mod Running
+pub mod Written

@@ -10,4 +10,6 @@ pub mod Soaked
 pub mod Searched
 pub mod Weighed
 pub mod Listed
+pub mod Layout
+pub mod Halted
 pub mod Indexed

@@ -1,8 +1,10 @@
-// The leaf functions, the reader of net texts, the path, the ensemble, the diffusion and its objections to a net, the balance of weights, the soak load,
+// The leaf functions, the reader of net texts, the path, a halted and carried one, the ensemble, the diffusion and its objections to a net, the balance of weights, the soak load,
 // the game, the timer list and the index under plain names, for a program in C or Rust to call. Those on slices do in one call what as many calls would.
 mod diffusion;
 mod ensemble;
 mod generator;
+mod halted;
+mod halted_words;
 mod leaves;
 mod listing;
 mod objections;

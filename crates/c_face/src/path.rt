@@ -7,14 +7,15 @@ ghost use Rattle.c_face.specs.Played as Played;
 use rng::Xoshiro256;
 use ssa::PathEnd;
 
-// The number of an end: the refusal's own, or 100 for quiet, 101 for spent, 102 for reached.
-fn end_number(end: PathEnd) -> u64
+// The number of an end: the refusal's own, or 100 for quiet, 101 for spent, 102 for reached, 103 for halted.
+pub fn end_number(end: PathEnd) -> u64
     ensures { λ r. ⌜ r ≡ Played.endNumber (Path.endOf end) ⌝ }
 {
     match end {
         PathEnd::Quiet => 100,
         PathEnd::Spent => 101,
         PathEnd::Reached => 102,
+        PathEnd::Halted => 103,
         PathEnd::Refused(c) => c,
     }
 }

@@ -38,6 +38,7 @@ fn write_end(end: PathEnd) {
         PathEnd::Quiet => write(b"quiet"),
         PathEnd::Spent => write(b"spent"),
         PathEnd::Reached => write(b"reached"),
+        PathEnd::Halted => write(b"halted"),
         PathEnd::Refused(c) => {
             write(b"refused");
             write_number(c);

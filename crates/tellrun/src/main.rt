@@ -44,6 +44,7 @@ fn write_answer(r: PathAnswer) {
         PathEnd::Quiet => write_path(b"quiet", r),
         PathEnd::Spent => write_path(b"spent", r),
         PathEnd::Reached => write_path(b"reached", r),
+        PathEnd::Halted => write_path(b"halted", r),
         PathEnd::Refused(c) => write_refused(c, 0),
     }
 }
