@@ -3,6 +3,7 @@
 use crate::draw::Draw;
 use crate::nets::{Arc, Label, Move, Net, Place};
 use crate::paths::{self, block, one_of, plain, put, read, take};
+use crate::player;
 use crate::rattle;
 use crate::report::Report;
 use std::collections::BTreeMap;
@@ -51,7 +52,7 @@ fn surplus(m: &Move, weights: &[u64]) -> i128 {
 
 /// The net's own refusal, 3 for another length than the place count, 4 for a weight above 1,000; else the lowest transition with a surplus or a lack.
 fn worked(case: &Case) -> [u64; 2] {
-    if let Some(number) = paths::fault(&case.net) {
+    if let Some(number) = player::fault(&case.net) {
         [number, 0]
     } else if case.weights.len() != case.net.places.len() {
         [3, 0]

@@ -1,9 +1,11 @@
 //! How long each leaf and a path take, ours beside the source's or Rust's own: one program, the same inputs,
 //! turn and turn about. What is shown is the least time of many rounds, so that other work on the
 //! machine counts as little as it can.
+use crate::carried::{carry, until, Carry, Lent, Until, HALTED, TIMERS};
 use crate::draw::Draw;
 use crate::ensembles;
 use crate::games;
+use crate::halts;
 use crate::leaves::{ways, ways_real};
 use crate::paths;
 use crate::rattle;
@@ -238,6 +240,62 @@ pub fn bench_game() {
         }
         let rate = |time: f64| answer[2] as f64 / time / 1e6;
         println!("{name:34} {:8.1} {:8.1} {:7.2} {:8.3} {:8.3}   {} positions", rate(best[0]), rate(best[1]), best[0] / best[1], best[0], best[1], answer[2]);
+    }
+}
+
+/// Microseconds a call of order 8 on the largest net with 256 timers running, and for comparison of a path call of one step: the least of many rounds, of
+/// which the copies that a call writes into are not timed. Each has to leave what the second player leaves.
+pub fn bench_carry() {
+    let net = halts::largest();
+    let fields = rattle::Fields::of(&net);
+    let mut call = Until { net: net.clone(), generator: [1, 2, 3, 4], instants: vec![2f64.powi(30)], limit: 1_000_000, named: 1000 };
+    let mut tried = Lent::littered(&mut Draw::new(7), 32);
+    until(&call, &mut tried);
+    let clock = tried.times[0];
+    println!("{:54} {:>8}", "microseconds a call; the bar of order 8 is 20", "ours");
+    let least = |name: &str, before: &Lent, run: &dyn Fn(&mut Lent)| {
+        let mut best = f64::INFINITY;
+        for _ in 0..ROUNDS {
+            let mut lent = black_box(before.clone());
+            let began = Instant::now();
+            run(&mut lent);
+            best = best.min(began.elapsed().as_nanos() as f64 / 1000.0);
+            black_box(lent);
+        }
+        println!("{name:54} {best:8.2}");
+    };
+    least("path, no step", &tried, &|lent| {
+        rattle::path(&fields, &mut [1, 2, 3, 4], &[0.0], 1, &mut lent.table);
+    });
+    for many in [10, 1024] {
+        // the clock is about the middle of them
+        call.instants = (0..many).map(|i| i as f64 * (2.0 * clock / (many - 1) as f64)).collect();
+        let empty = Lent::littered(&mut Draw::new(7), 32 * many);
+        least(&format!("path, limit 1, {many} instants"), &empty, &|lent| {
+            rattle::path(&fields, &mut [1, 2, 3, 4], &call.instants, 1, &mut lent.table);
+        });
+        for named in [0, 1] {
+            let run = |lent: &mut Lent| lent.told = rattle::path_until(&fields, &mut [1, 2, 3, 4], &call.instants, call.limit, named, &mut lent.table, &mut lent.words, &mut lent.times);
+            call.named = named;
+            let (mut ours, mut theirs) = (empty.clone(), empty.clone());
+            run(&mut ours);
+            until(&call, &mut theirs);
+            assert!(ours == theirs, "the answers differ: {}", ours.against(&theirs));
+            least(&format!("path_until naming {named}, {many} instants"), &empty, &run);
+        }
+        call.named = 1000;
+        let mut halted = empty.clone();
+        until(&call, &mut halted);
+        assert_eq!((halted.told[0], halted.words[TIMERS]), (HALTED, 256));
+        for named in [0, 1] {
+            let on = Carry::on(&net, &call.instants, named);
+            let run = |lent: &mut Lent| lent.told = rattle::carry(&fields, &fields, &on.pairs, &on.instants, named, &mut lent.table, &mut lent.words, &mut lent.times);
+            let (mut ours, mut theirs) = (halted.clone(), halted.clone());
+            run(&mut ours);
+            carry(&on, &mut theirs);
+            assert!(ours == theirs, "the answers differ: {}", ours.against(&theirs));
+            least(&format!("carry naming {named}, 256 timers, {many} instants, {} recorded", halted.told[2]), &halted, &run);
+        }
     }
 }
 

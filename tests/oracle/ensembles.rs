@@ -4,7 +4,8 @@
 //! the program pathrun.
 use crate::draw::Draw;
 use crate::nets::{Arc, Net};
-use crate::paths::{self, End, BEFORE, CELLS, MOST_STEPS};
+use crate::paths::{self, BEFORE, CELLS};
+use crate::player::{self, End, MOST_STEPS};
 use crate::rattle;
 use crate::report::same;
 use crate::ssa::inside::filled;
@@ -49,7 +50,7 @@ pub fn fault(case: &Case) -> Option<u64> {
         (10, !(0.0 < case.horizon && case.horizon <= 2f64.powi(30))),
         (11, case.net.places.len() as u64 * case.samples.min(2048) > CELLS as u64),
     ];
-    paths::fault(&case.net).or(tests.into_iter().find(|t| t.1).map(|t| t.0))
+    player::fault(&case.net).or(tests.into_iter().find(|t| t.1).map(|t| t.0))
 }
 
 /// What document 01 says of the case, with tables of 2,048 cells.
@@ -71,7 +72,7 @@ pub fn play(case: &Case) -> Answer {
             return Answer { outcome: Outcome::Stopped(number, k), tables: Some([none(), none(), none()]), zero };
         }
         spent += (path.end == End::Spent) as u64;
-        zero |= path.zero;
+        zero |= path.way.zero;
         last = path.cells.unwrap();
         for (c, v) in last.iter().enumerate() {
             sum[c] += v;
@@ -211,7 +212,7 @@ pub fn drawn(draw: &mut Draw) -> Case {
         paths::spoil(draw, &mut net);
     }
     // a path that would be long is cut by an earlier horizon, one that stands still by a net without transitions
-    if paths::fault(&net).is_none() && 0.0 < horizon && horizon <= 2f64.powi(30) {
+    if player::fault(&net).is_none() && 0.0 < horizon && horizon <= 2f64.powi(30) {
         let tried = paths::play(&paths::Case { net: net.clone(), state: splitmix64(seed), limit: SHORT, instants: vec![horizon] });
         if tried.end == End::Spent && tried.clock > 0.0 {
             horizon = tried.clock;
@@ -227,7 +228,7 @@ fn drawn_texts(seed: u64) -> impl Iterator<Item = (String, Case, Answer)> {
     let mut draw = Draw::new(seed);
     std::iter::repeat_with(move || drawn(&mut draw))
         .map(|case| (text(&case), case))
-        .filter(|(text, case)| text.len() <= 8192 && paths::fault(&case.net).is_none())
+        .filter(|(text, case)| text.len() <= 8192 && player::fault(&case.net).is_none())
         .map(|(text, case)| {
             let answer = play(&case);
             (text, case, answer)

@@ -3,6 +3,7 @@
 use crate::draw::Draw;
 use crate::nets::{Arc, Label, Move, Net, Place};
 use crate::paths::{self, block, bounded, one_of, plain, put, read, take};
+use crate::player;
 use crate::rattle;
 use crate::report::Report;
 use std::collections::BTreeMap;
@@ -46,7 +47,7 @@ pub fn by_library(case: &Case) -> [u64; 3] {
 fn refused(case: &Case) -> Option<u64> {
     let on = |side: u64| case.sides.iter().filter(|&&s| s == side).count();
     let one_side_each = case.sides.len() == case.net.moves.len() && on(FAULT) + on(RECOVERY) == case.sides.len();
-    if let Some(number) = paths::fault(&case.net) {
+    if let Some(number) = player::fault(&case.net) {
         Some(number)
     } else if case.net.moves.iter().any(|m| m.delay > 0.0) {
         Some(23)
@@ -65,7 +66,7 @@ fn refused(case: &Case) -> Option<u64> {
 fn moves(case: &Case, counts: &[i64], side: u64) -> Vec<(Option<usize>, Vec<i64>)> {
     let mut all = vec![];
     for (j, m) in case.net.moves.iter().enumerate() {
-        if case.sides[j] == side && paths::enabled(&case.net, counts, m) {
+        if case.sides[j] == side && player::enabled(&case.net, counts, m) {
             let mut after = counts.to_vec();
             for arc in &m.arcs {
                 match *arc {

@@ -6,6 +6,7 @@ use crate::games;
 use crate::kept;
 use crate::nets::{Arc, Label, Move, Net};
 use crate::paths::{self, block, bounded, plain, put, read, take};
+use crate::player;
 use crate::rattle::{self, Fields};
 use crate::report::Report;
 use std::collections::BTreeMap;
@@ -38,7 +39,7 @@ fn by_capacity(net: &Net, m: &Move, p: usize) -> bool {
 
 /// The net's own refusal and the masks as they were, or 0 and the index.
 fn worked(net: &Net, before: &Masks) -> (u64, Masks) {
-    if let Some(number) = paths::fault(net) {
+    if let Some(number) = player::fault(net) {
         return (number, *before);
     }
     let listed = |p: usize| (0..net.moves.len()).filter(|&j| by_arc(&net.moves[j], p) || by_capacity(net, &net.moves[j], p)).map(|j| 1 << j).sum();
@@ -190,7 +191,7 @@ pub fn compare(report: &mut Report, seed: u64, count: u64) {
         let mut draw = Draw::new(seed + 1);
         while seen.nets < count {
             let net = drawn(&mut draw);
-            if paths::fault(&net).is_none() {
+            if player::fault(&net).is_none() {
                 held(case, &mut draw, &net, None);
                 seen.add(&net);
             }

@@ -4,7 +4,8 @@
 use crate::draw::Draw;
 use crate::ensembles;
 use crate::nets::{Arc, Label, Move, Net, Place};
-use crate::paths::{self, block, one_of, put, read, take, Answer, Case, End, CELLS};
+use crate::paths::{self, block, one_of, put, read, take, Answer, Case, CELLS};
+use crate::player::End;
 use crate::report::Report;
 
 /// How many steps are compared at least.
@@ -71,7 +72,7 @@ fn gate(draw: &mut Draw, places: &[Place]) -> Arc {
 }
 
 /// Line order is free.
-fn shuffled<T>(draw: &mut Draw, mut xs: Vec<T>) -> Vec<T> {
+pub fn shuffled<T>(draw: &mut Draw, mut xs: Vec<T>) -> Vec<T> {
     for i in (1..xs.len()).rev() {
         xs.swap(i, draw.below(i as u64 + 1) as usize);
     }
@@ -238,7 +239,7 @@ fn horizon(net: &Net, state: [u64; 4], steps: u64) -> f64 {
 }
 
 /// A case of up to so many steps, by the pace at which its path begins.
-fn drawn(draw: &mut Draw, net: Net, most: u64) -> Case {
+pub fn drawn(draw: &mut Draw, net: Net, most: u64) -> Case {
     let state = [draw.word(), draw.word(), draw.word(), draw.word()];
     let steps = most / 6 + draw.below(most);
     let end = horizon(&net, state, steps);

@@ -4,16 +4,22 @@ mod against;
 mod balances;
 mod bench;
 mod binomials;
+mod carried;
+mod carry_cases;
+mod carry_refusals;
+mod changes;
 mod diffusions;
 mod draw;
 mod ensembles;
 mod games;
+mod halts;
 mod indexes;
 mod kept;
 mod leaves;
 #[allow(dead_code)]
 mod nets;
 mod paths;
+mod player;
 mod rattle;
 mod reasons;
 mod report;
@@ -40,14 +46,21 @@ fn main() {
             timers::compare(&mut report, number(seed), number(inputs) / 100);
             indexes::compare(&mut report, number(seed), number(inputs) / 50);
             kept::compare(&mut report, number(seed), 2 * kept::LEAST + number(inputs) / 2);
-            println!("{} passed, {} failed", report.passed, report.failed);
-            std::process::exit((report.failed > 0) as i32);
+            order_8(&mut report, number(seed), number(inputs));
+            report.end();
+        }
+        ["halts", seed, inputs] => {
+            let mut report = report::Report::default();
+            order_8(&mut report, number(seed), number(inputs));
+            report.end();
         }
         ["paths", seed, count, file] => paths::batch(number(seed), number(count), file),
+        ["carries", seed, count, file] => carry_cases::batch(number(seed), number(count), file),
         ["ensembles", seed, count, folder] => ensembles::texts(number(seed), number(count), folder),
-        ["record", leaves, paths, diffusions, ensembles] => {
+        ["record", leaves, paths, carries, diffusions, ensembles] => {
             sample::record(leaves);
             paths::record(paths);
+            carry_cases::record(carries);
             diffusions::record(diffusions);
             ensembles::record(ensembles);
         }
@@ -57,11 +70,20 @@ fn main() {
         ["bench-reader", folder] => bench::bench_reader(folder),
         ["bench-game"] => bench::bench_game(),
         ["bench-combinations"] => bench::bench_combinations(),
+        ["bench-carry"] => bench::bench_carry(),
         _ => {
-            eprintln!("compare SEED INPUTS | paths SEED COUNT FILE | ensembles SEED COUNT FOLDER | record FOLDER FOLDER FOLDER FILE | bench NETS | bench-paths NETS | bench-against NETS LIBRARY.. LIBRARY.. | bench-reader FOLDER | bench-game | bench-combinations");
+            eprintln!("compare SEED INPUTS | halts SEED INPUTS | paths SEED COUNT FILE | carries SEED COUNT FILE | ensembles SEED COUNT FOLDER | record FOLDER FOLDER FOLDER FOLDER FILE | bench NETS | bench-paths NETS | bench-against NETS LIBRARY.. LIBRARY.. | bench-reader FOLDER | bench-game | bench-combinations | bench-carry");
             std::process::exit(2);
         }
     }
+}
+
+/// Halting and carrying.
+fn order_8(report: &mut report::Report, seed: u64, inputs: u64) {
+    let count = 300 + inputs / 10_000;
+    halts::compare(report, seed, count);
+    changes::compare(report, seed, count);
+    carry_refusals::compare(report, seed, count);
 }
 
 fn number(word: &str) -> u64 {

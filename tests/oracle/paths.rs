@@ -1,16 +1,14 @@
-//! Whole paths: cases for the program crates/path_replay, and their answers. An answer is worked by a
-//! second player, written from document 01 and apart from both sides; where the source's `realization`
-//! has an answer, which is the counts and the generator after it, the two are held to be equal first.
-use crate::binomials::exact;
+//! Whole paths: cases for the program crates/path_replay, and their answers. An answer is worked by the
+//! second player; where the source's `realization` has an answer, which is the counts and the generator
+//! after it, the two are held to be equal first.
 use crate::draw::Draw;
 use crate::nets::{self, example, Arc, Label, Move, Net, Place};
+use crate::player::{self, amount, End, State, Way, MOST_STEPS, MOST_TOKENS};
 use crate::rattle;
 use crate::ssa::inside::filled;
 use crate::ssa::{plog, realization, splitmix64, Xoshiro256};
 use std::fmt::Write;
 
-pub const MOST_STEPS: u64 = 1_000_000;
-const MOST_TOKENS: i64 = 1 << 53;
 /// The cells of the program's table, and what stands in each before the call.
 pub const CELLS: usize = 2048;
 pub const BEFORE: f64 = 7.0;
@@ -23,306 +21,42 @@ pub struct Case {
     pub instants: Vec<f64>,
 }
 
-#[derive(Clone, Copy, PartialEq, Debug)]
-pub enum End {
-    Quiet,
-    Spent,
-    Reached,
-    Refused(u64),
-}
-
 #[derive(Clone)]
 pub struct Answer {
     pub end: End,
     pub steps: u64,
     pub settled: usize,
-    pub peak: i64,
+    pub peak: u64,
     /// The steps whose a0 adds a propensity above 0 with some binomial inexact.
     pub rounded: u64,
     pub state: [u64; 4],
     /// The counts shown, place by place; none where nothing is touched.
     pub cells: Option<Vec<f64>>,
-    /// Whether some race drew r = 0, for which the source has another rule.
-    pub zero: bool,
     /// The last reading of the clock.
     pub clock: f64,
     pub way: Way,
 }
 
-/// What happened on the way, by which a comparison knows what it has shown.
-#[derive(Clone, Copy, Default)]
-pub struct Way {
-    /// How many timers started, and for how many of them a read, an inhibitor or a capacity had kept tokens waiting.
-    pub started: u64,
-    pub waited: u64,
-    /// Whether a capacity alone kept some transition from running at some step.
-    pub held_back: bool,
-    /// How often a propensity came to 0 or left it, and how often a step was rounded and the one before it was not, or the other way about.
-    pub turned: u64,
-    pub marked: u64,
-}
-
-// ---- the second player
-
-fn amount(weight: i64) -> i64 {
-    weight.max(1)
-}
-
-/// Is it 1 to 16 letters a to z, digits or hyphens?
-fn label_fits(label: &Label) -> bool {
-    (1..=16).contains(&label.length) && label.bytes().iter().all(|&b| b.is_ascii_lowercase() || b.is_ascii_digit() || b == b'-')
-}
-
-/// The first of 2 to 7, 17 and 18 that applies, place by place and then transition by transition.
-pub fn fault(net: &Net) -> Option<u64> {
-    for (i, p) in net.places.iter().enumerate() {
-        if i >= 32 {
-            return Some(2);
-        }
-        if !(0..=MOST_TOKENS).contains(&p.initial) || !(0..=MOST_TOKENS).contains(&p.capacity) {
-            return Some(4);
-        }
-        if !label_fits(&p.label) {
-            return Some(17);
-        }
-        if net.places[..i].iter().any(|q| q.label.bytes() == p.label.bytes()) {
-            return Some(18);
-        }
-    }
-    if net.places.is_empty() {
-        return Some(2);
-    }
-    for (j, m) in net.moves.iter().enumerate() {
-        if j >= 64 || m.arcs.len() > 16 {
-            return Some(2);
-        }
-        if m.arcs.iter().any(|a| a.place() >= net.places.len()) {
-            return Some(3);
-        }
-        let rate = m.rate == 0.0 || (2f64.powi(-100) <= m.rate && m.rate <= 2f64.powi(100));
-        let delay = 0.0 <= m.delay && m.delay <= 2f64.powi(30);
-        if !rate || !delay || m.arcs.iter().any(|a| !(0..=1_000_000).contains(&a.weight())) {
-            return Some(4);
-        }
-        let mut taken: Vec<usize> = takes(m).map(|(p, ..)| p).collect();
-        taken.sort_unstable();
-        if taken.windows(2).any(|w| w[0] == w[1]) {
-            return Some(5);
-        }
-        if m.delay > 0.0 && taken.is_empty() {
-            return Some(6);
-        }
-        if takes(m).filter(|&(_, _, kinetic)| kinetic).map(|(_, w, _)| w).sum::<i64>() > 16 {
-            return Some(7);
-        }
-    }
-    None
-}
-
-fn takes(m: &Move) -> impl Iterator<Item = (usize, i64, bool)> + '_ {
-    m.arcs.iter().filter_map(|a| match *a {
-        Arc::Take { place, weight, kinetic } => Some((place, amount(weight), kinetic)),
-        _ => None,
-    })
-}
-
-fn puts(m: &Move) -> impl Iterator<Item = (usize, i64)> + '_ {
-    m.arcs.iter().filter_map(|a| match *a {
-        Arc::Put { place, weight } => Some((place, amount(weight))),
-        _ => None,
-    })
-}
-
-/// Do its takes, reads and inhibitors let it run?
-fn open(counts: &[i64], m: &Move) -> bool {
-    m.arcs.iter().all(|a| match *a {
-        Arc::Take { place, weight, .. } | Arc::Read { place, weight } => amount(weight) <= counts[place],
-        Arc::Block { place, weight } => counts[place] < amount(weight),
-        Arc::Put { .. } => true,
-    })
-}
-
-/// By how much it puts more into place p than it takes from it.
-fn net_change(m: &Move, p: usize) -> i64 {
-    let put: i64 = puts(m).filter(|&(q, _)| q == p).map(|(_, w)| w).sum();
-    let taken: i64 = takes(m).filter(|&(q, ..)| q == p).map(|(_, w, _)| w).sum();
-    put - taken
-}
-
-/// Do the capacities?
-fn has_room(net: &Net, counts: &[i64], m: &Move) -> bool {
-    (0..counts.len()).filter(|&p| net.places[p].capacity > 0).all(|p| {
-        let change = net_change(m, p);
-        change <= 0 || counts[p] + change <= net.places[p].capacity
-    })
-}
-
-pub fn enabled(net: &Net, counts: &[i64], m: &Move) -> bool {
-    open(counts, m) && has_room(net, counts, m)
-}
-
-/// The ways to choose w of m tokens: multiplied and divided factor by factor.
-fn ways(m: i64, w: i64) -> f64 {
-    (0..w).fold(1.0, |x, i| x * (m - i) as f64 / (i + 1) as f64)
-}
-
-fn propensity(net: &Net, counts: &[i64], m: &Move) -> f64 {
-    if m.delay > 0.0 || !enabled(net, counts, m) {
-        return 0.0;
-    }
-    let rate = if m.rate == 0.0 { 1.0 } else { m.rate };
-    takes(m).filter(|&(_, _, kinetic)| kinetic).fold(rate, |x, (p, w, _)| x * ways(counts[p], w))
-}
-
-/// Is some binomial among the factors of its propensity inexact?
-fn inexact(counts: &[i64], m: &Move) -> bool {
-    takes(m).any(|(p, w, kinetic)| kinetic && !exact(ways(counts[p], w), counts[p], w))
-}
-
-/// A running timer: when it completes, how many were started before it, whose it is, and the weight that its start took.
-struct Timer {
-    at: f64,
-    number: u64,
-    who: usize,
-    taken: i64,
-}
-
-fn fits(xs: &[f64]) -> bool {
-    let low = [0.0].into_iter().chain(xs.iter().copied());
-    (1..=1024).contains(&xs.len()) && low.zip(xs).all(|(a, &b)| a <= b) && xs.iter().all(|&x| x <= 2f64.powi(31))
-}
+// ---- by the second player
 
 fn turned_down(case: &Case, number: u64, cells: Option<Vec<f64>>) -> Answer {
-    Answer { end: End::Refused(number), steps: 0, settled: 0, peak: 0, rounded: 0, state: case.state, cells, zero: false, clock: 0.0, way: Way::default() }
+    Answer { end: End::Refused(number), steps: 0, settled: 0, peak: 0, rounded: 0, state: case.state, cells, clock: 0.0, way: Way::default() }
 }
 
-/// What document 01 says of the case.
+/// What document 01 says of the case, with a table of 2,048 cells.
 pub fn play(case: &Case) -> Answer {
     let (net, xs) = (&case.net, &case.instants);
-    if let Some(number) = fault(net) {
+    if let Some(number) = player::path_fault(net, xs, case.limit, CELLS) {
         return turned_down(case, number, None);
     }
-    if !fits(xs) {
-        return turned_down(case, 12, None);
+    let mut table = vec![BEFORE; net.places.len() * xs.len()];
+    let mut state = State::beginning(net, case.state, xs, case.limit, &mut table);
+    let (end, way) = player::play_on(net, &mut state, case.limit, &mut table);
+    if let End::Refused(number) = end {
+        return turned_down(case, number, Some(table));
     }
-    if !(1..=MOST_STEPS).contains(&case.limit) {
-        return turned_down(case, 13, None);
-    }
-    let cells = net.places.len() * xs.len();
-    if cells > CELLS {
-        return turned_down(case, 11, None);
-    }
-    run(case).unwrap_or_else(|number| turned_down(case, number, Some(vec![0.0; cells])))
-}
-
-/// At a moment, all place counts and the weights taken by each running timer, worked anew: the peak is the largest of these.
-fn moment(counts: &[i64], timers: &[Timer], peak: &mut i64) {
-    *peak = (*peak).max(counts.iter().sum::<i64>() + timers.iter().map(|timer| timer.taken).sum::<i64>());
-}
-
-/// An accepted case, or by which of 14 and 15 it is turned down.
-fn run(case: &Case) -> Result<Answer, u64> {
-    let (net, xs) = (&case.net, &case.instants);
-    let last = *xs.last().unwrap();
-    let mut counts: Vec<i64> = net.places.iter().map(|p| p.initial).collect();
-    let mut timers: Vec<Timer> = vec![];
-    let mut rng = Xoshiro256::from_state(case.state);
-    let mut shown: Vec<Vec<i64>> = vec![];
-    let (mut clock, mut steps, mut rounded, mut started, mut zero) = (0.0, 0, 0, 0, false);
-    let (mut way, mut waiting, mut raced, mut marked) = (Way::default(), vec![false; net.moves.len()], vec![false; net.moves.len()], false);
-    let read = |clock: f64, counts: &[i64], shown: &mut Vec<Vec<i64>>| {
-        while shown.len() < xs.len() && xs[shown.len()] <= clock {
-            shown.push(counts.to_vec());
-        }
-    };
-    read(clock, &counts, &mut shown);
-    let mut peak = 0;
-    moment(&counts, &timers, &mut peak);
-    let end = loop {
-        if clock >= last {
-            break End::Reached;
-        }
-        if steps == case.limit {
-            break End::Spent;
-        }
-        steps += 1;
-        loop {
-            let before = started;
-            for (who, m) in net.moves.iter().enumerate() {
-                if m.delay > 0.0 && enabled(net, &counts, m) {
-                    if timers.len() == 256 {
-                        return Err(15);
-                    }
-                    takes(m).for_each(|(p, w, _)| counts[p] -= w);
-                    timers.push(Timer { at: clock + m.delay, number: started, who, taken: takes(m).map(|(_, w, _)| w).sum() });
-                    started += 1;
-                    way.waited += std::mem::take(&mut waiting[who]) as u64;
-                    moment(&counts, &timers, &mut peak);
-                }
-            }
-            if started == before {
-                break;
-            }
-        }
-        let a: Vec<f64> = net.moves.iter().map(|m| propensity(net, &counts, m)).collect();
-        let a0 = a.iter().fold(0.0, |sum, x| sum + x);
-        let inexact = a.iter().zip(&net.moves).any(|(&a, m)| a > 0.0 && inexact(&counts, m));
-        rounded += inexact as u64;
-        for (j, m) in net.moves.iter().enumerate() {
-            waiting[j] = m.delay > 0.0 && takes(m).all(|(p, w, _)| w <= counts[p]);
-            way.held_back |= open(&counts, m) && !has_room(net, &counts, m);
-            way.turned += (raced[j] != (a[j] > 0.0)) as u64;
-            raced[j] = a[j] > 0.0;
-        }
-        way.marked += (inexact != marked && steps > 1) as u64;
-        marked = inexact;
-        let race = if a0 > 0.0 { clock + -plog(1.0 - rng.uniform()) / a0 } else { f64::INFINITY };
-        let first = (0..timers.len()).min_by(|&i, &k| {
-            let (x, y) = (&timers[i], &timers[k]);
-            x.at.partial_cmp(&y.at).unwrap().then(x.number.cmp(&y.number))
-        });
-        let completes = first.filter(|&i| timers[i].at <= race);
-        clock = match completes {
-            Some(i) => timers[i].at,
-            None if a0 > 0.0 => race,
-            None => break End::Quiet,
-        };
-        read(clock, &counts, &mut shown);
-        if clock > last {
-            break End::Reached;
-        }
-        let who = match completes {
-            Some(i) => timers.remove(i).who,
-            None => {
-                let r = rng.uniform() * a0;
-                zero |= r == 0.0;
-                let positive = || (0..a.len()).filter(|&j| a[j] > 0.0);
-                let sum = |j: usize| a[..=j].iter().fold(0.0, |sum, x| sum + x);
-                let j = positive().find(|&j| r <= sum(j)).or(positive().last()).unwrap();
-                takes(&net.moves[j]).for_each(|(p, w, _)| counts[p] -= w);
-                j
-            }
-        };
-        puts(&net.moves[who]).for_each(|(p, w)| counts[p] += w);
-        if counts.iter().any(|&c| c > MOST_TOKENS) {
-            return Err(14);
-        }
-        moment(&counts, &timers, &mut peak);
-    };
-    let settled = if end == End::Spent { shown.len() } else { xs.len() };
-    shown.resize(xs.len(), counts);
-    Ok(Answer {
-        end,
-        steps,
-        settled,
-        peak,
-        rounded,
-        state: rng.state(),
-        cells: Some((0..net.places.len()).flat_map(|p| shown.iter().map(move |c| c[p] as f64)).collect()),
-        zero,
-        clock,
-        way: Way { started, ..way },
-    })
+    let State { clock, generator, steps, peak, rounded, .. } = state;
+    Answer { end, steps, settled: state.settled(end), peak, rounded, state: generator, cells: Some(table), clock, way }
 }
 
 // ---- the source
@@ -330,7 +64,7 @@ fn run(case: &Case) -> Result<Answer, u64> {
 /// Whether the source's answer to a case is what the second player says; None where the source has
 /// none, or another rule: where the run is turned down or spent, and where r is 0.
 pub fn source_agrees(case: &Case, answer: &Answer) -> Option<bool> {
-    if matches!(answer.end, End::Refused(_)) || (answer.end == End::Spent && case.limit != MOST_STEPS) || answer.zero {
+    if matches!(answer.end, End::Refused(_)) || (answer.end == End::Spent && case.limit != MOST_STEPS) || answer.way.zero {
         return None;
     }
     let mut rng = Xoshiro256::from_state(case.state);
@@ -373,27 +107,21 @@ fn put_case(out: &mut String, case: &Case) {
     case.instants.iter().take(CELLS).for_each(|x| n(x.to_bits()));
 }
 
-impl End {
-    /// As the library tells it.
-    fn number(self) -> u64 {
-        match self {
-            End::Refused(number) => number,
-            End::Quiet => 100,
-            End::Spent => 101,
-            End::Reached => 102,
-        }
+/// An end as the programs write it, by the number that the library tells.
+pub fn end_word(number: u64) -> String {
+    match number {
+        100 => "quiet".into(),
+        101 => "spent".into(),
+        102 => "reached".into(),
+        103 => "halted".into(),
+        number => format!("refused {number}"),
     }
 }
 
 /// The line that the program writes for a case, by the numbers that the library tells: the end, the steps, the settled instants, the peak and the rounded
 /// steps.
 fn line(case: &Case, told: [u64; 5], state: [u64; 4], table: &[f64]) -> String {
-    let mut out = match told[0] {
-        100 => "quiet".into(),
-        101 => "spent".into(),
-        102 => "reached".into(),
-        number => format!("refused {number}"),
-    };
+    let mut out = end_word(told[0]);
     told[1..].iter().for_each(|n| write!(out, " {n}").unwrap());
     state.iter().for_each(|w| write!(out, " {w:016x}").unwrap());
     let places = case.net.places.len();
@@ -409,7 +137,7 @@ impl Answer {
         if let Some(cells) = &self.cells {
             table[..cells.len()].copy_from_slice(cells);
         }
-        line(case, [self.end.number(), self.steps, self.settled as u64, self.peak as u64, self.rounded], self.state, &table)
+        line(case, [self.end.number(), self.steps, self.settled as u64, self.peak, self.rounded], self.state, &table)
     }
 }
 
@@ -418,7 +146,7 @@ impl Answer {
     pub fn peak_unseen(&self, case: &Case) -> bool {
         let instants = case.instants.len();
         let sum = |cells: &[f64], i: usize| cells.iter().skip(i).step_by(instants).map(|&c| c as i64).sum::<i64>();
-        self.cells.as_ref().is_some_and(|cells| (0..instants).all(|i| sum(cells, i) < self.peak))
+        self.cells.as_ref().is_some_and(|cells| (0..instants).all(|i| sum(cells, i) < self.peak as i64))
     }
 }
 
@@ -678,7 +406,7 @@ pub fn edges() -> Vec<Case> {
 }
 
 /// Cases whose peak document 02's order 2 gives by pencil, whatever is drawn.
-pub fn peaks() -> Vec<(Case, i64)> {
+pub fn peaks() -> Vec<(Case, u64)> {
     let most = MOST_STEPS;
     let mut v = vec![];
     // document 01's net: at 1 both subscribers are in timers; a limit, and a last instant before the completions
@@ -714,7 +442,7 @@ pub fn peaks() -> Vec<(Case, i64)> {
     for firings in [0, 1, 256] {
         let moves = vec![(0.0, 2f64.powi(20), heavy.clone()), (1.0, 0.0, again.clone())];
         let end = if firings == 0 { 0.0 } else { 2f64.powi(19) };
-        v.push((case(net(&initial, moves), firings.max(1), &[end]), 31 * full + 256 + firings as i64 * 15_000_000));
+        v.push((case(net(&initial, moves), firings.max(1), &[end]), 31 * full as u64 + 256 + firings * 15_000_000));
     }
     v
 }
@@ -789,24 +517,29 @@ pub fn drawn_net(draw: &mut Draw) -> Net {
     let moves = (0..moves)
         .map(|_| {
             let timed = with_delays && draw.below(3) == 0;
-            Move {
-                rate: match draw.below(24) {
-                    0 => 2f64.powi(draw.below(201) as i32 - 100),
-                    1..=4 => 0.0,
-                    5 => -0.0,
-                    _ => (draw.unit() * 8.0 - 5.0).exp2(),
-                },
-                delay: match draw.below(16) {
-                    _ if !timed => 0.0,
-                    0 => 2f64.powi(draw.below(130) as i32 - 100),
-                    1..=9 => one_of(draw, &[0.25, 0.5, 0.5, 1.0, 1.0, 1.5, 2.0]),
-                    _ => draw.unit() * 4.0,
-                },
-                arcs: drawn_arcs(draw, places.len(), timed, arcs),
-            }
+            drawn_move(draw, places.len(), timed, arcs)
         })
         .collect();
     Net { places, moves }
+}
+
+/// A transition over so many places, of at most so many arcs.
+pub fn drawn_move(draw: &mut Draw, places: usize, timed: bool, arcs: u64) -> Move {
+    Move {
+        rate: match draw.below(24) {
+            0 => 2f64.powi(draw.below(201) as i32 - 100),
+            1..=4 => 0.0,
+            5 => -0.0,
+            _ => (draw.unit() * 8.0 - 5.0).exp2(),
+        },
+        delay: match draw.below(16) {
+            _ if !timed => 0.0,
+            0 => 2f64.powi(draw.below(130) as i32 - 100),
+            1..=9 => one_of(draw, &[0.25, 0.5, 0.5, 1.0, 1.0, 1.5, 2.0]),
+            _ => draw.unit() * 4.0,
+        },
+        arcs: drawn_arcs(draw, places, timed, arcs),
+    }
 }
 
 /// A fault put into a net, so that it is turned down.

@@ -63,6 +63,12 @@ mod c {
         fn cild_game(sides: *const u64, n: usize, named: u64, count: u64, turns: u64, told: *mut [u64; 3]);
         fn cild_balance(weights: *const u64, n: usize, told: *mut [u64; 2]);
         fn cild_index(masks: *mut [u64; 32]) -> u64;
+        fn cild_path_until(state: *mut [u64; 4], instants: *const f64, n: usize, limit: u64, named: u64, table: *mut f64, cells: usize, halted: *mut [u64; 816], times: *mut [f64; 257], told: *mut [u64; 5]);
+        fn cild_carry(
+            new_places: usize, new_transitions: usize, new_initial: *const [u64; 32], new_capacity: *const [u64; 32], new_label: *const [u8; 512], new_lengths: *const [usize; 32],
+            new_rate: *const [f64; 64], new_delay: *const [f64; 64], new_arcs: *const [usize; 64], new_kind: *const [u64; 1024], new_place: *const [usize; 1024], new_weight: *const [u64; 1024],
+            pairs: *const u64, words: usize, instants: *const f64, n: usize, named: u64, table: *mut f64, cells: usize, halted: *mut [u64; 816], times: *mut [f64; 257], told: *mut [u64; 5]
+        );
     }
 }
 
@@ -239,6 +245,23 @@ pub fn read(text: &[u8]) -> [u64; 2] {
 pub fn path(f: &Fields, state: &mut [u64; 4], instants: &[f64], limit: u64, table: &mut [f64]) -> [u64; 5] {
     let mut told = [0; 5];
     lend!(c::cild_path, f, state, instants.as_ptr(), instants.len(), limit, table.as_mut_ptr(), table.len(), &mut told);
+    told
+}
+
+/// The same of a path that halts after so many steps (103), with the state that it is left in.
+pub fn path_until(f: &Fields, state: &mut [u64; 4], instants: &[f64], limit: u64, named: u64, table: &mut [f64], halted: &mut [u64; 816], times: &mut [f64; 257]) -> [u64; 5] {
+    let mut told = [7; 5];
+    lend!(c::cild_path_until, f, state, instants.as_ptr(), instants.len(), limit, named, table.as_mut_ptr(), table.len(), halted, times, &mut told);
+    told
+}
+
+/// A halted path carried from one net to another by pairs of transition numbers, and played on.
+pub fn carry(old: &Fields, new: &Fields, pairs: &[u64], instants: &[f64], named: u64, table: &mut [f64], halted: &mut [u64; 816], times: &mut [f64; 257]) -> [u64; 5] {
+    let mut told = [7; 5];
+    lend!(
+        c::cild_carry, old, new.places, new.transitions, &new.initial, &new.capacity, &new.label, &new.lengths, &new.rate, &new.delay, &new.arcs, &new.kind, &new.place, &new.weight,
+        pairs.as_ptr(), pairs.len(), instants.as_ptr(), instants.len(), named, table.as_mut_ptr(), table.len(), halted, times, &mut told
+    );
     told
 }
 

@@ -2,7 +2,8 @@
 //! adds, the lent buffer, the refusals of a net and 19, is worked out here.
 use crate::draw::Draw;
 use crate::nets::{example, Arc, Label, Move, Net, Place};
-use crate::paths::{drawn_label, fault, one_of, spoil, spoil_label};
+use crate::paths::{drawn_label, one_of, spoil, spoil_label};
+use crate::player::fault;
 use crate::rattle;
 use crate::report::Report;
 use crate::ssa::inside::filled;

@@ -6,6 +6,9 @@ pub struct Report {
     pub failed: u64,
 }
 
+/// What a comparison hands each case to.
+pub type Cases<'a> = &'a mut dyn FnMut(bool, &dyn Fn() -> String);
+
 /// How many differences of one comparison are shown.
 const SHOWN: u64 = 5;
 
@@ -30,6 +33,12 @@ impl Report {
         } else {
             self.failed += 1;
         }
+    }
+
+    /// The last line, and the end of the program.
+    pub fn end(self) -> ! {
+        println!("{} passed, {} failed", self.passed, self.failed);
+        std::process::exit((self.failed > 0) as i32)
     }
 }
 
