@@ -1,16 +1,14 @@
 // The renaming list: pairs of old and new transition numbers, two words a pair.
 ghost use mathlib.Core.Path.{_≡_};
-ghost use mathlib.Core.Bool.{true, false, _&&_, not};
-ghost use mathlib.Core.List.{List, map};
+ghost use mathlib.Core.Bool.{true, false, not};
+ghost use mathlib.Core.List.{List};
 ghost use Prim.Native.Nat.{ℕ, _<_, _≤_};
 ghost use lib.Ieee.{Float};
 ghost use lib.ListN.{length, getD};
-ghost use Rattle.words.specs.Bits.{bit};
 ghost use Rattle.net.specs.Net as Net;
 ghost use Rattle.net.specs.Tests as Tests;
 ghost use Rattle.rules.specs.Change as Change;
 ghost use Rattle.rules.specs.Timers as Rule;
-ghost use Rattle.rules.specs.Moves as Moves;
 ghost use Rattle.carried.specs.Pairs as Pairs;
 ghost use Rattle.carried.specs.Timers as Timers;
 use engine::sets;

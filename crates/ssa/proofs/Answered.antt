@@ -17,7 +17,7 @@ use Rattle.rules.specs.Step.{State, state, Answer, refused, given}
 use Rattle.rules.specs.Run.{End, quiet, spent, reached, halted, beginning, Outcome, outcome}
 use Rattle.rules.specs.Moments.{start, sumOf, tokens}
 use Rattle.rules.specs.Shown.{Path, rising, lastOf, reported, runOf, worked}
-use Rattle.rules.specs.Carried.{isHalted, filledBy}
+use Rattle.rules.specs.Carried.{isHalted}
 use Rattle.rules.proofs.Runs.{spent-unhalted}
 use Rattle.rules.proofs.Play.{Played, upTo, beyond, alike, over, higher, play, settledBy, played-path}
 use Rattle.rules.proofs.PlayLaws as Rule
@@ -25,7 +25,7 @@ use Rattle.rules.proofs.PlayLaws.{addDone}
 use Rattle.ssa.specs.declared.PathEnd.{PathEnd}
 use Rattle.ssa.specs.declared.PathEnd.the-variants.{Quiet, Spent, Reached, Halted, Refused}
 use Rattle.ssa.specs.declared.run.Walked.{Walked}
-use Rattle.ssa.specs.Cells.{tableWith, tableOf, cleared, ShownBy}
+use Rattle.ssa.specs.Cells.{tableWith, tableOf, ShownBy}
 use Rattle.ssa.specs.Path.{Call, played, endOf}
 use Rattle.ssa.specs.Playing.{PlayedBy, refuses, ends, settledAt, toldOf, answerOf}
 use Rattle.ssa.proofs.Cells.{cleared-stay}

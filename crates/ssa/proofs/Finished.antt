@@ -1,15 +1,15 @@
 -- The end of a run in the cells: what the loop has shown is written from its first instant on, and what the end adds is written behind it (proofs/Columns,
 -- with-with), or nothing is where it is halted; a refusal clears the cells of the answer, whatever was shown.
 use Prim.Native.Nat.{ℕ, suc, _-_, _*_, _≤_, _<_}
-use mathlib.Core.Path.{_≡_, refl, sym, ap, subst, _∙_}
+use mathlib.Core.Path.{_≡_, refl, sym, ap, _∙_}
 use mathlib.Core.Bool.{false}
 use mathlib.Core.List.{List, [], _∷_, _++_, append-nil}
 use native.Mathlib.Omega.{arith}
 use native.Mathlib.Nat.{not-suc-le-zero}
 use lib.ListN.{length, getD, drop, length-append, length-drop}
 use lib.Ieee.{Float, nan}
-use Rattle.net.specs.Net.{Marking, pick}
-use Rattle.rules.specs.Step.{State, Answer, refused, given}
+use Rattle.net.specs.Net.{Marking}
+use Rattle.rules.specs.Step.{State, Answer}
 use Rattle.rules.specs.Run.{End, quiet, spent, reached, halted}
 use Rattle.rules.specs.Shown.{lastOf}
 use Rattle.rules.specs.Carried.{isHalted, filledBy}
@@ -18,11 +18,10 @@ use Rattle.rules.proofs.PlayLaws.{alike-length}
 use Rattle.ssa.specs.declared.PathEnd.{PathEnd}
 use Rattle.ssa.specs.declared.PathEnd.the-variants.{Quiet, Spent, Reached, Halted, Refused}
 use Rattle.ssa.specs.declared.run.Walked.{Walked}
-use Rattle.ssa.specs.Cells.{tableWith, cleared, Stay, Filled, FinishedBy}
-use Rattle.ssa.specs.Path.{endOf}
+use Rattle.ssa.specs.Cells.{tableWith, Stay, Filled, FinishedBy}
 use Rattle.ssa.specs.Playing.{Listed, WalkBy, PlayedBy, refuses, ends}
 use Rattle.ssa.proofs.Cells.{cleared-stay}
-use Rattle.ssa.proofs.Columns.{listed-with, filled-with, with-with, with-long}
+use Rattle.ssa.proofs.Columns.{listed-with, filled-with, with-with}
 
 -- the last instant, by its index
 pub last-at : (xs : List Float) → 0 < length xs → getD xs (length xs - 1) nan ≡ lastOf xs

@@ -1,6 +1,6 @@
 -- A path played in a loop. `SoFar` is what holds between two steps: the whole run is what has been shown and the run that follows from here; a step carries
 -- it on or ends it (rules, proofs/PlayLaws).
-use Prim.Native.Nat.{ℕ, suc, _+_, _-_, _≤_, _<_, max}
+use Prim.Native.Nat.{ℕ, suc, _+_, _-_, _≤_, max}
 use mathlib.Core.Path.{_≡_, refl, sym, ap, subst, _∙_}
 use mathlib.Core.Bool.{Bool, true, false}
 use mathlib.Core.List.{List, [], _∷_, _++_, append-nil}
@@ -10,7 +10,7 @@ use lib.ListN.{length, drop, length-append, length-drop}
 use lib.Ieee.{Float, lt, le}
 use Rattle.net.specs.Net.{Net, Marking, pick}
 use Rattle.net.specs.Tests.{empty}
-use Rattle.rules.specs.Step.{State, Answer, refused, given, nobody, Event, sets, step}
+use Rattle.rules.specs.Step.{State, Answer, given, nobody, Event, sets, step}
 use Rattle.rules.specs.Run.{End, quiet, reached}
 use Rattle.rules.specs.Demand3.{takesOnce}
 use Rattle.rules.proofs.Counts.{once-each}
@@ -20,7 +20,7 @@ use Rattle.rules.proofs.PlayLaws.{addDone}
 use Rattle.ssa.specs.declared.PathEnd.{PathEnd}
 use Rattle.ssa.specs.declared.PathEnd.the-variants.{Quiet, Reached, Refused}
 use Rattle.ssa.specs.declared.run.Walked.{Walked}
-use Rattle.ssa.specs.Cells.{reachedBy, Filled, ShownBy, NotShown}
+use Rattle.ssa.specs.Cells.{reachedBy, ShownBy, NotShown}
 use Rattle.ssa.specs.Path.{endOf}
 use Rattle.ssa.specs.declared.step.Ending.the-variants as Ending
 use Rattle.ssa.specs.Stepping.{tokensOf, Topped, StepBy, goesOn, quiet as no-more, reached as passed, starting, putting}

@@ -1,6 +1,6 @@
 // What a carrying call tests after its nets, and the path of one that is accepted.
 ghost use mathlib.Core.Path.{_≡_};
-ghost use mathlib.Core.Bool.{true, false, not};
+ghost use mathlib.Core.Bool.{false, not};
 ghost use mathlib.Core.List.{List};
 ghost use mathlib.Core.Option.{none};
 ghost use Prim.Native.Nat.{ℕ, _*_, _≤_};
@@ -8,14 +8,13 @@ ghost use lib.Ieee.{Float};
 ghost use lib.ListN.{length};
 ghost use Rattle.net.specs.Net as Net;
 ghost use Rattle.net.specs.Readable as Record;
-ghost use Rattle.net.specs.Record.{lent, labelled};
+ghost use Rattle.net.specs.Record.{labelled};
 ghost use Rattle.net.specs.Tests as Tests;
 ghost use Rattle.net.specs.declared.Net.{Net as NetRecord};
 ghost use Rattle.rules.specs.Carried as Rule;
 ghost use Rattle.rules.specs.Change as Change;
 ghost use Rattle.rules.specs.Moments as Moments;
 ghost use Rattle.rules.specs.Timers.{Timer};
-ghost use Rattle.engine.specs.Engine as Engine;
 ghost use Rattle.carried.specs.Pairs as Pairs;
 ghost use Rattle.carried.specs.Pairs.{pairsOf};
 ghost use Rattle.carried.specs.Records as Records;

@@ -1,6 +1,5 @@
 // The loop of a path: steps while the clock is below the last instant and the limit allows; then the instants that are left are shown.
 ghost use mathlib.Core.Path.{_≡_};
-ghost use mathlib.Core.Bool.{true};
 ghost use Prim.Native.Nat.{ℕ, _+_, _*_, _<_, _≤_};
 ghost use lib.Dec.{ltb};
 ghost use lib.ListN.{length};

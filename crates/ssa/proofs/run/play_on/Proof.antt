@@ -1,10 +1,9 @@
 -- What is kept is as at a first step (proofs/Carrying, carried-first); the loop and the end leave the cells of the run (proofs/Finished, played-by).
 use borrow.Author.Needs.{needs}
 use native.Mathlib.Omega.{arith}
-use mathlib.Core.Path.{sym, subst, _∙_}
-use Prim.Native.Nat.{_-_}
-use lib.ListN.{length, getD, drop}
-use lib.Ieee.{Float, nan}
+use mathlib.Core.Path.{sym, subst}
+use lib.ListN.{length, drop}
+use lib.Ieee.{Float}
 use Rattle.net.specs.Net.{Marking}
 use Rattle.net.specs.Readable.{readable}
 use Rattle.net.specs.Record.{lent}

@@ -1,11 +1,9 @@
 -- The beginning shows the instants at most 0, and the run from there is the path's (proofs/Answered, path-answered).
 use borrow.Author.Needs.{needs}
 use native.Mathlib.Omega.{arith}
-use mathlib.Core.Path.{_≡_, refl, ap, sym, subst, _∙_}
+use mathlib.Core.Path.{refl, ap, sym, subst, _∙_}
 use mathlib.Core.Logic.{inl}
-use lib.ListN.{length, drop, replicate}
-use lib.Ieee.{Float}
-use mathlib.Core.List.{List, []}
+use lib.ListN.{drop, replicate}
 use Rattle.net.specs.Net.{zero64}
 use Rattle.net.specs.Readable.{readable}
 use Rattle.net.specs.Record.{lent}
