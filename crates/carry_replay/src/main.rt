@@ -4,6 +4,8 @@
 // naming call and of the carrying call, which is handed what the first gives: the end, the settled instants, where the path stands (steps, limit, peak,
 // rounded steps, recorded instants, clock, generator, 32 counts, the number of timers, and each by its completion time, transition and taken weight), and
 // the answer's cells by their bits, with the one behind them. The table has 2,048 cells of 7. No more is read than 2,048 instants.
+ghost use mathlib.Core.Path.{_≡_};
+ghost use Prim.Native.Nat.{min};
 use net::Net;
 use net_text::float_of;
 use replay_io::next_number;
@@ -106,6 +108,16 @@ fn write_answer(r: Onward) {
     write_path(s);
 }
 
+// A number, or the other if it is larger.
+fn at_most(n: usize, most: usize) -> usize
+    ensures { λ r. ⌜ r ≡ min n most ⌝ }
+{
+    if n < most {
+        return n;
+    }
+    most
+}
+
 // The naming call, over the first n of the instants.
 fn name(
     net: Net,
@@ -116,7 +128,7 @@ fn name(
     named: u64,
     table: &mut [f64],
 ) -> Onward {
-    let m = if n <= instants.len() { n } else { 0 };
+    let m = at_most(n, instants.len());
     ssa::path_until(net, generator, &instants[..m], limit, named, table)
 }
 
@@ -132,8 +144,8 @@ fn carry(
     named: u64,
     table: &mut [f64],
 ) -> Onward {
-    let m = if n <= instants.len() { n } else { 0 };
-    let l = if k <= pairs.len() { k } else { 0 };
+    let m = at_most(n, instants.len());
+    let l = at_most(k, pairs.len());
     ssa::carry(old, new, &pairs[..l], path, &instants[..m], named, table)
 }
 
