@@ -2,28 +2,22 @@
 -- the whole. A turn looks at one pair, and puts its numbers into the sets. Assumes nothing.
 use Prim.Native.Nat.{ℕ, suc, _+_, _*_, _/_, _^_, _≤_, _<_}
 use mathlib.Core.Path.{_≡_, refl, sym, ap, _∙_}
-use mathlib.Core.Bool.{Bool, true, false, _||_, not, or-assoc, or-true}
+use mathlib.Core.Bool.{Bool, true, false, _||_, not, or-false, or-true}
 use mathlib.Core.List.{List, [], _∷_, map}
 use native.Mathlib.Omega.{arith}
-use lib.Bits.{bitAnd, and-mask}
+use lib.Bits.{bitAnd}
 use lib.Dec.{eqb, leb}
 use lib.Seq.{drop-cons}
 use lib.ListN.{length, getD, drop, length-drop}
-use borrow.Author.Tests.{eq-eqb, ne-eqb, eqb-true, eqb-false, le-leb, lt-leb}
+use borrow.Author.Tests.{eq-eqb, ne-eqb, le-leb, lt-leb}
 use Rattle.words.specs.Bits.{bit}
-use Rattle.words.proofs.Bits.{bit-none}
+use Rattle.words.proofs.Bits.{bit-tested}
 use Rattle.net.specs.Net.{Net}
-use Rattle.net.specs.Tests.{any, twice}
+use Rattle.net.specs.Tests.{any}
 use Rattle.net.proofs.Slots.{or-stop, or-go}
+use Rattle.net.proofs.Twice.{eqb-swap, again, again-none, again-turn}
 use Rattle.rules.specs.Change.{Pair, listStrange}
-use Rattle.engine.proofs.Arcs.{on-bool}
 use Rattle.carried.specs.Pairs.{pairsOf}
-
--- ---- a bit, as the code tests it
-
-pub tested : (word j : ℕ) → eqb (bitAnd (word / 2 ^ j) 1) 1 ≡ bit word j
-unfolding bit
-tested word j = ap (λ (x : ℕ). eqb x 1) (and-mask (word / 2 ^ j) 1)
 
 -- ---- the pairs in words, from pair i on: one and the rest, or none
 
@@ -56,32 +50,13 @@ mix true b c d = refl
 mix false true c d = sym (or-true c)
 mix false false c d = refl
 
-any-or : {A : Type 0} (f g : A → Bool) (xs : List A) → any (λ (x : A). f x || g x) xs ≡ (any f xs || any g xs)
-any-or f g [] = refl
-any-or f g (x ∷ xs) = ap (λ (b : Bool). f x || g x || b) (any-or f g xs) ∙ mix (f x) (g x) (any f xs) (any g xs)
-
 -- ---- the numbers of one side: met before, or twice among those that are left
 
-abbrev again : (ℕ → Bool) → List ℕ → Bool
-again met xs = any met xs || twice xs
-
-again-none : (xs : List ℕ) → again (bit 0) xs ≡ twice xs
-again-none xs = ap (λ (b : Bool). b || twice xs) (none xs)
-  where
-    none : (xs : List ℕ) → any (bit 0) xs ≡ false
-    none [] = refl
-    none (x ∷ xs) = rw (bit-none x) (none xs)
-
-eqb-swap : (a b : ℕ) → eqb a b ≡ eqb b a
-eqb-swap a b = on-bool (eqb a b) (λ e. e ∙ sym (eq-eqb b a (sym (eqb-true a b e)))) (λ e. e ∙ sym (ne-eqb b a (λ d. eqb-false a b e (sym d))))
-
-again-turn : (met : ℕ → Bool) (a : ℕ) (xs : List ℕ) → again met (a ∷ xs) ≡ (met a || again (λ (j : ℕ). met j || eqb j a) xs)
-again-turn met a xs =
-    or-assoc (met a) (any met xs) (any (eqb a) xs || twice xs)
-    ∙ ap (λ (b : Bool). met a || b)
-    ((λ i. any met xs || (any (λ (j : ℕ). eqb-swap a j i) xs || twice xs))
-    ∙ sym (or-assoc (any met xs) (any (λ (j : ℕ). eqb j a) xs) (twice xs))
-    ∙ ap (λ (b : Bool). b || twice xs) (sym (any-or met (λ (j : ℕ). eqb j a) xs)))
+again-next : (met : ℕ → Bool) (a : ℕ) (xs : List ℕ) → again met (a ∷ xs) ≡ (met a || again (λ (j : ℕ). met j || eqb j a) xs)
+again-next met a xs =
+    again-turn true met a xs
+    ∙ ap (λ (b : Bool). b || again (λ (j : ℕ). met j || eqb a j) xs) (or-false (met a))
+    ∙ (λ i. met a || again (λ (j : ℕ). met j || eqb-swap a j i) xs)
 
 -- ---- both sides: what the test has to find in a pair, and in all that are left, by the numbers that it met
 
@@ -110,7 +85,7 @@ module _ (old new : ℕ) where
       let ns = map (λ (p : Pair). p .new) ps in
       let x = again (λ (j : ℕ). olds j || eqb j (p .old)) os in
       let y = again (λ (j : ℕ). news j || eqb j (p .new)) ns in
-      (λ i. outside p || any outside ps || again-turn olds (p .old) os i || again-turn news (p .new) ns i)
+      (λ i. outside p || any outside ps || again-next olds (p .old) os i || again-next news (p .new) ns i)
       ∙ ap (λ (b : Bool). b || (news (p .new) || y)) (mix (outside p) (any outside ps) (olds (p .old)) x)
       ∙ mix (outside p || olds (p .old)) (any outside ps || x) (news (p .new)) y
 
@@ -155,14 +130,14 @@ module _ (ws : List ℕ) (old new olds news i : ℕ) (inv : Left ws old new olds
         by-sets = rw (lt-leb old (pairAt ws i .old) a, lt-leb new (pairAt ws i .new) b)
 
         pub met-old : bitAnd (olds / 2 ^ pairAt ws i .old) 1 ≡ 1 → Fits false ws old new
-        met-old d = found (by-sets ∙ rw (sym (tested olds (pairAt ws i .old)) ∙ eq-eqb _ 1 d))
+        met-old d = found (by-sets ∙ rw (sym (bit-tested olds (pairAt ws i .old)) ∙ eq-eqb _ 1 d))
 
         module _ (d : bitAnd (olds / 2 ^ pairAt ws i .old) 1 ≡ 1 → ⊥) where
           by-new : strangePair old new (bit olds) (bit news) (pairAt ws i) ≡ bit news (pairAt ws i .new)
-          by-new = by-sets ∙ rw (sym (tested olds (pairAt ws i .old)) ∙ ne-eqb _ 1 d)
+          by-new = by-sets ∙ rw (sym (bit-tested olds (pairAt ws i .old)) ∙ ne-eqb _ 1 d)
 
           pub met-new : bitAnd (news / 2 ^ pairAt ws i .new) 1 ≡ 1 → Fits false ws old new
-          met-new e = found (by-new ∙ sym (tested news (pairAt ws i .new)) ∙ eq-eqb _ 1 e)
+          met-new e = found (by-new ∙ sym (bit-tested news (pairAt ws i .new)) ∙ eq-eqb _ 1 e)
 
           -- a pair that passes, with its numbers put into the sets
           pub passed : (bitAnd (news / 2 ^ pairAt ws i .new) 1 ≡ 1 → ⊥) → (olds′ news′ : ℕ)
@@ -171,4 +146,4 @@ module _ (ws : List ℕ) (old new olds news i : ℕ) (inv : Left ws old new olds
               → Left ws old new olds′ news′ (i + 1)
           passed e olds′ news′ f g =
               (λ k. strangeLeft old new (λ (j : ℕ). f j k) (λ (j : ℕ). g j k) (pairsOf (drop (2 * (i + 1)) ws)))
-              ∙ or-go _ _ turn (by-new ∙ sym (tested news (pairAt ws i .new)) ∙ ne-eqb _ 1 e)
+              ∙ or-go _ _ turn (by-new ∙ sym (bit-tested news (pairAt ws i .new)) ∙ ne-eqb _ 1 e)

@@ -10,7 +10,7 @@ use lib.Dec.{eqb, leb, eqb·suc-zero}
 use lib.ListN.{length, length-append, length-map}
 use lib.Ieee.{Float}
 use Rattle.net.specs.Net.{Arc, Take, pick, amount}
-use Rattle.net.specs.Tests.{any, empty, asArc, arcs, twice, kineticTotal}
+use Rattle.net.specs.Tests.{any, empty, asArc, arcs, kineticTotal}
 use Rattle.net.specs.Readable.{Slot, slotAt, slots, takesOf, arcsOf, isPut, isRead, isBlock, transitionOf}
 
 -- ---- the slots that are left, from a up to e: one and the rest, or none
@@ -154,7 +154,7 @@ module _ (f : Arc → Bool) where
   pub any-arcs : (r d : Float) (ls : List Slot) → any f (arcs (transitionOf r d ls)) ≡ any (λ (l : Slot). f (arcOf l)) ls
   any-arcs r d ls = simp (any-append f) (four-any ls)
 
-pub any-or : (f g : Slot → Bool) (ls : List Slot) → any (λ (l : Slot). f l || g l) ls ≡ (any f ls || any g ls)
+pub any-or : {A : Type 0} (f g : A → Bool) (ls : List A) → any (λ (l : A). f l || g l) ls ≡ (any f ls || any g ls)
 any-or f g [] = refl
 any-or f g (l ∷ ls) = ap (λ (b : Bool). f l || g l || b) (any-or f g ls) ∙ mix (f l) (g l) (any f ls) (any g ls)
   where
@@ -168,30 +168,12 @@ any-or f g (l ∷ ls) = ap (λ (b : Bool). f l || g l || b) (any-or f g ls) ∙ 
 abbrev pub taken : List Slot → List ℕ
 taken ls = map (λ (k : Take). k .place) (takesOf ls)
 
-any-taken : (f : ℕ → Bool) (ls : List Slot) → any f (taken ls) ≡ any (λ (l : Slot). leb (l .kind) 1 && f (l .place)) ls
+pub any-taken : (f : ℕ → Bool) (ls : List Slot) → any f (taken ls) ≡ any (λ (l : Slot). leb (l .kind) 1 && f (l .place)) ls
 any-taken f [] = refl
 any-taken f (l ∷ ls) =
     ap-pick (λ (ts : List Take). any f (map (λ (k : Take). k .place) ts)) (leb (l .kind) 1) _ _
     ∙ or-pick (leb (l .kind) 1) (f (l .place)) (any f (taken ls))
     ∙ ap (λ (b : Bool). (leb (l .kind) 1 && f (l .place)) || b) (any-taken f ls)
-
--- whether the take of slot l comes again
-abbrev pub again : Slot → List Slot → Bool
-again l ls = leb (l .kind) 1 && any (λ (m : Slot). leb (m .kind) 1 && eqb (l .place) (m .place)) ls
-
-twice-slot : (l : Slot) (ls : List Slot) → twice (taken (l ∷ ls)) ≡ (again l ls || twice (taken ls))
-twice-slot l ls =
-    ap-pick (λ (ts : List Take). twice (map (λ (k : Take). k .place) ts)) (leb (l .kind) 1) _ _
-    ∙ or-pick (leb (l .kind) 1) (any (eqb (l .place)) (taken ls)) (twice (taken ls))
-    ∙ ap (λ (b : Bool). (leb (l .kind) 1 && b) || twice (taken ls)) (any-taken (eqb (l .place)) ls)
-
-module _ (k p w : List ℕ) (a e : ℕ) {t : Bool} where
-  pub twice-turn : a < e → twice (taken (slots k p w a (e - a))) ≡ t
-      → t ≡ (again (slotAt k p w a) (slots k p w (a + 1) (e - (a + 1))) || twice (taken (slots k p w (a + 1) (e - (a + 1)))))
-  twice-turn h inv = sym inv ∙ ap (λ (ls : List Slot). twice (taken ls)) (slots-step k p w a e h) ∙ twice-slot (slotAt k p w a) (slots k p w (a + 1) (e - (a + 1)))
-
-  pub twice-end : e ≤ a → twice (taken (slots k p w a (e - a))) ≡ t → false ≡ t
-  twice-end h inv = sym (ap (λ (ls : List Slot). twice (taken ls)) (slots-end k p w a e h)) ∙ inv
 
 pub empty-takes : (ls : List Slot) → empty (takesOf ls) ≡ not (any (λ (l : Slot). leb (l .kind) 1) ls)
 empty-takes [] = refl

@@ -1,12 +1,12 @@
 // The tests 5, 6 and 7 of the takes of a transition, over the slots from `from` to before `end`. Each is lent the three arrays, since its contract
 // speaks of slots.
 ghost use mathlib.Core.Path.{_≡_};
-ghost use mathlib.Core.Bool.{_&&_};
-ghost use Prim.Native.Nat.{_+_, _-_, _≤_, _<_};
+ghost use mathlib.Core.Bool.{_&&_, _||_, not};
+ghost use Prim.Native.Nat.{ℕ, _-_, _≤_};
 ghost use mathlib.Core.List.{List, map};
 ghost use lib.Dec.{eqb, leb, ltb};
-ghost use lib.ListN.{getD};
 ghost use lib.Ieee as Ieee;
+ghost use Rattle.words.specs.Bits.{bit};
 ghost use Rattle.net.specs.Net as NetSpec;
 ghost use Rattle.net.specs.Tests as Tests;
 ghost use Rattle.net.specs.Readable as Readable;
@@ -46,25 +46,39 @@ fn taken_in<'a>(
     false
 }
 
-// Is the arc of this slot a take from a place that an arc after it, before `end`, takes from too?
+// Is place p, of a take, taken twice? The word holds the places of the takes before it. It has no bit for a place from 64 on, which a caller may name:
+// such a one is looked for in the slots after it.
 fn taken_again<'a>(
+    seen: u64,
+    p: usize,
     kind: &'a [u64; 1024],
     place: &'a [usize; 1024],
     weight: &'a [u64; 1024],
-    slot: usize,
+    from: usize,
     end: usize,
 ) -> bool
-    requires { ⌜ (slot < end) × (end ≤ 1024) ⌝ }
-    ensures { λ r. ⌜ r ≡ (leb (getD (now (kind .entry)) slot 0) 1
-        && Tests.any (λ (l : Readable.Slot). leb (l .kind) 1 && eqb (getD (now (place .entry)) slot 0) (l .place)) (Readable.slots (now (kind .entry)) (now (place .entry)) (now (weight .entry)) (slot + 1) (end - (slot + 1)))) ⌝ }
+    ghost { List Readable.Slot }
+    requires { λ slots. ⌜ Readable.slots (now kind) (now place) (now weight) from (end - from) ≡ slots ⌝ }
+    requires { λ slots. ⌜ end ≤ 1024 ⌝ }
+    ensures { λ slots r. ⌜ r ≡ (bit seen p || (not (ltb p 64) && Tests.any (λ (l : Readable.Slot). leb (l .kind) 1 && eqb p (l .place)) slots)) ⌝ }
 {
-    if kind[slot] <= crate::TAKE {
-        return taken_in(place[slot], kind, place, weight, slot + 1, end);
+    if p < 64 {
+        return (seen >> p) & 1 == 1;
     }
-    false
+    taken_in(p, kind, place, weight, from, end)
 }
 
-// 5: one place twice among the takes.
+// The word with place p in it, where it has a bit for p.
+fn joined(seen: u64, p: usize) -> u64
+    ensures { λ r. ⌜ ((q : ℕ) → bit r q ≡ (bit seen q || (ltb p 64 && eqb p q))) ⌝ }
+{
+    if p < 64 {
+        return seen | (1u64 << p);
+    }
+    seen
+}
+
+// 5: one place twice among the takes. With at most 64 places each slot is looked at once.
 pub fn taken_twice<'a>(
     kind: &'a [u64; 1024],
     place: &'a [usize; 1024],
@@ -77,12 +91,18 @@ pub fn taken_twice<'a>(
     requires { λ slots. ⌜ end ≤ 1024 ⌝ }
     ensures { λ slots r. ⌜ r ≡ Tests.twice (map (λ (k : NetSpec.Take). k .place) (Readable.takesOf slots)) ⌝ }
 {
+    let mut seen: u64 = 0;
     let mut slot = from;
     while slot < end {
-        if taken_again(kind, place, weight, slot, end) {
-            return true;
+        let k = slot + 1;
+        if kind[slot] <= crate::TAKE {
+            let p = place[slot];
+            if taken_again(seen, p, kind, place, weight, k, end) {
+                return true;
+            }
+            seen = joined(seen, p);
         }
-        slot += 1;
+        slot = k;
     }
     false
 }

@@ -9,8 +9,9 @@ use native.Mathlib.Nat.{zero-add}
 use lib.Dec.{eqb, eqb·suc-suc}
 use lib.ListN.{length, drop, length-drop, drop-of-length-le}
 use lib.Seq.{drop-cons}
-use borrow.Author.Tests.{eq-eqb, ne-eqb, eqb-true, eqb-false}
+use borrow.Author.Tests.{ne-eqb, eqb-true}
 use Rattle.net.specs.Net.{pick}
+use Rattle.net.proofs.Twice.{eqb-swap}
 use Rattle.text.specs.Text.{Bytes, bytes, same}
 use Rattle.net_text.specs.Forms.{Met, wrong, met, Form, behind, alone, exactly, decimal, Decimal, RawLine, placeForm, moveForm, runForm, lineOf}
 use Rattle.net_text.specs.Reading.{badly}
@@ -90,10 +91,6 @@ whole wrong = false
 whole (met a []) = true
 whole (met a (b ∷ t)) = false
 
-eqb-swap : (m n : ℕ) (x : Bool) → eqb m n ≡ x → eqb n m ≡ x
-eqb-swap m n true e = eq-eqb n m (sym (eqb-true m n e))
-eqb-swap m n false e = ne-eqb n m (λ h. eqb-false m n e (sym h))
-
 same-by : (x : Bool) (m : Met (Unit {0})) (y : Bool) → y ≡ whole m → (x && y) ≡ whole (pick x m wrong)
 same-by true m y e = e
 same-by false m y e = refl
@@ -103,7 +100,7 @@ same-word [] [] = refl
 same-word [] (c ∷ w) = refl
 same-word (b ∷ l) [] = refl
 same-word (b ∷ l) (c ∷ w) =
-    rw (eqb-swap c b (eqb c b) refl) (same-by (eqb c b) (exactly w l) (same l w) (same-word l w))
+    rw (eqb-swap b c) (same-by (eqb c b) (exactly w l) (same l w) (same-word l w))
 
 pub same-not : (l w : Bytes) → exactly w l ≡ wrong → false ≡ same l w
 same-not l w e = sym (same-word l w ∙ ap whole e)

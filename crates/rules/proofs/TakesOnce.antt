@@ -8,13 +8,14 @@ use mathlib.Core.Option.{Option, none, some}
 use native.Mathlib.Omega.{arith}
 use lib.Dec.{eqb, leb}
 use lib.ListN.{getD, length}
-use borrow.Author.Tests.{eq-eqb, eqb-true, leb-false}
+use borrow.Author.Tests.{leb-false}
 use Rattle.refusals.specs as Refusal
 use Rattle.net.specs.declared.Net.{Net as NetRecord}
 use Rattle.net.specs.Net.{Arc, Take, Transition, Net, pick}
 use Rattle.net.specs.Tests.{Test, firstOf, any, empty, asArc, arcs, twice, takenTwice, moveTests, orElse}
 use Rattle.net.specs.Readable.{slotsOf, strange, transition, transitionsFrom, readable, placesFault, moveFault, movesFault, fault}
 use Rattle.net.proofs.Lengths.{places-length}
+use Rattle.net.proofs.Twice.{eqb-swap}
 use Rattle.rules.specs.Demand3.{takesFrom, placesOnce, takesOnce}
 use Rattle.rules.specs.Moves as Rule
 use Rattle.rules.proofs.Order.{neither}
@@ -22,18 +23,9 @@ use Rattle.rules.proofs.Peaks.{PutsInside}
 
 -- ---- the test and the property
 
-eqb-comm : (a b : ℕ) → eqb a b ≡ eqb b a
-eqb-comm a b = go (eqb a b) (eqb b a) refl refl
-  where
-    go : (c d : Bool) → eqb a b ≡ c → eqb b a ≡ d → c ≡ d
-    go true true p q = refl
-    go false false p q = refl
-    go true false p q = sym (sym q ∙ eq-eqb b a (sym (eqb-true a b p)))
-    go false true p q = sym p ∙ eq-eqb a b (sym (eqb-true b a q))
-
 takes-any : (p : ℕ) (ks : List Take) → any (eqb p) (map (λ (k : Take). k .place) ks) ≡ takesFrom p ks
 takes-any p [] = refl
-takes-any p (k ∷ ks) = rw (eqb-comm p (k .place), takes-any p ks)
+takes-any p (k ∷ ks) = rw (eqb-swap p (k .place), takes-any p ks)
 
 once : (ks : List Take) → twice (map (λ (k : Take). k .place) ks) ≡ false → placesOnce ks ≡ true
 once [] h = refl

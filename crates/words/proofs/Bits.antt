@@ -7,7 +7,7 @@ use native.Mathlib.Omega.{arith}
 use native.Mathlib.Nat.{pow-suc, div-one, mod-lt}
 use lib.Dec.{eqb, ltb, eqb·suc-suc, eqb·suc-zero}
 use lib.Pow.{shr-shr, shl-exact, pow-pos}
-use lib.Bits.{bitAnd, bitOr, or-shr, or-mod, and-shr, and-mod, and-step, and-self}
+use lib.Bits.{bitAnd, bitOr, or-shr, or-mod, and-shr, and-mod, and-step, and-self, and-mask}
 use lib.Count.{trailingZeros, under}
 use borrow.Author.Tests.{eqb-true, eqb-false, lt-ltb, le-ltb, ltb-true, ltb-false}
 use Rattle.words.specs.Bits.{bit}
@@ -23,6 +23,11 @@ unfolding bit
 bit-next m i =
     let e : 1 + i ≡ suc i = omega arith in
     ap (λ (x : ℕ). eqb (x % 2) 1) (sym (shr-shr m 1 i ∙ ap (λ (x : ℕ). m / 2 ^ x) e))
+
+-- as the code tests it
+pub bit-tested : (m j : ℕ) → eqb (bitAnd (m / 2 ^ j) 1) 1 ≡ bit m j
+unfolding bit
+bit-tested m j = ap (λ (x : ℕ). eqb x 1) (and-mask (m / 2 ^ j) 1)
 
 -- by the last digit
 two : {P : Type 0} (x : ℕ) → (x % 2 ≡ 0 → P) → (x % 2 ≡ 1 → P) → P

@@ -5,7 +5,7 @@ use native.Mathlib.Omega.{arith}
 use mathlib.Core.Path.{_≡_}
 use lib.ListN.{length, getD}
 use denote.Ref.{now}
-use Rattle.carried.proofs.Listed.{tested}
+use Rattle.words.proofs.Bits.{bit-tested}
 use Rattle.carried.proofs.Named.{same-read}
 use Rattle.carried.proofs.renaming.goes_to.Statement.{statement}
 use Rattle.carried.proofs.renaming.goes_to.Tie as tie
@@ -24,7 +24,7 @@ returns c =
     let s = c .before .before .before .before .args in
     let long : length (now (s .names)) ≡ 64 = search needs in
     let k : getD (now (s .names)) (s .who) 64 ≡ getD (now (s .names)) (s .who) 0 = same-read (now (s .names)) (s .who) 64 0 (omega arith) in
-    rw (lt-ltb (s .who) 64 (c .before .before .if1 .taken), k, lt-ltb _ 64 (c .if2 .taken)) (tested _ _)
+    rw (lt-ltb (s .who) 64 (c .before .before .if1 .taken), k, lt-ltb _ 64 (c .if2 .taken)) (bit-tested _ _)
 
 returns-2 : tie.Need-returns-2
 returns-2 c =

@@ -1,43 +1,25 @@
--- Each return goes by the kind of the slot. Assumes nothing.
-use borrow.Author.Tests.{le-leb, lt-leb}
-use Rattle.net.proofs.Slots.{and-both}
+-- By the arm taken: the bit of the place, or, from 64 on, where there is none, the answer for the slots after it. Assumes nothing.
+use mathlib.Core.Bool.{or-false}
 use borrow.Author.Needs.{needs}
+use borrow.Author.Tests.{lt-ltb, le-ltb}
+use Rattle.words.proofs.Bits.{bit-tested, bit-beyond}
 use Rattle.net.proofs.takes.taken_again.Statement.{statement}
 use Rattle.net.proofs.takes.taken_again.Tie as tie
 
-mul-if1 : tie.Need-mul-if1
-mul-if1 c = search needs
+shr-result : tie.Need-shr-result
+shr-result c = search needs
 
-element-copy-out-if1 : tie.Need-element-copy-out-if1
-element-copy-out-if1 c = search needs
-
-mul-taken-in : tie.Need-mul-taken-in
-mul-taken-in c = search needs
-
-element-copy-out-taken-in : tie.Need-element-copy-out-taken-in
-element-copy-out-taken-in c = search needs
-
-add-taken-in : tie.Need-add-taken-in
-add-taken-in c = search needs
+returns : tie.Need-returns
+returns c = let s = c .before .args in rw (lt-ltb (s .p) 64 (c .if1 .taken), or-false) (bit-tested (s .seen) (s .p))
 
 taken-in-requires : tie.Need-taken-in-requires
 taken-in-requires c κs = search needs
 
-returns : tie.Need-returns
-returns c = and-both (le-leb _ _ (c .before .before .if1 .taken)) (c .taken-in .ensures)
-
 returns-2 : tie.Need-returns-2
-returns-2 c = simp (lt-leb _ _ (c .if1 .left))
+returns-2 c =
+    let s = c .before .before in
+    rw (bit-beyond 64 (s .args .seen) (s .args .p) (s .fits .seen .fits) (c .before .if1 .left), le-ltb (s .args .p) 64 (c .before .if1 .left))
+    (c .taken-in .ensures)
 
 pub taken-again-spec : {M : Type 1} → statement M
-taken-again-spec =
-    tie.close
-    (tie.spec
-    mul-if1
-    element-copy-out-if1
-    mul-taken-in
-    element-copy-out-taken-in
-    add-taken-in
-    taken-in-requires
-    returns
-    returns-2)
+taken-again-spec = tie.close (tie.spec shr-result returns taken-in-requires returns-2)
