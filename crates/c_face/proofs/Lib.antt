@@ -3,4 +3,5 @@ pub mod Mask
 pub mod Filling
 pub mod Parts
 pub mod Running
+pub mod Putting
 pub mod Written

@@ -1,8 +1,9 @@
 -- A halted path in 816 words and 257 times, for a caller that reads numbers. Definitions only.
-use Prim.Native.Nat.{ℕ, zero, suc, _-_}
+use Prim.Native.Nat.{ℕ, zero, suc, _+_, _-_, _≤_, _<_}
+use mathlib.Core.Path.{_≡_}
 use mathlib.Core.List.{List}
 use lib.Dec.{ltb}
-use lib.ListN.{getD, take, drop}
+use lib.ListN.{length, getD, take, drop}
 use lib.Ieee.{Float}
 use Rattle.net.specs.Net.{Marking, pick, held}
 use Rattle.rules.specs.Timers.{Timer}
@@ -30,6 +31,19 @@ wordIn m numbers q i =
     (pick (ltb i 48) 0
     (pick (ltb i 304) (timerAt q (i - 48) .who)
     (pick (ltb i 560) (timerAt q (i - 304) .taken) 0))))
+
+-- r is the smaller of a and b
+pub record Least (a b r : ℕ) : Type 0 where
+  pub low : r ≤ a
+  pub high : r ≤ b
+  pub one : r < b → r ≡ a
+
+-- ys is xs with the first n values put in from cell a on
+pub record Put (xs : List ℕ) (a : ℕ) (values : List ℕ) (n : ℕ) (ys : List ℕ) : Type 0 where
+  pub long : length ys ≡ length xs
+  pub before : (i : ℕ) → i < a → getD ys i 0 ≡ getD xs i 0
+  pub inside : (i : ℕ) → i < n → getD ys (a + i) 0 ≡ getD values i 0
+  pub behind : (i : ℕ) → a + n ≤ i → getD ys i 0 ≡ getD xs i 0
 
 -- time i: the clock, then the completion times of the timers; +0 elsewhere
 abbrev pub timeIn : Float → List Timer → ℕ → Float

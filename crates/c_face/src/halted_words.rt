@@ -4,9 +4,9 @@
 // An array is seen as a slice where the proof wants its length, which costs nothing.
 ghost use mathlib.Core.Path.{_≡_};
 ghost use mathlib.Core.List.{List};
-ghost use Prim.Native.Nat.{ℕ, _<_};
+ghost use Prim.Native.Nat.{ℕ, _+_, _≤_, _<_};
 ghost use lib.Ieee.{Float, nan};
-ghost use lib.ListN.{getD, take, drop};
+ghost use lib.ListN.{length, getD, take, drop};
 ghost use Rattle.engine.specs.Engine.{marking};
 ghost use Rattle.carried.specs.Timers.{timersIn};
 ghost use Rattle.c_face.specs.Layout as Layout;
@@ -58,48 +58,44 @@ pub fn timers_in<'a>(words: &'a [u64; 816], times: &'a [f64; 257]) -> Queue
     }
 }
 
-// Word i of a path: its counts, ten numbers from word 32 on, and its timers.
-fn word_at<'a>(
-    i: usize,
-    places: usize,
-    counts: &'a [u64; 32],
-    numbers: &'a [u64; 10],
-    whos: &'a [usize; 256],
-    takens: &'a [u64; 256],
-    n: usize,
-) -> u64
-    ensures { λ r. ⌜ ((ats : List Float) → r ≡ Layout.wordIn (marking places (now (counts .entry))) (now (numbers .entry))
-        (timersIn ats (now (whos .entry)) (now (takens .entry)) n) i) ⌝ }
+// The smaller of two numbers.
+fn least(a: usize, b: usize) -> usize
+    ensures { λ r. ⌜ Layout.Least a b r ⌝ }
 {
-    if i < 32 {
-        if i < places {
-            return counts[i];
-        }
-        return 0;
+    if a < b {
+        return a;
     }
-    if i < 42 {
-        return numbers[i - 32];
-    }
-    if i < 48 {
-        return 0;
-    }
-    if i < 304 {
-        let k = i - 48;
-        if k < n {
-            return whos[k] as u64;
-        }
-        return 0;
-    }
-    if i < 560 {
-        let k = i - 304;
-        if k < n {
-            return takens[k];
-        }
-    }
-    0
+    b
 }
 
-// All of them.
+// Puts the first n values into the words from word `at` on.
+fn put(words: &mut [u64; 816], at: usize, values: &[u64], n: usize)
+    requires { ⌜ (n ≤ length (now values)) × (at + n ≤ 816) ⌝ }
+    ensures { λ _. ⌜ Layout.Put (now (words .entry)) at (now (values .entry)) n (now (words .exit)) ⌝ }
+{
+    let all: &[u64] = words;
+    let mut k: usize = 0;
+    while k < n {
+        words[at + k] = values[k];
+        k += 1;
+    }
+}
+
+// Puts the transitions of the first n timers into the words from word 48 on.
+fn put_whos(words: &mut [u64; 816], whos: &[usize; 256], n: usize)
+    requires { ⌜ n ≤ 256 ⌝ }
+    ensures { λ _. ⌜ Layout.Put (now (words .entry)) 48 (now (whos .entry)) n (now (words .exit)) ⌝ }
+{
+    let all: &[u64] = words;
+    let mut k: usize = 0;
+    while k < n {
+        words[48 + k] = whos[k] as u64;
+        k += 1;
+    }
+}
+
+// All the words of a path: its counts, ten numbers from word 32 on, and its timers. They are cleared first, so that each part stores only what the
+// path uses.
 pub fn write_words<'a>(
     words: &mut [u64; 816],
     places: usize,
@@ -112,12 +108,12 @@ pub fn write_words<'a>(
     ensures { λ _. ⌜ ((ats : List Float) (i : ℕ) → i < 816 → getD (now (words .exit)) i 0 ≡ Layout.wordIn (marking places (now (counts .entry))) (now (numbers .entry))
         (timersIn ats (now (whos .entry)) (now (takens .entry)) n) i) ⌝ }
 {
-    let all: &[u64] = words;
-    let mut i: usize = 0;
-    while i < 816 {
-        words[i] = word_at(i, places, counts, numbers, whos, takens, n);
-        i += 1;
-    }
+    *words = [0; 816];
+    let k = least(n, 256);
+    put(words, 0, counts, least(places, 32));
+    put(words, 32, numbers, 10);
+    put_whos(words, whos, k);
+    put(words, 304, takens, k);
 }
 
 // The clock, and when so many timers complete, with +0 for the rest of 256.

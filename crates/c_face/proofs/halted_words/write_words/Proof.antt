@@ -1,59 +1,49 @@
--- The first i words are those of the layout.
+-- Each call puts its part into what the calls before it left, the first into zeros.
 use borrow.Author.Needs.{needs}
-use native.Mathlib.Omega.{arith}
-use mathlib.Core.List.{List}
-use Prim.Native.Nat.{_-_}
-use lib.Ieee.{Float}
-use Rattle.engine.specs.Engine.{marking}
-use Rattle.carried.specs.Timers.{timersIn}
-use Rattle.c_face.specs.Layout.{wordIn}
-use Rattle.c_face.proofs.Parts.{Holds, holds-none, holds-more}
+use lib.ListN.{getD-replicate}
+use Rattle.c_face.proofs.Putting.{words-put}
 use Rattle.c_face.proofs.halted_words.write_words.Statement.{statement}
 use Rattle.c_face.proofs.halted_words.write_words.Tie as tie
 
-abbrev Inv-loop : tie.InvT-loop
-Inv-loop words₀ places counts numbers whos takens n i₀ words i =
-    (ats : List Float) → Holds 0 (wordIn (marking places counts) numbers (timersIn ats whos takens n)) 816 words i
+least-requires : tie.Need-least-requires
+least-requires c κs = search needs
 
-abbrev μ-loop : tie.MeasureT-loop
-μ-loop words₀ places counts numbers whos takens n i₀ words i = 816 - i
+least-requires-2 : tie.Need-least-requires-2
+least-requires-2 c κs = search needs
 
-loop-holds : tie.Need-loop-holds Inv-loop μ-loop
-loop-holds c = λ ats. holds-none 0 _ _ (search needs)
+put-requires : tie.Need-put-requires
+put-requires c κs = search needs
 
-word-at-requires : tie.Need-word-at-requires Inv-loop μ-loop
-word-at-requires c κs = search needs
+put-requires-2 : tie.Need-put-requires-2
+put-requires-2 c κs = search needs
 
-mul-words : tie.Need-mul-words Inv-loop μ-loop
-mul-words c = search needs
+put-whos-requires : tie.Need-put-whos-requires
+put-whos-requires c κs = search needs
 
-element-write-words : tie.Need-element-write-words Inv-loop μ-loop
-element-write-words c = search needs
+put-requires-3 : tie.Need-put-requires-3
+put-requires-3 c κs = search needs
 
-add-i : tie.Need-add-i Inv-loop μ-loop
-add-i c = search needs
-
-loop-less : tie.Need-loop-less Inv-loop μ-loop
-loop-less c = search needs
-
-loop-again : tie.Need-loop-again Inv-loop μ-loop
-loop-again c =
-    λ ats. holds-more 0 (c .before .before .loop .inv ats) (c .before .loop-test .taken) (c .word-at .ensures ats)
-
-returns : tie.Need-returns Inv-loop μ-loop
-returns c = λ ats i h. c .before .loop .inv ats .each i (omega arith)
+returns : tie.Need-returns
+returns c =
+    let whos = c .before .before .before in
+    let numbers = whos .before .before in
+    let counts = numbers .before .before .before in
+    let few = counts .before .least2 in
+    let timers = counts .before .before .before .before in
+    let some = timers .least in
+    let s = timers .before .before .args in
+    λ ats i h.
+    words-put (s .places) (s .counts .now) (s .numbers .now) (s .whos .now) (s .takens .now) (s .n) (few .result) (some .result) (few .ensures) (some .ensures)
+    (counts .put .ensures) (numbers .put2 .ensures) (whos .put-whos .ensures) (c .put3 .ensures) (λ k l. getD-replicate 816 k 0 0 l) ats i h
 
 pub write-words-spec : {M : Type 1} → statement M
 write-words-spec =
     tie.close
     (tie.spec
-    Inv-loop
-    μ-loop
-    loop-holds
-    word-at-requires
-    mul-words
-    element-write-words
-    add-i
-    loop-less
-    loop-again
+    least-requires
+    least-requires-2
+    put-requires
+    put-requires-2
+    put-whos-requires
+    put-requires-3
     returns)
