@@ -11,10 +11,13 @@ ghost use Rattle.net.specs.Readable as Record;
 ghost use Rattle.net.specs.Record.{labelled};
 ghost use Rattle.net.specs.Tests as Tests;
 ghost use Rattle.net.specs.declared.Net.{Net as NetRecord};
+ghost use Rattle.rng.specs.State as Random;
 ghost use Rattle.rules.specs.Carried as Rule;
 ghost use Rattle.rules.specs.Change as Change;
 ghost use Rattle.rules.specs.Moments as Moments;
+ghost use Rattle.rules.specs.Step as Step;
 ghost use Rattle.rules.specs.Timers.{Timer};
+ghost use Rattle.engine.specs.Engine as Engine;
 ghost use Rattle.carried.specs.Pairs as Pairs;
 ghost use Rattle.carried.specs.Pairs.{pairsOf};
 ghost use Rattle.carried.specs.Records as Records;
@@ -38,41 +41,62 @@ use net::Verdict;
 use timers::queue;
 use timers::queue::Queue;
 
-// The first of 4, 12, 13, 11 and, for the recorded cells, 4 that a carried path meets, over a net of so many places.
-pub fn state_fault(places: usize, path: Halted, instants: &[f64], table: &[f64]) -> Verdict
+// The first of 4, 12, 13, 11 and, for the recorded cells, 4 that a carried path meets, over a net of so many places. No test looks at its generator, its peak or
+// the transitions of its timers; what is looked at is lent, since the path itself is 7 KB.
+pub fn state_fault<'a>(
+    places: usize,
+    clock: f64,
+    counts: &'a [u64; 32],
+    steps: u64,
+    limit: u64,
+    rounded: u64,
+    recorded: usize,
+    ats: &'a [f64; 256],
+    takens: &'a [u64; 256],
+    len: usize,
+    instants: &[f64],
+    table: &[f64],
+) -> Verdict
     requires { ⌜ places ≤ 32 ⌝ }
-    ensures { λ r. ⌜ Record.meaning r ≡ Tests.firstOf (Change.carriedTests 256 (not (Path.tableFits places (length (now (instants .entry))) (now (table .entry))))
-        (Records.recordStrange places (length (now (instants .entry))) (path .recorded) (now (table .entry)))
-        (Spec.carriedFrom places (Spec.standingOf places path) (now (instants .entry)) (now (table .entry)))) ⌝ }
+    ensures { λ r. ⌜ ((whos : List ℕ) (g : Random.State) (peak : ℕ) → Record.meaning r
+        ≡ Tests.firstOf (Change.carriedTests 256 (not (Path.tableFits places (length (now (instants .entry))) (now (table .entry))))
+        (Records.recordStrange places (length (now (instants .entry))) recorded (now (table .entry)))
+        (Spec.carriedFrom places (record {
+          now = Step.state clock (Engine.marking places (now (counts .entry))) (Timers.timersIn (now (ats .entry)) whos (now (takens .entry)) len) g;
+          steps = steps;
+          limit = limit;
+          peak = peak;
+          rounded = rounded;
+          recorded = recorded;
+        }) (now (instants .entry)) (now (table .entry))))) ⌝ }
 {
-    let q = path.timers;
     if !state::state_fits(
         places,
-        &path.counts,
-        path.steps,
-        path.limit,
-        path.rounded,
-        path.clock,
-        &q.ats,
-        &q.takens,
-        q.len,
+        counts,
+        steps,
+        limit,
+        rounded,
+        clock,
+        ats,
+        takens,
+        len,
     ) {
         return Verdict::Refused(refusals::OUTSIDE_DOMAIN);
     }
     if !accept::instants_fit(instants) {
         return Verdict::Refused(refusals::BAD_INSTANTS);
     }
-    if !records::records_fit(instants, path.recorded, path.clock) {
+    if !records::records_fit(instants, recorded, clock) {
         return Verdict::Refused(refusals::BAD_INSTANTS);
     }
-    if !accept::limit_fits(path.limit) {
+    if !accept::limit_fits(limit) {
         return Verdict::Refused(refusals::BAD_LIMIT);
     }
     let n = instants.len();
     if table.len() < places * n {
         return Verdict::Refused(refusals::SHORT_TABLE);
     }
-    if !records::cells_fit(table, places, n, path.recorded) {
+    if !records::cells_fit(table, places, n, recorded) {
         return Verdict::Refused(refusals::OUTSIDE_DOMAIN);
     }
     Verdict::Accepted
@@ -118,7 +142,8 @@ fn timers_fit<'a>(
     renaming::timers_fit(whos, n, names, delayed)
 }
 
-// The first of 20, 21 and 22 that a renaming list meets, from a net of so many places and transitions to the accepted net whose fields are lent.
+// The first of 20, 21 and 22 that a renaming list meets, from a net of so many places and transitions to the accepted net whose fields are lent; of the path it
+// looks at the transitions of its timers alone.
 pub fn list_fault<'a>(
     old_places: usize,
     old_transitions: usize,
@@ -135,14 +160,15 @@ pub fn list_fault<'a>(
     place: &'a [usize; 1024],
     weight: &'a [u64; 1024],
     pairs: &[u64],
-    path: Halted,
+    whos: &'a [usize; 256],
+    len: usize,
 ) -> Verdict
     ghost { NetRecord }
     requires { λ net. ⌜ labelled places transitions (now initial) (now capacity) (now label) (now lengths) (now rate) (now delay) (now arcs) (now kind) (now place) (now weight) ≡ net ⌝ }
-    requires { λ net. ⌜ (Record.fault net ≡ none) × («old_transitions» ≤ 64) × (path .timers .len ≤ 256) ⌝ }
-    ensures { λ net r. ⌜ ((old : Net.Net) (xs table : List Float) → length (old .places) ≡ «old_places» → length (old .transitions) ≡ «old_transitions»
-        → Record.meaning r ≡ Tests.firstOf (Change.renamingTests old (Record.readable net) (Spec.carriedFrom «old_places» (Spec.standingOf «old_places» path) xs table)
-        (pairsOf (now (pairs .entry))))) ⌝ }
+    requires { λ net. ⌜ (Record.fault net ≡ none) × («old_transitions» ≤ 64) × (len ≤ 256) ⌝ }
+    ensures { λ net r. ⌜ ((old : Net.Net) (path : Rule.Carried) (ats : List Float) (takens : List ℕ) → length (old .places) ≡ «old_places»
+        → length (old .transitions) ≡ «old_transitions» → path .now .timers ≡ Timers.timersIn ats (now (whos .entry)) takens len
+        → Record.meaning r ≡ Tests.firstOf (Change.renamingTests old (Record.readable net) path (pairsOf (now (pairs .entry))))) ⌝ }
 {
     if old_places != places {
         return Verdict::Refused(refusals::UNEQUAL_PLACES);
@@ -151,7 +177,6 @@ pub fn list_fault<'a>(
         return Verdict::Refused(refusals::BAD_RENAMING);
     }
     let names = renaming::names_of(pairs);
-    let q = path.timers;
     if timers_fit(
         places,
         transitions,
@@ -166,8 +191,8 @@ pub fn list_fault<'a>(
         place,
         weight,
         &names,
-        &q.whos,
-        q.len,
+        whos,
+        len,
     ) {
         return Verdict::Accepted;
     }

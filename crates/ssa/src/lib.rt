@@ -356,7 +356,21 @@ pub fn fields_carry<'a>(
     ) {
         return until::turned_down(c, path);
     }
-    if let Verdict::Refused(c) = change::state_fault(old_places, path, instants, table) {
+    let q = path.timers;
+    if let Verdict::Refused(c) = change::state_fault(
+        old_places,
+        path.clock,
+        &path.counts,
+        path.steps,
+        path.limit,
+        path.rounded,
+        path.recorded,
+        &q.ats,
+        &q.takens,
+        q.len,
+        instants,
+        table,
+    ) {
         return until::turned_down(c, path);
     }
     if let Verdict::Refused(c) = change::list_fault(
@@ -375,7 +389,8 @@ pub fn fields_carry<'a>(
         place,
         weight,
         pairs,
-        path,
+        &q.whos,
+        q.len,
     ) {
         return until::turned_down(c, path);
     }

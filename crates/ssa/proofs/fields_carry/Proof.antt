@@ -1,7 +1,7 @@
 -- Each answer is that of the call by the tests that led to it (Continued). The nets of a path that is played on have as many places, so what is said over the
 -- places of the new one is said over those of the old. Assumes nothing.
 use borrow.Author.Needs.{needs}
-use mathlib.Core.Path.{_≡_, sym, ap, subst, _∙_}
+use mathlib.Core.Path.{_≡_, refl, sym, ap, subst, _∙_}
 use mathlib.Core.Bool.{not}
 use mathlib.Core.List.{List}
 use mathlib.Core.Option.{Option, none}
@@ -14,10 +14,12 @@ use Rattle.net.specs.Record.{labelled}
 use Rattle.net.specs.Tests.{firstOf}
 use Rattle.net.proofs.Lengths.{places-length, transitions-length}
 use Rattle.net.proofs.Sound.{sound}
+use Rattle.rng.specs.State.{words}
 use Rattle.rules.specs.Carried.{Carried}
 use Rattle.rules.specs.Change.{Pair, carriedTests, renamingTests}
 use Rattle.carried.specs.Pairs.{pairsOf}
 use Rattle.carried.specs.Records.{recordStrange}
+use Rattle.ssa.specs.declared.Halted.{Halted}
 use Rattle.ssa.specs.Path.{tableFits}
 use Rattle.ssa.specs.Halted.{standingOf, carriedFrom, Passes}
 use Rattle.ssa.proofs.Brought.{carries}
@@ -25,7 +27,7 @@ use Rattle.ssa.proofs.Continued.{by-old, by-new, by-state, by-list, by-
 use Rattle.ssa.proofs.fields_carry.Statement.{statement}
 use Rattle.ssa.proofs.fields_carry.Tie as tie
 
--- the nets whose fields are lent, the list, and the path of the rules
+-- the nets whose fields are lent, the list, and the path as it is handed over and as a path of the rules
 abbrev oldAt : tie.Start → NetRecord
 oldAt s =
     let a = s .args in
@@ -41,15 +43,18 @@ newAt s =
 abbrev pairsAt : tie.Start → List Pair
 pairsAt s = pairsOf (s .args .pairs .now)
 
+abbrev handedAt : tie.Start → Halted
+handedAt s = s .args .t26
+
 abbrev pathAt : tie.Start → Carried
-pathAt s = let a = s .args in carriedFrom (a .old-places) (standingOf (a .old-places) (a .path)) (a .instants .now) (a .table .now)
+pathAt s = let a = s .args in carriedFrom (a .old-places) (standingOf (a .old-places) (handedAt s)) (a .instants .now) (a .table .now)
 
 -- what the tests of the state and those of the list meet first
 abbrev stateFault : tie.Start → Option ℕ
 stateFault s =
     let a = s .args in
     firstOf (carriedTests 256 (not (tableFits (a .old-places) (length (a .instants .now)) (a .table .now)))
-    (recordStrange (a .old-places) (length (a .instants .now)) (a .path .recorded) (a .table .now)) (pathAt s))
+    (recordStrange (a .old-places) (length (a .instants .now)) (handedAt s .recorded) (a .table .now)) (pathAt s))
 
 abbrev listFault : tie.Start → Option ℕ
 listFault s = firstOf (renamingTests (readable (oldAt s)) (readable (newAt s)) (pathAt s) (pairsAt s))
@@ -61,17 +66,28 @@ start1 c = c .before .before .before .before .before .before
 abbrev start2 : tie.After-enum-told2 → tie.Start
 start2 c = start1 (c .before .before .before)
 
+-- behind the tests of the state stands that of the new net, and behind those of the list that of the state
+abbrev new-passed : tie.After-state-fault → tie.After-enum-told2
+new-passed c = c .before .before .before .before .before .before .before .before
+
+abbrev state-passed : tie.After-list-fault → tie.After-enum-told3
+state-passed c = c .before .before .before
+
 abbrev start3 : tie.After-enum-told3 → tie.Start
-start3 c = start2 (c .before .before .before .before)
+start3 c = start2 (new-passed (c .before .before))
 
 abbrev start4 : tie.After-enum-told4 → tie.Start
-start4 c = start3 (c .before .before .before)
+start4 c = start3 (state-passed (c .before .before))
 
--- what the list's function says
-by-words : (c : tie.After-list-fault) → meaning (c .list-fault .result) ≡ listFault (start3 (c .before))
+-- what the functions say of the state and of the list
+by-state-of : (c : tie.After-state-fault) → meaning (c .state-fault .result) ≡ stateFault (start2 (new-passed c))
+by-state-of c = let h = handedAt (start2 (new-passed c)) in c .state-fault .ensures (h .timers .whos) (words (h .generator .s)) (h .peak)
+
+by-words : (c : tie.After-list-fault) → meaning (c .list-fault .result) ≡ listFault (start3 (state-passed c))
 by-words c =
-    let s = start3 (c .before) in
-    c .list-fault .ensures (readable (oldAt s)) (s .args .instants .now) (s .args .table .now) (places-length (oldAt s)) (transitions-length (oldAt s))
+    let s = start3 (state-passed c) in
+    let q = handedAt s .timers in
+    c .list-fault .ensures (readable (oldAt s)) (pathAt s) (q .ats) (q .takens) (places-length (oldAt s)) (transitions-length (oldAt s)) refl
 
 -- what is known once a test is passed
 accepted : (c : tie.After-enum-told) → fault (oldAt (start1 c)) ≡ none
@@ -81,7 +97,7 @@ accepted-new : (c : tie.After-enum-told2) → fault (newAt (start2 c)) ≡ none
 accepted-new c = sym (c .before .before .fields-fault2 .ensures) ∙ ap meaning (c .enum-told2 .given .1)
 
 plain : (c : tie.After-enum-told3) → stateFault (start3 c) ≡ none
-plain c = sym (c .before .before .state-fault .ensures) ∙ ap meaning (c .enum-told3 .given .1)
+plain c = sym (by-state-of (c .before .before)) ∙ ap meaning (c .enum-told3 .given .1)
 
 listed : (c : tie.After-enum-told4) → listFault (start4 c) ≡ none
 listed c = sym (by-words (c .before .before)) ∙ ap meaning (c .enum-told4 .given .1)
@@ -104,7 +120,7 @@ returns c =
     let s = f .before .before .before .before in
     let a = s .args in
     c .turned-down .ensures (a .old-places) (a .table .now)
-    ∙ by-old (oldAt s) (newAt s) (pairsAt s) (standingOf (a .old-places) (a .path)) (a .instants .now) (a .named) (a .table .now)
+    ∙ by-old (oldAt s) (newAt s) (pairsAt s) (standingOf (a .old-places) (handedAt s)) (a .instants .now) (a .named) (a .table .now)
     (sym (f .fields-fault .ensures) ∙ ap meaning (c .before .before .c .given .1))
 
 enum-told : tie.Need-enum-told
@@ -125,14 +141,14 @@ returns-2 c =
     let s = start1 (f .before) in
     let a = s .args in
     c .turned-down2 .ensures (a .old-places) (a .table .now)
-    ∙ by-new (oldAt s) (newAt s) (pairsAt s) (standingOf (a .old-places) (a .path)) (a .instants .now) (a .named) (a .table .now)
+    ∙ by-new (oldAt s) (newAt s) (pairsAt s) (standingOf (a .old-places) (handedAt s)) (a .instants .now) (a .named) (a .table .now)
     (accepted (f .before)) (sym (f .fields-fault2 .ensures) ∙ ap meaning (c .before .before .c2 .given .1))
 
 enum-told-2 : tie.Need-enum-told-2
 enum-told-2 c = search needs
 
 state-fault-requires : tie.Need-state-fault-requires
-state-fault-requires c κs = let o = c .before .before .before .before in sound (oldAt (start1 o)) (accepted o) .places
+state-fault-requires c κs = let o = c .before .before .before .before .before .before .before .before .before .before in sound (oldAt (start1 o)) (accepted o) .places
 
 enum-known-c-3 : tie.Need-enum-known-c-3
 enum-known-c-3 c = search needs
@@ -146,24 +162,25 @@ same-length c = search needs
 returns-3 : tie.Need-returns-3
 returns-3 c =
     let f = c .before .before .before .before in
-    let n = f .before .before in
+    let n = new-passed f in
     let s = start2 n in
     let a = s .args in
     c .turned-down3 .ensures (a .old-places) (a .table .now)
-    ∙ by-state (oldAt s) (newAt s) (pairsAt s) (standingOf (a .old-places) (a .path)) (a .instants .now) (a .named) (a .table .now)
-    (accepted (n .before .before .before)) (accepted-new n) (sym (f .state-fault .ensures) ∙ ap meaning (c .before .before .c3 .given .1))
+    ∙ by-state (oldAt s) (newAt s) (pairsAt s) (standingOf (a .old-places) (handedAt s)) (a .instants .now) (a .named) (a .table .now)
+    (accepted (n .before .before .before)) (accepted-new n) (sym (by-state-of f) ∙ ap meaning (c .before .before .c3 .given .1))
 
 enum-told-3 : tie.Need-enum-told-3
 enum-told-3 c = search needs
 
 list-fault-requires : tie.Need-list-fault-requires
 list-fault-requires c κs =
-    let n = c .before .before .before .before in
+    let p = c .before .before in
+    let n = new-passed (p .before .before) in
     let s = start2 n in
     let a = s .args in (
       accepted-new n,
       sound (oldAt s) (accepted (n .before .before .before)) .transitions,
-      carries (a .old-places) (a .path) (a .instants .now) (a .table .now) (plain c) .few,
+      carries (a .old-places) (handedAt s) (a .instants .now) (a .table .now) (plain p) .few,
     )
 
 enum-known-c-4 : tie.Need-enum-known-c-4
@@ -178,12 +195,12 @@ same-length-2 c = search needs
 returns-4 : tie.Need-returns-4
 returns-4 c =
     let f = c .before .before .before .before in
-    let p = f .before in
-    let n = p .before .before .before .before in
+    let p = state-passed f in
+    let n = new-passed (p .before .before) in
     let s = start2 n in
     let a = s .args in
     c .turned-down4 .ensures (a .old-places) (a .table .now)
-    ∙ by-list (oldAt s) (newAt s) (pairsAt s) (standingOf (a .old-places) (a .path)) (a .instants .now) (a .named) (a .table .now)
+    ∙ by-list (oldAt s) (newAt s) (pairsAt s) (standingOf (a .old-places) (handedAt s)) (a .instants .now) (a .named) (a .table .now)
     (accepted (n .before .before .before)) (accepted-new n) (plain p) (sym (by-words f) ∙ ap meaning (c .before .before .c4 .given .1))
 
 enum-told-4 : tie.Need-enum-told-4
@@ -192,13 +209,13 @@ enum-told-4 c = search needs
 accepted-carry-requires : tie.Need-accepted-carry-requires
 accepted-carry-requires c κs =
     let l = c .before in
-    let p = l .before .before .before in
-    let n = p .before .before .before .before in
+    let p = state-passed (l .before .before) in
+    let n = new-passed (p .before .before) in
     let s = start2 n in
     let a = s .args in
     let few = sound (oldAt s) (accepted (n .before .before .before)) .transitions in (
       accepted-new n,
-      subst (λ (k : ℕ). Passes k (readable (newAt s)) (pairsAt s) (a .path) (a .instants .now) (a .table .now)) (as-many l)
+      subst (λ (k : ℕ). Passes k (readable (newAt s)) (pairsAt s) (handedAt s) (a .instants .now) (a .table .now)) (as-many l)
           (plain p, (readable (oldAt s), places-length (oldAt s), omega (arith, few, transitions-length (oldAt s)), listed l)),
     )
 
@@ -209,13 +226,13 @@ returns-5 : tie.Need-returns-5
 returns-5 c =
     let r = c .before .before in
     let l = r .before .before in
-    let p = l .before .before .before in
-    let n = p .before .before .before .before in
+    let p = state-passed (l .before .before) in
+    let n = new-passed (p .before .before) in
     let s = start2 n in
     let a = s .args in
-    answers-same (readable (newAt s)) (pairsAt s) (a .path) (a .instants .now) (a .table .now) (a .named) (r .accepted-carry .result) (as-many l)
+    answers-same (readable (newAt s)) (pairsAt s) (handedAt s) (a .instants .now) (a .table .now) (a .named) (r .accepted-carry .result) (as-many l)
     (r .accepted-carry .ensures)
-    ∙ by-run (oldAt s) (newAt s) (pairsAt s) (standingOf (a .old-places) (a .path)) (a .instants .now) (a .named) (a .table .now)
+    ∙ by-run (oldAt s) (newAt s) (pairsAt s) (standingOf (a .old-places) (handedAt s)) (a .instants .now) (a .named) (a .table .now)
     (accepted (n .before .before .before)) (accepted-new n) (plain p) (listed l)
 
 pub fields-carry-spec : {M : Type 1} → statement M
