@@ -1,13 +1,15 @@
 -- A path played in a loop. `SoFar` is what holds between two steps: the whole run is what has been shown and the run that follows from here; a step carries
 -- it on or ends it (rules, proofs/PlayLaws).
-use Prim.Native.Nat.{ℕ, suc, _+_, _-_, _≤_, max}
+use Prim.Native.Nat.{ℕ, suc, _+_, _-_, _≤_, _<_, max}
 use mathlib.Core.Path.{_≡_, refl, sym, ap, subst, _∙_}
 use mathlib.Core.Bool.{Bool, true, false}
 use mathlib.Core.List.{List, [], _∷_, _++_, append-nil}
 use mathlib.Core.Logic.{inl, inr}
 use native.Mathlib.Omega.{arith}
-use lib.ListN.{length, drop, length-append, length-drop}
-use lib.Ieee.{Float, lt, le}
+use native.Mathlib.Numerals.{add-one, one-add}
+use lib.ListN.{length, drop, getD, length-append, length-drop, drop-of-length-le}
+use lib.Seq.{drop-cons}
+use lib.Ieee.{Float, nan, lt, le}
 use Rattle.net.specs.Net.{Net, Marking, pick}
 use Rattle.net.specs.Tests.{empty}
 use Rattle.rules.specs.Step.{State, Answer, given, nobody, Event, sets, step}
@@ -23,8 +25,10 @@ use Rattle.ssa.specs.declared.run.Walked.{Walked}
 use Rattle.ssa.specs.Cells.{reachedBy, ShownBy, NotShown}
 use Rattle.ssa.specs.Path.{endOf}
 use Rattle.ssa.specs.declared.step.Ending.the-variants as Ending
+use Rattle.ssa.specs.declared.step.Now.{Now}
 use Rattle.ssa.specs.Stepping.{tokensOf, Topped, StepBy, goesOn, quiet as no-more, reached as passed, starting, putting}
 use Rattle.ssa.specs.Playing.{Listed, WalkBy, refuses, ends}
+use Rattle.ssa.proofs.Cells.{filled-none}
 use Rattle.ssa.proofs.Columns.{listed-none, listed-join, listed-alike}
 
 -- ---- the instants reached
@@ -36,7 +40,21 @@ same-reached t (x ∷ xs) = ap (λ (k : ℕ). pick (le x t) (suc k) 0) (same-rea
 pub reached-few : (t : Float) (xs : List Float) (i : ℕ) → i ≤ length xs → i + reachedBy t (drop i xs) ≤ length xs
 reached-few t xs i h = omega (arith, same-reached t (drop i xs), Rule.reachedBy-few t (drop i xs), length-drop i xs)
 
+-- one instant, and those that follow it
+pub reached-turn : (t : Float) (xs : List Float) (i : ℕ) → i < length xs → reachedBy t (drop i xs) ≡ pick (le (getD xs i nan) t) (1 + reachedBy t (drop (i + 1) xs)) 0
+reached-turn t xs i h = ap (reachedBy t) (drop-cons xs i nan h) ∙ simp (add-one, one-add)
+
+-- no instant is left
+pub reached-none : (t : Float) (xs : List Float) (i : ℕ) → length xs ≤ i → reachedBy t (drop i xs) ≡ 0
+reached-none t xs i h = ap (reachedBy t) (drop-of-length-le xs h)
+
 -- ---- as a run shows its counts
+
+-- where no further instant is reached, nothing is shown
+pub shows-none : (places : ℕ) (xs : List Float) (clock : Float) (m : Marking) (next : ℕ) (t : List Float) → reachedBy clock (drop next xs) ≡ 0
+    → ShownBy places xs clock m next next t t
+shows-none places xs clock m next t e =
+    record { up-to = omega (arith, e); cells = filled-none places (length xs) next next m t (omega arith) }
 
 module _ (places : ℕ) (xs : List Float) (clock : Float) (m : Marking) (next next′ : ℕ) (t t′ : List Float)
     (s : ShownBy places xs clock m next next′ t t′) where
@@ -93,9 +111,19 @@ so-far-none out room n last xs places left next many most s t h now high =
           ∙ ap (λ (l : ℕ). addDone [] 0 most 0 0 (playWithin out room n last l (drop next xs) s)) e;
     }
 
+-- the answer where the loop stops at `at`
+abbrev pub walkedAt : PathEnd → ℕ → ℕ → Now → Walked
+walkedAt end steps rounded at =
+    record { end = end; steps = steps; rounded = rounded; next = at .next; peak = at .peak; clock = at .clock; timers = at .timers; rng = at .rng }
+
 -- the loop ends with this
-abbrev WalkedTo : List Float → ℕ → Answer Played → ℕ → List Float → State → List Float → Walked → PathEnd → Type 0
+abbrev pub WalkedTo : List Float → ℕ → Answer Played → ℕ → List Float → State → List Float → Walked → PathEnd → Type 0
 WalkedTo xs places whole from t₀ s t w end = WalkBy whole xs s (λ (sh : List Marking). Listed places (length xs) from (w .next) sh t₀ t) w end
+
+-- … and so with an answer that is the same
+pub walked-same : {whole : Answer Played} {xs : List Float} {places from : ℕ} {t₀ t : List Float} (state : Walked → State) {v w : Walked} → v ≡ w
+    → WalkedTo xs places whole from t₀ (state v) t v (v .end) → WalkedTo xs places whole from t₀ (state w) t w (w .end)
+walked-same {whole} {xs} {places} {from} {t₀} {t} state e h = subst (λ (x : Walked). WalkedTo xs places whole from t₀ (state x) t x (x .end)) e h
 
 module _ {out : End} {room : ℕ} {n : Net} {last : Float} {xs : List Float} {places : ℕ} {whole : Answer Played} {from : ℕ} {t₀ : List Float} where
   -- no step more: the clock has reached the last instant, or the steps are done

@@ -77,6 +77,25 @@ fn out(halts: bool) -> PathEnd
     PathEnd::Spent
 }
 
+// The answer of the steps, where they stop at `at`.
+fn stopped(end: PathEnd, steps: u64, rounded: u64, at: Now) -> Walked
+    ensures { λ r. ⌜ (r .end ≡ end) × (r .steps ≡ steps) × (r .rounded ≡ rounded) × (r .next ≡ at .next) × (r .peak ≡ at .peak) × (r .clock ≡ at .clock)
+        × (r .timers ≡ at .timers) × (r .rng ≡ at .rng) ⌝ }
+{
+    let ring = at.timers;
+    let rng = at.rng;
+    Walked {
+        end: end,
+        steps: steps,
+        rounded: rounded,
+        next: at.next,
+        peak: at.peak,
+        clock: at.clock,
+        timers: ring,
+        rng: rng,
+    }
+}
+
 // The steps of a path, at most so many; where another would follow, the path is halted or spent.
 fn take_steps<'a>(
     places: usize,
@@ -130,116 +149,68 @@ fn take_steps<'a>(
     let mut at = s;
     let mut done: u64 = 0;
     let mut rounded: u64 = 0;
-    while done < steps {
+    let mut end = PathEnd::Reached;
+    let mut going = true;
+    // The one way out is the test: the answer is made once, behind the loop, so that the loop can keep its state in registers.
+    while going {
         let clock = at.clock;
-        let ring = at.timers;
-        let rng = at.rng;
         if clock < last {
-            let r = step::one_step(
-                places,
-                transitions,
-                initial,
-                capacity,
-                rate,
-                delay,
-                arcs,
-                kind,
-                place,
-                weight,
-                limit,
-                rates,
-                ends,
-                guards,
-                timed,
-                heavy,
-                counts,
-                ats,
-                owners,
-                props,
-                sums,
-                room,
-                instants,
-                last,
-                table,
-                at,
-            );
-            let after = r.now;
-            let ending = r.ending;
-            let left = after.timers;
-            let g = after.rng;
-            done += 1;
-            rounded = one_more(rounded, r.rounded);
-            match ending {
-                Ending::GoesOn => at = after,
-                Ending::Quiet => return Walked {
-                    end: PathEnd::Quiet,
-                    steps: done,
-                    rounded: rounded,
-                    next: after.next,
-                    peak: after.peak,
-                    clock: after.clock,
-                    timers: left,
-                    rng: g,
-                },
-                Ending::Reached => return Walked {
-                    end: PathEnd::Reached,
-                    steps: done,
-                    rounded: rounded,
-                    next: after.next,
-                    peak: after.peak,
-                    clock: after.clock,
-                    timers: left,
-                    rng: g,
-                },
-                Ending::Refused(c) => return Walked {
-                    end: PathEnd::Refused(c),
-                    steps: done,
-                    rounded: rounded,
-                    next: after.next,
-                    peak: after.peak,
-                    clock: after.clock,
-                    timers: left,
-                    rng: g,
-                },
+            if done < steps {
+                let r = step::one_step(
+                    places,
+                    transitions,
+                    initial,
+                    capacity,
+                    rate,
+                    delay,
+                    arcs,
+                    kind,
+                    place,
+                    weight,
+                    limit,
+                    rates,
+                    ends,
+                    guards,
+                    timed,
+                    heavy,
+                    counts,
+                    ats,
+                    owners,
+                    props,
+                    sums,
+                    room,
+                    instants,
+                    last,
+                    table,
+                    at,
+                );
+                let ending = r.ending;
+                at = r.now;
+                done += 1;
+                rounded = one_more(rounded, r.rounded);
+                match ending {
+                    Ending::GoesOn => {}
+                    Ending::Quiet => {
+                        end = PathEnd::Quiet;
+                        going = false;
+                    }
+                    Ending::Reached => {
+                        going = false;
+                    }
+                    Ending::Refused(c) => {
+                        end = PathEnd::Refused(c);
+                        going = false;
+                    }
+                }
+            } else {
+                end = out(halts);
+                going = false;
             }
         } else {
-            return Walked {
-                end: PathEnd::Reached,
-                steps: done,
-                rounded: rounded,
-                next: at.next,
-                peak: at.peak,
-                clock: clock,
-                timers: ring,
-                rng: rng,
-            };
+            going = false;
         }
     }
-    let clock = at.clock;
-    let ring = at.timers;
-    let rng = at.rng;
-    if clock < last {
-        return Walked {
-            end: out(halts),
-            steps: done,
-            rounded: rounded,
-            next: at.next,
-            peak: at.peak,
-            clock: clock,
-            timers: ring,
-            rng: rng,
-        };
-    }
-    Walked {
-        end: PathEnd::Reached,
-        steps: done,
-        rounded: rounded,
-        next: at.next,
-        peak: at.peak,
-        clock: clock,
-        timers: ring,
-        rng: rng,
-    }
+    stopped(end, done, rounded, at)
 }
 
 // All of so many transitions.

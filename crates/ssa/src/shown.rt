@@ -72,9 +72,16 @@ pub fn show(
         × (places * length (now instants) ≤ length (now table)) × Engine.Counts (now counts) ⌝ }
     ensures { λ r. ⌜ Cells.ShownBy places (now (instants .entry)) clock (Engine.marking places (now (counts .entry))) next r (now (table .entry)) (now (table .exit)) ⌝ }
 {
-    let to = reached(instants, clock, next);
-    fill(table, counts, places, instants.len(), next, to);
-    to
+    let n = instants.len();
+    // Few clock readings reach an instant: the next one is looked at here, and the loops run only where it is reached.
+    if next < n {
+        if instants[next] <= clock {
+            let to = reached(instants, clock, next);
+            fill(table, counts, places, n, next, to);
+            return to;
+        }
+    }
+    next
 }
 
 // What the end of a run leaves in the cells: the counts at the instants from next on; nothing more where it is halted; +0 everywhere where it is refused.
