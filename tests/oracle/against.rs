@@ -1,12 +1,15 @@
 //! How long a step of a path takes by one library and by another, each loaded from files that hold it at several places of a page: where the
 //! loops fall decides more than many a change to them. One program, the same nets, turn and turn about.
-use crate::paths;
+use crate::paths::{self, Case};
 use crate::rattle::{path_by, Fields, PathFunction};
 use std::ffi::{c_char, c_int, c_void, CString};
 use std::hint::black_box;
 use std::time::Instant;
 
 const ROUNDS: usize = 50;
+
+/// At least so many steps are timed at once.
+const STEPS: u64 = 10_000;
 
 extern "C" {
     fn dlopen(name: *const c_char, flags: c_int) -> *mut c_void;
@@ -26,6 +29,16 @@ fn loaded(file: &str) -> PathFunction {
     }
 }
 
+/// Paths one after another, each from the state that the one before it left, and how many steps they take: a short path that is played again and again is
+/// learnt by the machine's branch predictor, and how soon is not what is asked.
+fn played(function: PathFunction, fields: &Fields, case: &Case, state: &mut [u64; 4], table: &mut [f64]) -> u64 {
+    let mut steps = 0;
+    while steps < STEPS {
+        steps += path_by(function, fields, state, &case.instants, case.limit, table)[1];
+    }
+    steps
+}
+
 /// The files of the other library, then as many of ours.
 pub fn bench(folder: &str, files: &[&str]) {
     let functions: Vec<PathFunction> = files.iter().map(|file| loaded(file)).collect();
@@ -39,9 +52,9 @@ pub fn bench(folder: &str, files: &[&str]) {
             for (k, function) in functions.iter().enumerate() {
                 let (mut state, mut table) = (black_box(case.state), vec![0.0; 2048]);
                 let began = Instant::now();
-                let told = path_by(*function, &fields, &mut state, &case.instants, case.limit, &mut table);
+                steps = played(*function, &fields, &case, &mut state, &mut table);
                 best[k] = best[k].min(began.elapsed().as_nanos() as f64);
-                (ends[k], steps) = (state, told[1]);
+                ends[k] = state;
                 black_box(table);
             }
         }
