@@ -1,7 +1,7 @@
 -- `combinations`: how many ways there are to choose w of m, as a float, and whether that float is exact. Document 01, "000" and "Combinations." among the
 -- turn-downs; document 02, order 6. Definitions only.
 use Prim.Native.Nat.{ℕ, zero, suc, _+_, _^_}
-use mathlib.Core.Bool.{Bool, true, _||_, cond}
+use mathlib.Core.Bool.{Bool, true, false, _||_, cond}
 use lib.IntN.{ℤ, pos, _-ℤ_, natAbs}
 use lib.Signed.{ltZ, leZ}
 use lib.Ieee.{Float, binary64, ofInt, mul, div}
@@ -18,6 +18,11 @@ use Rattle.combinations.specs.declared.Ways.the-variants.{Value, Refused
 pub data Answer : Type 0 where
   value : Float → Bool → Answer
   refused : ℕ → Answer
+
+-- what an answer says of its float; a refusal says nothing of one
+abbrev pub asFlag : Answer → Bool
+asFlag (value x e) = e
+asFlag (refused c) = false
 
 -- what each case of the program's answer says
 abbrev pub meaning : Ways → Answer

@@ -240,6 +240,29 @@ pub fn combinations_unflagged(m: i64, w: i64) -> RealWays
     RealWays::Value(short_product(m as u64, w as u64))
 }
 
+// The flag of the ways to choose w of m tokens, without their float, for a caller that asks for the float apart. A refusal has none, and it is false.
+pub fn exact_ways(m: u64, w: u64) -> bool
+    ensures { λ r. ⌜ r ≡ Spec.asFlag (Spec.combinations (pos m) (pos w)) ⌝ }
+{
+    if w == 0 {
+        return true;
+    }
+    if m < w {
+        return true;
+    }
+    if w > MOST_FACTORS as u64 {
+        return false;
+    }
+    if m > LARGEST as u64 {
+        return false;
+    }
+    let answer = counted(m, w);
+    match answer {
+        Ways::Value(_, exact) => exact,
+        Ways::Refused => false,
+    }
+}
+
 // The same product for a real x, where no rule asks whether x is below w: 1 where w is 0 or below, refused where w is above 16.
 pub fn combinations_real(x: f64, w: i64) -> RealWays
     ensures { λ r. ⌜ Real.meaning r ≡ Real.combinationsReal x w ⌝ }

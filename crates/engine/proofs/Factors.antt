@@ -14,13 +14,11 @@ use mir.Facts.{toZ-pos}
 use borrow.Author.Tests.{leb-false, eqb-true, ne-eqb}
 use Rattle.net.specs.Net.{Marking, pick, zero64, amount, held}
 use Rattle.net.specs.Readable.{Slot, slotAt, slots, takesOf}
-use Rattle.combinations.specs.declared.Ways.{Ways}
 use Rattle.combinations.specs.declared.RealWays.{RealWays}
-use Rattle.combinations.specs.Combinations.{Answer, value, refused, meaning, combinations}
+use Rattle.combinations.specs.Combinations.{Answer, value, refused, combinations}
 use Rattle.combinations.specs.Real as Real
 use Rattle.combinations.specs.Real.{unflagged}
 use Rattle.rules.specs.Propensity.{asFloat, ways, factored}
-use Rattle.rules.specs.Exact.{asFlag, exactWays}
 use Rattle.engine.specs.Limits.{atLeast}
 use Rattle.engine.proofs.Arcs.{ap-pick, on-bool, amount-most, slots-step}
 
@@ -48,13 +46,6 @@ ways-answer m w h k r e =
     let a : toZ w64 m ≡ pos m = toZ-pos w64 (omega arith) in
     let b : toZ w64 w ≡ pos w = toZ-pos w64 (omega arith) in
     ap alone (e ∙ (λ i. unflagged (combinations (a i) (b i)))) ∙ alone-is (combinations (pos m) (pos w))
-
-pub exact-answer : (m w : ℕ) → m ≤ 2 ^ 53 → w ≤ 1_000_000 → (r : Ways) → meaning r ≡ combinations (toZ w64 m) (toZ w64 w) → asFlag (meaning r) ≡ exactWays m w
-unfolding exactWays
-exact-answer m w h k r e =
-    let a : toZ w64 m ≡ pos m = toZ-pos w64 (omega arith) in
-    let b : toZ w64 w ≡ pos w = toZ-pos w64 (omega arith) in
-    ap asFlag (e ∙ (λ i. combinations (a i) (b i)))
 
 -- 0 over 0
 pub no-number : div binary64 zero64 zero64 ≡ nan

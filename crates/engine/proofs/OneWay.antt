@@ -7,11 +7,12 @@ use lib.Dec.{T, le→leb}
 use lib.IntN.{pos}
 use lib.ListN.{getD}
 use lib.Ieee.{binary64, inFloat}
+use Rattle.combinations.specs.Combinations.{asFlag}
 use Rattle.combinations.specs.Theorems.{unrounded}
 use Rattle.combinations.proofs.Laws.{one-is-exact, exact-up-to}
 use Rattle.net.specs.Net.{amount}
 use Rattle.rules.specs.Propensity.{float, asFloat, ways}
-use Rattle.rules.specs.Exact.{asFlag, exactWays}
+use Rattle.rules.specs.Exact.{exactWays}
 
 -- a count is a whole number that the format holds
 pub count-fits : (n : ℕ) → n ≤ 2 ^ 53 → T (inFloat binary64 (pos n))

@@ -10,30 +10,18 @@ ghost use Rattle.net.specs.Record.{lent};
 ghost use Rattle.net.specs.declared.Net.{Net as NetRecord};
 ghost use Rattle.rules.specs.Exact as Exact;
 ghost use Rattle.engine.specs.Engine as Engine;
-use combinations::Ways;
 
-// Does the float of the ways to choose w of m tokens differ from their number?
-fn inexact_ways(m: u64, w: u64) -> bool
-    requires { ⌜ (m ≤ 2 ^ 53) × (w ≤ 1_000_000) ⌝ }
-    ensures { λ r. ⌜ r ≡ not (Exact.exactWays m w) ⌝ }
-{
-    let answer = combinations::combinations(m as i64, w as i64);
-    match answer {
-        Ways::Value(_, exact) => !exact,
-        Ways::Refused => true,
-    }
-}
-
-// Is that of the ways of one slot, at the count of its place? Only a kinetic take has them, and up to a bound by its weight they are exact.
+// Does the float of the ways of one slot, at the count of its place, differ from their number? Only a kinetic take has them, and up to a bound by its weight
+// they are exact.
 fn inexact_slot(kind: u64, weight: u64, count: u64) -> bool
-    requires { ⌜ (count ≤ 2 ^ 53) × (weight ≤ 1_000_000) ⌝ }
+    requires { ⌜ count ≤ 2 ^ 53 ⌝ }
     ensures { λ r. ⌜ r ≡ (eqb kind 0 && not (Exact.exactWays count (Reader.amount weight))) ⌝ }
 {
     if kind == 0 {
         if count <= combinations::unrounded(weight) {
             return false;
         }
-        return inexact_ways(count, weight);
+        return !combinations::exact_ways(count, weight);
     }
     false
 }

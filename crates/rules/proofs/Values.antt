@@ -9,9 +9,9 @@ use borrow.Author.Tests.{le-ltb}
 use Rattle.net.specs.Net.{Take, Transition, Marking, pick, zero64, one64, amount, held}
 use Rattle.net.specs.Tests.{kineticTotal}
 use Rattle.net.specs.Readable.{readable}
-use Rattle.combinations.specs.Combinations.{Answer, value, counted}
+use Rattle.combinations.specs.Combinations.{Answer, value, asFlag, counted}
 use Rattle.rules.specs.Propensity.{asFloat}
-use Rattle.rules.specs.Exact.{asFlag, exactWays}
+use Rattle.rules.specs.Exact.{exactWays}
 use Rattle.rules.specs.Gillespie.{Tested}
 use Rattle.rules.specs.Values.{Read, Valued, AllValued, NothingRefused, NothingRefusedInRuns}
 use Rattle.rules.proofs.Accepted.{accepted, fit-held, starts-fit, reached-fit}

@@ -1,20 +1,16 @@
 -- Which propensities are rounded. Document 02, order 6: the answer of combinations "says whether its float equals the whole-number binomial exactly"; "A
 -- propensity passes this on, one of 0 as exact".
 use Prim.Native.Nat.{ℕ}
-use mathlib.Core.Bool.{Bool, false, _&&_, not}
+use mathlib.Core.Bool.{Bool, _&&_, not}
 use mathlib.Core.List.{List}
 use lib.IntN.{pos}
 use lib.Ieee.{lt}
 use Rattle.net.specs.Net.{Take, Transition, Net, Marking, zero64, amount, held}
 use Rattle.net.specs.Tests.{any}
-use Rattle.combinations.specs.Combinations.{Answer, value, refused, combinations}
+use Rattle.combinations.specs.Combinations.{asFlag, combinations}
 use Rattle.rules.specs.Propensity.{propensity}
 
 -- What combinations says of its float (crate combinations, Binomial). A refusal says nothing, and no run meets one (Values).
-abbrev pub asFlag : Answer → Bool
-asFlag (value x e) = e
-asFlag (refused c) = false
-
 unfoldable pub exactWays : ℕ → ℕ → Bool
 exactWays m w = asFlag (combinations (pos m) (pos w))
 

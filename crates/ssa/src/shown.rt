@@ -30,7 +30,7 @@ fn fill_column(table: &mut [f64], counts: &[u64; 32], places: usize, n: usize, i
 {
     let mut p: usize = 0;
     while p < places {
-        table[p * n + i] = counts[p] as f64;
+        table[p * n + i] = counts[p] as i64 as f64;
         p += 1;
     }
 }

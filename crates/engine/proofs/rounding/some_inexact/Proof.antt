@@ -74,7 +74,7 @@ inexact-slot-requires : tie.Need-inexact-slot-requires Inv-loop μ-loop
 inexact-slot-requires c κs =
     let l = c .before .before .before .before .before in
     let s = l .before .before in
-    (s .pre .2 .small (getD (s .args .place .now) (l .loop .a) 0), s .pre .1 .weight (l .loop .a))
+    s .pre .2 .small (getD (s .args .place .now) (l .loop .a) 0)
 
 returns : tie.Need-returns Inv-loop μ-loop
 returns c =

@@ -1,12 +1,17 @@
--- The loop writes the cells of one instant, place by place (proofs/Cells, Column).
+-- The loop writes the cells of one instant, place by place (proofs/Cells, Column); the cast to a signed number keeps a count of at most 2 ^ 53.
 use native.Mathlib.Nat.{mul-le-mul}
-use lib.ListN.{getD}
+use lib.Dec.{T}
+use lib.IntN.{ℤ}
+use lib.ListN.{set}
+use lib.Ieee.{Float, binary64, inFloat, ofInt}
+use mir.Syntax.{w64}
+use mir.Facts.{toZ-pos}
 use Rattle.rng.proofs.Floats.{in-f64}
 use Rattle.ssa.proofs.Cells.{cell-in, Column, column-none, column-more, column-all}
 use borrow.Author.Needs.{needs}
 use native.Mathlib.Omega.{arith}
-use mathlib.Core.Path.{_≡_, subst}
-use Prim.Native.Nat.{ℕ, _-_, _≤_}
+use mathlib.Core.Path.{_≡_, ap, subst, subst⁻¹}
+use Prim.Native.Nat.{ℕ, _+_, _-_, _*_, _≤_}
 use Rattle.ssa.proofs.shown.fill_column.Statement.{statement}
 use Rattle.ssa.proofs.shown.fill_column.Tie as tie
 
@@ -25,8 +30,14 @@ mul-table c = search needs
 element-copy-out-table : tie.Need-element-copy-out-table Inv-loop μ-loop
 element-copy-out-table c = search needs
 
+cast-table : tie.Need-cast-table Inv-loop μ-loop
+cast-table c = let l = c .before .before in omega (arith, l .before .pre .4 .small (l .loop .p))
+
 int-to-float-table : tie.Need-int-to-float-table Inv-loop μ-loop
-int-to-float-table c = let l = c .before .before .before in in-f64 (getD (l .before .args .counts .now) (l .loop .p) 0) (l .before .pre .4 .small (l .loop .p))
+int-to-float-table c =
+    let l = c .before .before .before in
+    let h = l .before .pre .4 .small (l .loop .p) in
+    subst⁻¹ (λ (z : ℤ). T (inFloat binary64 z)) (toZ-pos w64 (omega arith)) (in-f64 _ h)
 
 mul-table-2 : tie.Need-mul-table-2 Inv-loop μ-loop
 mul-table-2 c =
@@ -67,7 +78,12 @@ loop-again c =
     let l = c .before .before .before in
     let s = l .before .args in
     let e = cell-in (l .loop .p) (s .i) (s .places) (s .n) (omega arith) (omega arith) in
-    (omega arith, column-more (s .n) (s .i) (l .loop .p) (s .counts .now) (s .table .now) (l .loop .table) (omega arith) (omega (arith, e, l .loop .inv .1 .long)) (l .loop .inv .1))
+    let h = l .before .pre .4 .small (l .loop .p) in (
+      omega arith,
+      subst⁻¹ (λ (v : Float). Column (s .n) (s .i) (l .loop .p + 1) (s .counts .now) (s .table .now) (set (l .loop .table) (l .loop .p * s .n + s .i) v))
+          (ap (ofInt binary64) (toZ-pos w64 (omega (arith, h))))
+          (column-more (s .n) (s .i) (l .loop .p) (s .counts .now) (s .table .now) (l .loop .table) (omega arith) (omega (arith, e, l .loop .inv .1 .long)) (l .loop .inv .1)),
+    )
 
 same-length : tie.Need-same-length Inv-loop μ-loop
 same-length c = search needs
@@ -89,6 +105,7 @@ fill-column-spec =
     loop-holds
     mul-table
     element-copy-out-table
+    cast-table
     int-to-float-table
     mul-table-2
     add-table
