@@ -22,17 +22,18 @@ use Rattle.rules.proofs.Runs.{spent-unhalted}
 use Rattle.rules.proofs.Play.{Played, upTo, beyond, alike, over, higher, play, settledBy, played-path}
 use Rattle.rules.proofs.PlayLaws as Rule
 use Rattle.rules.proofs.PlayLaws.{addDone}
-use Rattle.ssa.specs.declared.PathEnd.{PathEnd}
-use Rattle.ssa.specs.declared.PathEnd.the-variants.{Quiet, Spent, Reached, Halted, Refused}
-use Rattle.ssa.specs.declared.run.Walked.{Walked}
-use Rattle.ssa.specs.Cells.{tableWith, tableOf, ShownBy}
+use Rattle.playing.specs.declared.PathEnd.{PathEnd}
+use Rattle.playing.specs.declared.PathEnd.the-variants.{Quiet, Spent, Reached, Halted, Refused}
+use Rattle.playing.specs.declared.run.Walked.{Walked}
+use Rattle.playing.specs.Cells.{tableWith, tableOf, ShownBy}
 use Rattle.ssa.specs.Path.{Call, played, endOf}
-use Rattle.ssa.specs.Playing.{PlayedBy, refuses, ends, settledAt, toldOf, answerOf}
-use Rattle.ssa.proofs.Cells.{cleared-stay}
-use Rattle.ssa.proofs.Columns.{listed-with, with-with, with-whole}
-use Rattle.ssa.proofs.Finished.{fills}
-use Rattle.ssa.proofs.PathEnd.{the-type}
-use Rattle.ssa.proofs.Playing.{shown-beyond, listed-shown, shown-within}
+use Rattle.playing.specs.Playing.{PlayedBy, refuses, ends}
+use Rattle.ssa.specs.Told.{settledAt, toldOf, answerOf}
+use Rattle.playing.proofs.Cells.{cleared-stay}
+use Rattle.playing.proofs.Columns.{listed-with, with-with, with-whole}
+use Rattle.playing.proofs.Finished.{fills}
+use Rattle.playing.proofs.PathEnd.{the-type}
+use Rattle.playing.proofs.Playing.{shown-beyond, listed-shown, shown-within}
 
 abbrev pub NotRefused : PathEnd → Type 0
 NotRefused Quiet = Unit

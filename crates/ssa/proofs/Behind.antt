@@ -38,11 +38,11 @@ use Rattle.rules.proofs.Shows.{run-shows, each-fits}
 use Rattle.carried.specs.Records.{countIn, recordedIn}
 use Rattle.carried.proofs.Recorded.{count-in-float, recorded-long, recorded-held}
 use Rattle.carried.proofs.Tested.{by-counts}
-use Rattle.ssa.specs.Cells.{tableWith}
+use Rattle.playing.specs.Cells.{tableWith}
 use Rattle.ssa.specs.Halted.{Standing, Call, played}
 use Rattle.ssa.specs.Edition.{carriedBy, Behind}
 use Rattle.ssa.proofs.Called.{Named, Passed}
-use Rattle.ssa.proofs.Columns.{with-long, with-at, with-earlier}
+use Rattle.playing.proofs.Columns.{with-long, with-at, with-earlier}
 use Rattle.ssa.proofs.Recorded.{cellIn, fit-count, cells-fit}
 
 -- ---- a path that a call plays, over so many places, into a table that has recorded the instants before `from`

@@ -49,7 +49,7 @@ use Rattle.carried.proofs.Named.{all-below, renamed-in}
 use Rattle.ssa.specs.declared.Halted.{Halted}
 use Rattle.ssa.specs.Path.{tableFits}
 use Rattle.ssa.specs.Halted.{standingOf, carriedFrom, Passes}
-use Rattle.ssa.specs.Stepping.{Light, Resumes}
+use Rattle.playing.specs.Stepping.{Light, Resumes}
 use Rattle.ssa.proofs.Accepted.{Fitting, fitting}
 use Rattle.ssa.proofs.Changed.{records-by-number, sent-by-word}
 

@@ -15,10 +15,10 @@ use Rattle.rules.specs.Carried.{Carried, runOn, metBy, leaving, filledBy, settl
 use Rattle.rules.proofs.Allowing.{refused-given}
 use Rattle.rules.proofs.Demand3Held.{reached-few}
 use Rattle.rules.proofs.Recording.{met-length}
-use Rattle.ssa.specs.Cells.{tableWith}
+use Rattle.playing.specs.Cells.{tableWith}
 use Rattle.ssa.specs.Halted.{Standing, standing, played}
 use Rattle.ssa.specs.Edition.{Same}
-use Rattle.ssa.proofs.Columns.{with-cleared, with-with}
+use Rattle.playing.proofs.Columns.{with-cleared, with-with}
 
 -- ---- a path with other records
 

@@ -30,7 +30,7 @@ use Rattle.carried.proofs.Waiting.{from-next, from-none}
 use Rattle.carried.proofs.Recorded.{recorded-long}
 use Rattle.carried.proofs.Named.{all-sent-right}
 use Rattle.ssa.specs.Halted.{Standing, carriedFrom}
-use Rattle.ssa.specs.Stepping.{Light}
+use Rattle.playing.specs.Stepping.{Light}
 
 -- ---- the weights that timers took, added up from the first on
 

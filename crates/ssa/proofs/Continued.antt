@@ -30,11 +30,12 @@ use Rattle.carried.specs.Records.{recordStrange}
 use Rattle.carried.proofs.Recorded.{recorded-long}
 use Rattle.ssa.specs.declared.Halted.{Halted}
 use Rattle.ssa.specs.declared.Onward.{Onward as OnwardAnswer}
-use Rattle.ssa.specs.declared.PathEnd.{PathEnd}
-use Rattle.ssa.specs.declared.PathEnd.the-variants.{Refused}
-use Rattle.ssa.specs.declared.run.Walked.{Walked}
+use Rattle.playing.specs.declared.PathEnd.{PathEnd}
+use Rattle.playing.specs.declared.PathEnd.the-variants.{Refused}
+use Rattle.playing.specs.declared.run.Walked.{Walked}
 use Rattle.ssa.specs.Path.{endOf, tableFits}
-use Rattle.ssa.specs.Playing.{outOf, PlayedBy, refuses, ends, settledAt}
+use Rattle.playing.specs.Playing.{outOf, PlayedBy, refuses, ends}
+use Rattle.ssa.specs.Told.{settledAt}
 use Rattle.ssa.specs.Halted.{Standing, Call, standingOf, carriedFrom, turnedDown, played, unlessFault, afterNets, carrying, callOf}
 use Rattle.ssa.proofs.Answered.{NotRefused}
 use Rattle.ssa.proofs.Resumed.{toldOn, refused-on, played-to}

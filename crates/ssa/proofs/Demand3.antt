@@ -23,10 +23,10 @@ use Rattle.rules.specs.Demand3 as Rule
 use Rattle.rules.proofs.Demand3Held as Held
 use Rattle.rules.proofs.TakesOnce.{takes-once}
 use Rattle.rules.proofs.Shows.{shown-fits}
-use Rattle.ssa.specs.Cells.{rowsFrom, tableOf}
+use Rattle.playing.specs.Cells.{rowsFrom, tableOf}
 use Rattle.ssa.specs.Path.{Call, turnedDown, played, tableFits, unlessFault, called}
 use Rattle.ssa.specs.Demand3.{Answered, cell, Demand3}
-use Rattle.ssa.proofs.Cells.{cell-in, rows-at, rows-long}
+use Rattle.playing.proofs.Cells.{cell-in, rows-at, rows-long}
 
 -- what a call that is not refused is
 pub record Whole (n : NetRecord) (g : Generator) (xs : List Float) (k : ℕ) (t : List Float) : Type 0 where

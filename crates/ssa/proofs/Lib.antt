@@ -1,15 +1,3 @@
-pub mod Light
-pub mod Tokens
-pub mod Rooms
-pub mod Passes
-pub mod Shut
-pub mod Ahead
-pub mod Passing
-pub mod Carrying
-pub mod Cells
-pub mod Columns
-pub mod Playing
-pub mod Finished
 pub mod Answered
 pub mod Resumed
 pub mod Accepted
@@ -25,8 +13,6 @@ pub mod ByNumber
 pub mod Unhalted
 pub mod NamesNone
 pub mod Edition
-pub mod Steps
-pub mod Raised
 pub mod Summing
 pub mod Requested
 pub mod Labels

@@ -22,7 +22,7 @@ use Rattle.rules.proofs.SameCounts.{fit-rises}
 use Rattle.ssa.specs.Path as Path
 use Rattle.ssa.specs.Path.{tableFits, called}
 use Rattle.ssa.specs.Halted.{Standing, turnedDown, unlessFault, played, unbegun, namingAfterNet, naming, pathCall}
-use Rattle.ssa.proofs.Columns.{with-whole}
+use Rattle.playing.proofs.Columns.{with-whole}
 
 module _ (n : NetRecord) (g : Generator) (xs : List Float) (limit number : ℕ) (t : List Float) (far : limit ≤ number) where
   abbrev places : ℕ

@@ -23,14 +23,15 @@ use Rattle.rules.proofs.PlayLaws.{addDone, alike-length}
 use Rattle.rules.proofs.Recording.{met-length}
 use Rattle.rules.proofs.Naming.{begun-length, begun-rises}
 use Rattle.rules.proofs.PlayedOn.{stepsFor, onward, played-on}
-use Rattle.ssa.specs.declared.PathEnd.{PathEnd}
-use Rattle.ssa.specs.declared.PathEnd.the-variants.{Quiet, Spent, Reached, Halted, Refused}
-use Rattle.ssa.specs.declared.run.Walked.{Walked}
-use Rattle.ssa.specs.Cells.{tableWith, reachedBy, ShownBy}
+use Rattle.playing.specs.declared.PathEnd.{PathEnd}
+use Rattle.playing.specs.declared.PathEnd.the-variants.{Quiet, Spent, Reached, Halted, Refused}
+use Rattle.playing.specs.declared.run.Walked.{Walked}
+use Rattle.playing.specs.Cells.{tableWith, reachedBy, ShownBy}
 use Rattle.ssa.specs.Path.{endOf}
-use Rattle.ssa.specs.Playing.{outOf, PlayedBy, refuses, ends, settledAt}
+use Rattle.playing.specs.Playing.{outOf, PlayedBy, refuses, ends}
+use Rattle.ssa.specs.Told.{settledAt}
 use Rattle.ssa.specs.Halted.{Standing, Call, standing, turnedDown, played}
-use Rattle.ssa.proofs.Columns.{with-cleared, with-with, filled-with}
+use Rattle.playing.proofs.Columns.{with-cleared, with-with, filled-with}
 use Rattle.ssa.proofs.Answered.{NotRefused}
 
 -- what is played on: at most so many steps from the state s, with the instants from number `next` on left, and this peak so far

@@ -1,7 +1,7 @@
 -- Order 7 holds of path calls: a call that is not refused has an accepted net, of which the rules' promise (crate rules, Balancing) speaks, and a cell of the
 -- table is the count there as a float.
-use Prim.Native.Nat.{ℕ, _≤_, _<_}
-use mathlib.Core.Path.{_≡_, refl, sym, ap, _∙_}
+use Prim.Native.Nat.{ℕ, _<_}
+use mathlib.Core.Path.{_≡_, ap, _∙_}
 use mathlib.Core.List.{List, []}
 use mathlib.Core.Option.{none}
 use lib.ListN.{getD, length}
@@ -10,20 +10,17 @@ use Rattle.net.specs.declared.Net.{Net as NetRecord}
 use Rattle.net.specs.Net.{Marking}
 use Rattle.net.specs.Readable.{readable}
 use Rattle.rng.specs.State.{State as Generator}
-use Rattle.rules.specs.Moves.{initialCounts}
 use Rattle.rules.specs.Step.{given}
 use Rattle.rules.specs.Run.{trace}
 use Rattle.rules.specs.Shown.{shownAt, runOf}
-use Rattle.rules.specs.Demand3.{instant, earlier}
+use Rattle.rules.specs.Demand3.{instant}
 use Rattle.rules.specs.Balance as Rule
-use Rattle.rules.specs.Balance.{balance, countsWeigh, AllCompleted}
+use Rattle.rules.specs.Balance.{balance, countsWeigh}
 use Rattle.rules.proofs.Demand3Held as Held
 use Rattle.rules.proofs.TakesOnce.{takes-once}
 use Rattle.rules.proofs.Shows.{shown-fits}
 use Rattle.rules.proofs.Balancing.{conserved}
-use Rattle.ssa.specs.Path.{called}
-use Rattle.ssa.specs.Demand3.{Answered}
-use Rattle.ssa.specs.Subscribers.{Happened, CellsWeigh, SubscribersKept}
+use Rattle.ssa.specs.Subscribers.{SubscribersKept}
 use Rattle.ssa.proofs.Demand3.{Whole, whole, cell-is}
 
 pub subscribers-kept : (n : NetRecord) (ws : List ℕ) → balance (readable n) ws ≡ given none → (g : Generator) → SubscribersKept n ws g

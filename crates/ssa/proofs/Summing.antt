@@ -28,21 +28,21 @@ use Rattle.averages.proofs.Fronts.{withFront-length}
 use Rattle.averages.proofs.Members.{withAll, with-more, with-refused, with-none, one-more, last-more}
 use Rattle.averages.proofs.Sums as Sums
 use Rattle.ssa.specs.declared.EnsembleAnswer.the-variants.{Averaged, Stopped}
-use Rattle.ssa.specs.declared.PathEnd.{PathEnd}
-use Rattle.ssa.specs.declared.PathEnd.the-variants.{Quiet, Spent, Reached, Halted, Refused}
+use Rattle.playing.specs.declared.PathEnd.{PathEnd}
+use Rattle.playing.specs.declared.PathEnd.the-variants.{Quiet, Spent, Reached, Halted, Refused}
 use Rattle.ssa.specs.declared.PathAnswer.{PathAnswer}
 use Rattle.ssa.specs.declared.members.Turn.{Turn}
 use Rattle.ssa.specs.declared.members.Turn.the-variants as Turn
 use Rattle.ssa.specs.declared.members.Summed.{Summed}
 use Rattle.ssa.specs.declared.members.Summed.the-variants as Summed
-use Rattle.ssa.specs.Cells.{rowsFrom, tableOf, cleared}
+use Rattle.playing.specs.Cells.{rowsFrom, tableOf, cleared}
 use Rattle.ssa.specs.Path as Path
 use Rattle.ssa.specs.Path.{endOf, callOf, played}
 use Rattle.ssa.specs.Ensemble as Ensemble
 use Rattle.ssa.specs.Ensemble.{oneIfSpent, spentOf, cellsOf, lastShown, tabulated}
 use Rattle.ssa.specs.Summing as Summing
 use Rattle.ssa.specs.Summing.{drawn, oneBySpent, TurnBy, sumAt, SummedBy}
-use Rattle.ssa.proofs.Cells.{rows-long}
+use Rattle.playing.proofs.Cells.{rows-long}
 use Rattle.ssa.proofs.Answered.{NotRefused}
 
 -- ---- tables and the cells behind

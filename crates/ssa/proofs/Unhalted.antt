@@ -29,7 +29,7 @@ use Rattle.rules.proofs.HaltingHeld.{two, identity-same}
 use Rattle.rules.proofs.Passing.{Fit, no-fault, fit-left}
 use Rattle.carried.specs.Records.{recordedIn}
 use Rattle.carried.proofs.Recorded.{recorded-long, recorded-wide, recorded-held}
-use Rattle.ssa.specs.Cells.{tableWith}
+use Rattle.playing.specs.Cells.{tableWith}
 use Rattle.ssa.specs.Halted.{Standing, standing, Call, played, carrying}
 use Rattle.ssa.specs.Edition.{carriedBy, Same}
 use Rattle.ssa.proofs.Recorded.{cellIn, float-fits, not-strange}

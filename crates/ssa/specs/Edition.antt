@@ -21,7 +21,7 @@ use Rattle.rules.specs.Carried.{Carried, Onward, pathNaming, altogether}
 use Rattle.rules.specs.Change.{Pair, identity, renamed, carry}
 use Rattle.rules.specs.Halting.{countsAt, TimesFit, Alike, AllMatched}
 use Rattle.carried.specs.Records.{countIn}
-use Rattle.ssa.specs.Cells.{tableWith}
+use Rattle.playing.specs.Cells.{tableWith}
 use Rattle.ssa.specs.Path.{called}
 use Rattle.ssa.specs.Halted.{Standing, standing, carriedFrom, Call, naming, carrying, pathCall}
 

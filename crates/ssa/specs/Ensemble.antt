@@ -18,7 +18,7 @@ use Rattle.averages.specs.Members.{Members, refusedAt, members, pathsFrom, last
 use Rattle.averages.specs.Tables.{Tables, allCleared, averagedOver, callFault}
 use Rattle.ssa.specs.declared.EnsembleAnswer.{EnsembleAnswer}
 use Rattle.ssa.specs.declared.EnsembleAnswer.the-variants.{Averaged, TurnedDown, Stopped}
-use Rattle.ssa.specs.Cells.{rowsFrom, tableOf}
+use Rattle.playing.specs.Cells.{rowsFrom, tableOf}
 
 -- ---- its paths
 

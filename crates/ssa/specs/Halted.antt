@@ -23,7 +23,7 @@ use Rattle.carried.specs.Timers.{timersIn}
 use Rattle.carried.specs.Records.{recordStrange, recordedIn}
 use Rattle.ssa.specs.declared.Halted.{Halted}
 use Rattle.ssa.specs.declared.Onward.{Onward as OnwardAnswer}
-use Rattle.ssa.specs.Cells.{tableWith, cleared}
+use Rattle.playing.specs.Cells.{tableWith, cleared}
 use Rattle.ssa.specs.Path as Path
 use Rattle.ssa.specs.Path.{endOf, tableFits}
 

@@ -1,10 +1,6 @@
-pub mod Starts
-pub mod Keeping
-pub mod Cells
-pub mod Stepping
 pub mod Path
+pub mod Told
 pub mod Halted
-pub mod Playing
 pub mod Demand3
 pub mod Edition
 pub mod Subscribers

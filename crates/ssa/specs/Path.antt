@@ -11,23 +11,14 @@ use Rattle.net.specs.declared.Net.{Net as NetRecord}
 use Rattle.net.specs.Net.{Net, pick}
 use Rattle.net.specs.Readable.{readable, fault}
 use Rattle.rng.specs.State.{State as Generator, words}
-use Rattle.ssa.specs.Cells.{tableOf, cleared}
+use Rattle.playing.specs.Cells.{tableOf, cleared}
 use Rattle.rules.specs.Step.{Answer, refused, given}
-use Rattle.rules.specs.Run.{End, quiet, spent, reached, halted}
+use Rattle.rules.specs.Run.{End}
 use Rattle.rules.specs.Shown.{Path, instantsFit, limitFits, worked}
-use Rattle.ssa.specs.declared.PathEnd.{PathEnd}
-use Rattle.ssa.specs.declared.PathEnd.the-variants.{Quiet, Spent, Reached, Halted, Refused}
+pub use Rattle.playing.specs.Ends.{endOf}
 use Rattle.ssa.specs.declared.PathAnswer.{PathAnswer}
 
 -- ---- the answer
-
--- "the end quiet, spent or else reached", halted where a number of steps is named (document 02, order 8), or a refusal's number
-abbrev pub endOf : PathEnd → Answer End
-endOf Quiet = given quiet
-endOf Spent = given spent
-endOf Reached = given reached
-endOf Halted = given halted
-endOf (Refused c) = refused c
 
 -- what the call answers and leaves in the table
 pub record Call : Type 0 where

@@ -15,16 +15,16 @@ use Rattle.averages.specs.Moments.{plus, plusSquare, summedUp, tableBy}
 use Rattle.averages.specs.Request.{seedOf}
 use Rattle.averages.specs.Members.{Members, refusedAt, members}
 pub use Rattle.averages.specs.Members.{pathsFrom}
-use Rattle.ssa.specs.declared.PathEnd.{PathEnd}
-use Rattle.ssa.specs.declared.PathEnd.the-variants.{Quiet, Spent, Reached, Halted, Refused}
+use Rattle.playing.specs.declared.PathEnd.{PathEnd}
+use Rattle.playing.specs.declared.PathEnd.the-variants.{Quiet, Spent, Reached, Halted, Refused}
 use Rattle.ssa.specs.declared.members.Turn.{Turn}
 use Rattle.ssa.specs.declared.members.Turn.the-variants as Turn
 use Rattle.ssa.specs.declared.members.Summed.{Summed}
 use Rattle.ssa.specs.declared.members.Summed.the-variants as Summed
 use Rattle.engine.specs.Engine.{Tidy}
 use Rattle.engine.specs.Limits.{Limits}
-use Rattle.ssa.specs.Keeping.{Tables}
-use Rattle.ssa.specs.Cells.{tableOf, cleared}
+use Rattle.playing.specs.Keeping.{Tables}
+use Rattle.playing.specs.Cells.{tableOf, cleared}
 use Rattle.ssa.specs.Ensemble.{oneIfSpent, spentOf, cellsOf, lastShown}
 
 -- what every path is lent: a tidy net with small initial counts, its limits and tables, and instants that fit

@@ -14,10 +14,10 @@ ghost use Rattle.rules.specs.Shown as Shown;
 ghost use Rattle.engine.specs.Engine as Engine;
 ghost use Rattle.ssa.specs.Path as Path;
 use crate::PathAnswer;
-use crate::PathEnd;
 use crate::start;
-use crate::tables;
 use engine::slots;
+use playing::PathEnd;
+use playing::tables;
 use rng::Xoshiro256;
 
 // The bounds of document 01, "Path".

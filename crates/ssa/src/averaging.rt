@@ -14,19 +14,19 @@ ghost use Rattle.averages.specs.Front as Front;
 ghost use Rattle.averages.specs.Moments as Moments;
 ghost use Rattle.averages.specs.Request as Request;
 ghost use Rattle.engine.specs.Engine as Engine;
-ghost use Rattle.ssa.specs.Cells as Cells;
+ghost use Rattle.playing.specs.Cells as Cells;
 ghost use Rattle.ssa.specs.Ensemble as Ensemble;
 ghost use Rattle.ssa.specs.Path as Path;
 ghost use Rattle.ssa.specs.Summing as Summing;
 use crate::EnsembleAnswer;
 use crate::members;
 use crate::members::Summed;
-use crate::shown;
-use crate::tables;
 use averages::moments;
 use averages::request;
 use engine::slots;
 use net::Net;
+use playing::shown;
+use playing::tables;
 
 // The step limit of an ensemble's paths.
 const MOST_STEPS: u64 = 1_000_000;

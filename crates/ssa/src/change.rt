@@ -24,13 +24,10 @@ ghost use Rattle.carried.specs.Records as Records;
 ghost use Rattle.carried.specs.Timers as Timers;
 ghost use Rattle.ssa.specs.Halted as Spec;
 ghost use Rattle.ssa.specs.Path as Path;
-ghost use Rattle.ssa.specs.Stepping as Stepping;
+ghost use Rattle.playing.specs.Stepping as Stepping;
 use crate::Halted;
 use crate::Onward;
-use crate::PathEnd;
 use crate::accept;
-use crate::run::Standing;
-use crate::start;
 use crate::until;
 use carried::records;
 use carried::renaming;
@@ -38,6 +35,9 @@ use carried::state;
 use engine::slots;
 use index::marks;
 use net::Verdict;
+use playing::PathEnd;
+use playing::begin;
+use playing::run::Standing;
 use timers::queue;
 use timers::queue::Queue;
 
@@ -258,7 +258,7 @@ pub fn accepted_carry<'a>(
         clock: path.clock,
         timers: ring,
         next: path.recorded,
-        tokens: start::sum(&counts, places) + taken(&q.takens, q.len),
+        tokens: begin::sum(&counts, places) + taken(&q.takens, q.len),
         peak: path.peak,
         rng: rng,
     };

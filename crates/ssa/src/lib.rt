@@ -2,15 +2,8 @@
 mod accept;
 mod averaging;
 mod change;
-mod firing;
 mod members;
-mod peak;
-mod run;
-mod shown;
 mod start;
-mod starts;
-mod step;
-mod tables;
 mod until;
 
 ghost use mathlib.Core.Path.{_≡_};
@@ -23,17 +16,9 @@ ghost use Rattle.ssa.specs.Path as Path;
 use averages::request;
 use net::Net;
 use net::Verdict;
+pub use playing::PathEnd;
 use rng::Xoshiro256;
 use timers::queue::Queue;
-
-// How a path ends, or the number by which it was turned down. Only a path that names a number of steps is halted.
-pub enum PathEnd {
-    Quiet,
-    Spent,
-    Reached,
-    Halted,
-    Refused(u64),
-}
 
 // The end of a path, its steps, how many instants are settled, the peak, how many steps have an a0 that adds a rounded propensity, and the generator after
 // it; of a path that is turned down the number, four times 0, and the generator as it came.

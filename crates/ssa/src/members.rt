@@ -7,15 +7,15 @@ ghost use Rattle.net.specs.Record.{lent};
 ghost use Rattle.net.specs.declared.Net.{Net as NetRecord};
 ghost use Rattle.rng.specs.Splitmix as Seeding;
 ghost use Rattle.averages.specs.Request as Request;
-ghost use Rattle.ssa.specs.Cells as Cells;
+ghost use Rattle.playing.specs.Cells as Cells;
 ghost use Rattle.ssa.specs.Path as Path;
 ghost use Rattle.ssa.specs.Summing as Summing;
 use crate::PathAnswer;
-use crate::PathEnd;
 use crate::start;
 use averages::moments;
 use averages::request;
 use engine::slots;
+use playing::PathEnd;
 use rng::Xoshiro256;
 
 // A path was refused by that number, or it was added, and so many are spent so far.

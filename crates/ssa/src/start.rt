@@ -1,4 +1,4 @@
-// A path from its beginning: where it stands before the first step, and what a path call answers of it.
+// A path from its beginning, and what a path call answers of it.
 ghost use mathlib.Core.Path.{_≡_};
 ghost use mathlib.Core.Bool.{true};
 ghost use mathlib.Core.List.{List};
@@ -10,67 +10,23 @@ ghost use Rattle.net.specs.Readable as Record;
 ghost use Rattle.net.specs.Record.{lent};
 ghost use Rattle.net.specs.declared.Net.{Net as NetRecord};
 ghost use Rattle.rng.specs.State as Random;
-ghost use Rattle.rules.specs.Moments as Moments;
 ghost use Rattle.rules.specs.Moves as Moves;
 ghost use Rattle.rules.specs.Shown as Shown;
 ghost use Rattle.engine.specs.Engine as Engine;
 ghost use Rattle.engine.specs.Limits as Limits;
-ghost use Rattle.timers.specs.Turning as Turning;
-ghost use Rattle.ssa.specs.Cells as Cells;
-ghost use Rattle.ssa.specs.Keeping as Keeps;
+ghost use Rattle.playing.specs.Keeping as Keeps;
 ghost use Rattle.ssa.specs.Path as Path;
-ghost use Rattle.ssa.specs.Playing as Playing;
+ghost use Rattle.ssa.specs.Told as Told;
 use crate::PathAnswer;
-use crate::PathEnd;
-use crate::run;
-use crate::run::Standing;
-use crate::run::Walked;
-use crate::shown;
+use playing::PathEnd;
+use playing::begin;
+use playing::run;
+use playing::run::Walked;
 use rng::Xoshiro256;
-
-// The sum of the place counts.
-pub fn sum(counts: &[u64; 32], places: usize) -> u64
-    requires { ⌜ (places ≤ 32) × Engine.Counts (now counts) ⌝ }
-    ensures { λ r. ⌜ r ≡ Moments.sumOf (Engine.marking places (now (counts .entry))) ⌝ }
-{
-    let mut total: u64 = 0;
-    let mut p: usize = 0;
-    while p < places {
-        total = total + counts[p];
-        p += 1;
-    }
-    total
-}
-
-// A path that has taken no step: the clock at 0, no timer, the counts as they are; instants at most 0 are shown.
-pub fn begin(
-    instants: &[f64],
-    table: &mut [f64],
-    counts: &[u64; 32],
-    places: usize,
-    rng: Xoshiro256,
-) -> Standing
-    requires { ⌜ (places ≤ 32) × (length (now instants) ≤ 1024) × (places * length (now instants) ≤ length (now table)) × Engine.Counts (now counts) ⌝ }
-    ensures { λ r. ⌜ Cells.ShownBy places (now (instants .entry)) zero64 (Engine.marking places (now (counts .entry))) 0 (r .next) (now (table .entry)) (now (table .exit))
-        × (r .clock ≡ zero64) × Turning.NoTimers (r .timers) × (r .tokens ≡ Moments.sumOf (Engine.marking places (now (counts .entry))))
-        × (r .peak ≡ r .tokens) × (r .rng ≡ rng) ⌝ }
-{
-    let first = shown::show(instants, table, counts, places, 0.0, 0);
-    let tokens = sum(counts, places);
-    let none = timers::empty();
-    Standing {
-        clock: 0.0,
-        timers: none,
-        next: first,
-        tokens: tokens,
-        peak: tokens,
-        rng: rng,
-    }
-}
 
 // How many instants are settled.
 pub fn settled(end: PathEnd, next: usize, n: usize) -> u64
-    ensures { λ r. ⌜ r ≡ Playing.settledAt end next n ⌝ }
+    ensures { λ r. ⌜ r ≡ Told.settledAt end next n ⌝ }
 {
     match end {
         PathEnd::Quiet => n as u64,
@@ -83,7 +39,7 @@ pub fn settled(end: PathEnd, next: usize, n: usize) -> u64
 
 // What a path call answers of it.
 fn answer(w: Walked, n: usize, rng: Xoshiro256) -> PathAnswer
-    ensures { λ r. ⌜ ((table : List Float) → Path.callOf r table ≡ Playing.answerOf w n (Random.words (rng .s)) table (w .end)) ⌝ }
+    ensures { λ r. ⌜ ((table : List Float) → Path.callOf r table ≡ Told.answerOf w n (Random.words (rng .s)) table (w .end)) ⌝ }
 {
     let end = w.end;
     if let PathEnd::Refused(c) = end {
@@ -143,7 +99,7 @@ pub fn play<'a>(
     let mut ats = [0.0; 256];
     let mut owners = [0u64; 512];
     let n = instants.len();
-    let s = begin(instants, table, counts, places, rng);
+    let s = begin::begin(instants, table, counts, places, rng);
     let w = run::play_on(
         places,
         transitions,

@@ -19,18 +19,20 @@ ghost use Rattle.rules.proofs.Play as Play;
 ghost use Rattle.engine.specs.Engine as Engine;
 ghost use Rattle.timers.specs.Turning as Turning;
 ghost use Rattle.ssa.specs.Halted as Spec;
-ghost use Rattle.ssa.specs.Playing as Playing;
-ghost use Rattle.ssa.specs.Stepping as Stepping;
+ghost use Rattle.ssa.specs.Told as Told;
+ghost use Rattle.playing.specs.Playing as Playing;
+ghost use Rattle.playing.specs.Stepping as Stepping;
 use crate::Halted;
 use crate::Onward;
-use crate::PathEnd;
-use crate::peak;
-use crate::run;
-use crate::run::Standing;
-use crate::run::Walked;
 use crate::start;
-use crate::tables;
 use engine::slots;
+use playing::PathEnd;
+use playing::begin;
+use playing::peak;
+use playing::run;
+use playing::run::Standing;
+use playing::run::Walked;
+use playing::tables;
 use rng::Xoshiro256;
 use timers::queue;
 use timers::queue::Queue;
@@ -247,7 +249,7 @@ pub fn handed<'a>(
     n: usize,
 ) -> Onward
     requires { ⌜ (steps + w .steps < 2 ^ 64) × (rounded + w .rounded < 2 ^ 64) ⌝ }
-    ensures { λ r. ⌜ (r .end ≡ w .end) × (r .settled ≡ Playing.settledAt (w .end) (w .next) n)
+    ensures { λ r. ⌜ (r .end ≡ w .end) × (r .settled ≡ Told.settledAt (w .end) (w .next) n)
         × ((places : ℕ) → Spec.standingOf places (r .state) ≡ record {
           now = Step.state (w .clock) (Engine.marking places (now (counts .entry))) (Turning.timersOf (now (ats .entry)) (now (owners .entry)) (w .timers))
               (Random.words (w .rng .s));
@@ -349,7 +351,7 @@ pub fn accepted_until<'a>(
     let mut owners = [0u64; 512];
     let mut counts = slots::first_counts(places, initial);
     let n = instants.len();
-    let s = start::begin(instants, table, &counts, places, generator);
+    let s = begin::begin(instants, table, &counts, places, generator);
     let w = resume(
         places,
         transitions,

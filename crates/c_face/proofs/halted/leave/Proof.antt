@@ -6,8 +6,8 @@ use mathlib.Core.List.{List, [], _∷_}
 use lib.Ieee.{Float}
 use Rattle.rules.specs.Step.{given}
 use Rattle.rules.specs.Run.{End, quiet, spent, reached, halted}
-use Rattle.ssa.specs.declared.PathEnd.{PathEnd}
-use Rattle.ssa.specs.declared.PathEnd.the-variants.{Quiet, Spent, Reached, Halted, Refused}
+use Rattle.playing.specs.declared.PathEnd.{PathEnd}
+use Rattle.playing.specs.declared.PathEnd.the-variants.{Quiet, Spent, Reached, Halted, Refused}
 use Rattle.ssa.specs.declared.Onward.{Onward}
 use Rattle.ssa.specs.Path.{endOf}
 use Rattle.ssa.specs.Halted.{standingOf, callOf}

@@ -11,7 +11,7 @@ use Rattle.net.specs.Net.{pick}
 use Rattle.rules.specs.Propensity.{float}
 use Rattle.averages.specs.Front.{withFront}
 use Rattle.averages.specs.Moments.{deviationOf}
-use Rattle.ssa.specs.Cells.{cleared}
+use Rattle.playing.specs.Cells.{cleared}
 use Rattle.ssa.proofs.averaging.finish.Statement.{statement}
 use Rattle.ssa.proofs.averaging.finish.Tie as tie
 

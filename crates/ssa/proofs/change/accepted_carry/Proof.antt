@@ -15,9 +15,9 @@ use Rattle.rules.specs.Change.{Pair, renamedTimer, renamed}
 use Rattle.timers.specs.Turning.{timersOf}
 use Rattle.carried.specs.Pairs.{pairsOf}
 use Rattle.ssa.specs.Halted.{standingOf, carriedFrom}
-use Rattle.ssa.specs.Stepping.{stateOf}
+use Rattle.playing.specs.Stepping.{stateOf}
 use Rattle.ssa.proofs.Answered.{not-refused}
-use Rattle.ssa.proofs.Tokens.{sum-few}
+use Rattle.playing.proofs.Tokens.{sum-few}
 use Rattle.ssa.proofs.Brought.{Carries, timersAt, brought, below, renamed-queue, small, light, rest-rises, resumes, tokens-same, now-same, counts-same}
 use Rattle.ssa.proofs.Continued.{continued-refused, continued-to, few-steps}
 use Rattle.ssa.proofs.change.accepted_carry.Statement.{statement}

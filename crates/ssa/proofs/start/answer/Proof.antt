@@ -5,9 +5,9 @@ use mathlib.Core.List.{List}
 use Prim.Native.Nat.{ℕ}
 use lib.Ieee.{Float}
 use Rattle.rng.specs.State.{words}
-use Rattle.ssa.specs.declared.PathEnd.{PathEnd}
+use Rattle.playing.specs.declared.PathEnd.{PathEnd}
 use Rattle.ssa.specs.Path.{endOf}
-use Rattle.ssa.specs.Playing.{answerOf}
+use Rattle.ssa.specs.Told.{answerOf}
 use Rattle.ssa.proofs.Answered.{not-refused, told}
 use Rattle.ssa.proofs.start.answer.Statement.{statement}
 use Rattle.ssa.proofs.start.answer.Tie as tie

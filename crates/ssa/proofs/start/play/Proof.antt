@@ -14,10 +14,10 @@ use Rattle.rules.specs.Moments.{takenByTimers}
 use Rattle.rules.proofs.Play.{Played, higher, play}
 use Rattle.timers.specs.InOrder.{inOrder}
 use Rattle.engine.specs.Engine.{marking}
-use Rattle.ssa.specs.Playing.{PlayedBy}
-use Rattle.ssa.specs.Stepping.{Light, stateOf}
+use Rattle.playing.specs.Playing.{PlayedBy}
+use Rattle.playing.specs.Stepping.{Light, stateOf}
 use Rattle.ssa.proofs.Answered.{path-answered}
-use Rattle.ssa.proofs.Playing.{shown-within}
+use Rattle.playing.proofs.Playing.{shown-within}
 use Rattle.ssa.proofs.start.play.Statement.{statement}
 use Rattle.ssa.proofs.start.play.Tie as tie
 

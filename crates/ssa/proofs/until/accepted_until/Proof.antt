@@ -28,10 +28,10 @@ use Rattle.timers.specs.InOrder.{inOrder}
 use Rattle.timers.specs.Turning.{timersOf}
 use Rattle.ssa.specs.Path.{endOf}
 use Rattle.ssa.specs.Halted.{unbegun}
-use Rattle.ssa.specs.Stepping.{Light, Resumes, stateOf}
+use Rattle.playing.specs.Stepping.{Light, Resumes, stateOf}
 use Rattle.ssa.proofs.Accepted.{fitting}
 use Rattle.ssa.proofs.Answered.{not-refused}
-use Rattle.ssa.proofs.Playing.{shown-within}
+use Rattle.playing.proofs.Playing.{shown-within}
 use Rattle.ssa.proofs.Resumed.{refused-first, played-first}
 use Rattle.ssa.proofs.until.accepted_until.Statement.{statement}
 use Rattle.ssa.proofs.until.accepted_until.Tie as tie

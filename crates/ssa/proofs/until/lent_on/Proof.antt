@@ -3,8 +3,8 @@
 use borrow.Author.Needs.{needs}
 use native.Mathlib.Omega.{arith}
 use lib.ListN.{drop}
-use Rattle.ssa.specs.Playing.{outOf}
-use Rattle.ssa.proofs.Finished.{last-at}
+use Rattle.playing.specs.Playing.{outOf}
+use Rattle.playing.proofs.Finished.{last-at}
 use Rattle.ssa.proofs.Resumed.{played-same}
 use Rattle.ssa.proofs.until.lent_on.Statement.{statement}
 use Rattle.ssa.proofs.until.lent_on.Tie as tie

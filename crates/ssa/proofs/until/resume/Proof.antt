@@ -10,8 +10,8 @@ use Rattle.rules.specs.Shown.{lastOf}
 use Rattle.rules.proofs.Accepted.{accepted}
 use Rattle.rules.proofs.Play.{higher, playWithin}
 use Rattle.engine.proofs.Tidying.{tidy-unlabelled}
-use Rattle.ssa.specs.Playing.{outOf}
-use Rattle.ssa.specs.Stepping.{stateOf}
+use Rattle.playing.specs.Playing.{outOf}
+use Rattle.playing.specs.Stepping.{stateOf}
 use Rattle.ssa.proofs.Resumed.{played-same}
 use Rattle.ssa.proofs.until.resume.Statement.{statement}
 use Rattle.ssa.proofs.until.resume.Tie as tie

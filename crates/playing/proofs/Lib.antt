@@ -1,0 +1,14 @@
+pub mod Light
+pub mod Tokens
+pub mod Rooms
+pub mod Passes
+pub mod Shut
+pub mod Ahead
+pub mod Passing
+pub mod Carrying
+pub mod Cells
+pub mod Columns
+pub mod Playing
+pub mod Finished
+pub mod Steps
+pub mod Raised
