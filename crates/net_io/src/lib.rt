@@ -2,7 +2,10 @@
 pub mod arguments;
 
 ghost use mathlib.Core.Path.{_≡_};
+ghost use mathlib.Core.Bool.{false};
+ghost use Prim.Native.Nat.{_<_, _≤_};
 ghost use lib.ListN.{length};
+ghost use Rattle.net_io.specs.Read as Spec;
 use libc::STDERR_FILENO;
 use libc::STDIN_FILENO;
 use libc::STDOUT_FILENO;
@@ -44,15 +47,17 @@ pub enum Input {
     Failed,
 }
 
-// Reads standard input until it ends or the text is full.
-pub fn read_input(text: &mut [u8]) -> Input {
+// Reads standard input until it ends or the text is full. What is read no rule says; it is never more than the text has room for.
+pub fn read_input(text: &mut [u8]) -> Input
+    ensures { λ r. ⌜ (length (now (text .exit)) ≡ length (now (text .entry))) × (Spec.bytesOf r ≤ length (now (text .entry))) ⌝ }
+{
     let mut n = 0;
     while n < text.len() {
         let got = libc::read(STDIN_FILENO, &mut text[n..]);
         if got < 0 {
             return Input::Failed;
         }
-        let more = io::count(got, text);
+        let more = io::count(got, &text[n..]);
         if more == 0 {
             return Input::Read(n);
         }
@@ -61,8 +66,10 @@ pub fn read_input(text: &mut [u8]) -> Input {
     Input::Read(n)
 }
 
-// Writes the first n bytes to standard output. Were they written?
-pub fn write_front(out: &[u8], n: usize) -> bool {
+// Writes the first n bytes to standard output. Were they written? Not where there are fewer.
+pub fn write_front(out: &[u8], n: usize) -> bool
+    ensures { λ r. ⌜ (length (now (out .entry)) < n → r ≡ false) ⌝ }
+{
     if n <= out.len() {
         return io::write_all(STDOUT_FILENO, &out[..n]);
     }

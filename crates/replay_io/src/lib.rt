@@ -3,6 +3,7 @@
 // label's sixteen bytes as two numbers, the first byte highest; for each transition its rate and delay, by their bits, its number of arcs, and the kind,
 // place and weight of each. No more is read than a net has room for.
 ghost use mathlib.Core.Path.{_≡_};
+ghost use mathlib.Core.Bool.{false};
 ghost use Prim.Native.Nat.{_+_, _*_, _≤_};
 ghost use lib.Dec.{ltb};
 ghost use Rattle.net.specs.Net.{pick};
@@ -38,7 +39,10 @@ fn word(text: &[u8; 17]) -> u64 {
     n
 }
 
-pub fn next_number() -> Found {
+// What is read no rule says; where no number is left the value is 0.
+pub fn next_number() -> Found
+    ensures { λ r. ⌜ (r .there ≡ false → r .value ≡ 0) ⌝ }
+{
     let mut text = [0u8; 17];
     let n = io::read_full(STDIN_FILENO, &mut text);
     if n < 17 {
@@ -133,8 +137,10 @@ fn read_transitions(
     }
 }
 
-// The net of so many places.
-pub fn read_net(places: usize) -> Net {
+// The net of so many places; all else is as the input has it.
+pub fn read_net(places: usize) -> Net
+    ensures { λ r. ⌜ r .places ≡ places ⌝ }
+{
     let transitions = size();
     let mut initial = [0u64; 32];
     let mut capacity = [0u64; 32];

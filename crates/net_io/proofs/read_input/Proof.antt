@@ -1,20 +1,20 @@
--- `read_input` is safe and ends: a turn that goes on reads a byte or more, so the measure is what is left of the text's room.
+-- A turn that goes on reads a byte or more, so the measure is what is left of the text's room; it reads no more than that, so that what is read stays within it.
 use borrow.Author.Needs.{needs}
 use native.Mathlib.Omega.{arith}
 use mathlib.Core.Path.{_≡_, refl}
-use Prim.Native.Nat.{_-_}
+use Prim.Native.Nat.{_-_, _≤_}
 use lib.ListN.{length}
 use Rattle.net_io.proofs.read_input.Statement.{statement}
 use Rattle.net_io.proofs.read_input.Tie as tie
 
 abbrev Inv-loop : tie.InvT-loop
-Inv-loop text₀ n₀ text n = length text ≡ length text₀
+Inv-loop text₀ n₀ text n = (length text ≡ length text₀) × (n ≤ length text₀)
 
 abbrev μ-loop : tie.MeasureT-loop
 μ-loop text₀ n₀ text n = length text₀ - n
 
 loop-holds : tie.Need-loop-holds Inv-loop μ-loop
-loop-holds c = refl
+loop-holds c = (refl, omega arith)
 
 sub-read : tie.Need-sub-read Inv-loop μ-loop
 sub-read c = search needs
@@ -33,6 +33,15 @@ same-length c = search needs
 
 returns : tie.Need-returns Inv-loop μ-loop
 returns c = search needs
+
+sub-count : tie.Need-sub-count Inv-loop μ-loop
+sub-count c = search needs
+
+part-count-start : tie.Need-part-count-start Inv-loop μ-loop
+part-count-start c = omega arith
+
+part-count-end : tie.Need-part-count-end Inv-loop μ-loop
+part-count-end c = search needs
 
 count-requires : tie.Need-count-requires Inv-loop μ-loop
 count-requires c κs = search needs
@@ -71,6 +80,9 @@ read-input-spec =
     read-requires
     same-length
     returns
+    sub-count
+    part-count-start
+    part-count-end
     count-requires
     same-length-2
     returns-2

@@ -1,5 +1,6 @@
--- `write_front` is safe: past the test the part has the n bytes that are asked for.
+-- Past the test there are n bytes, which the part then has; before it there are fewer, and the answer is false.
 use borrow.Author.Needs.{needs}
+use native.Mathlib.Omega.{arith}
 use mathlib.Core.Path.{sym}
 use lib.Seq.{length-take-le}
 use Rattle.net_io.proofs.write_front.Statement.{statement}
@@ -12,7 +13,7 @@ write-all-requires : tie.Need-write-all-requires
 write-all-requires c κs = search needs
 
 returns : tie.Need-returns
-returns c = search needs
+returns c = λ h. absurd (omega (arith, c .before .before .if1 .taken))
 
 returns-2 : tie.Need-returns-2
 returns-2 c = search needs
