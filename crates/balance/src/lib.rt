@@ -1,4 +1,6 @@
 // Subscribers neither made nor lost: does every transition put exactly as much weight as it takes?
+#![tactic(auto)]
+
 mod weighing;
 
 ghost use Rattle.std.specs.Prelude.{◌≡◌};
@@ -8,7 +10,7 @@ ghost use Rattle.balance.specs.Call as Call;
 use net::{Net, Verdict};
 
 // What a call answers: that every transition is balanced, the lowest that is not, or the number by which the call is turned down.
-#[derive(Drop)]
+#[derive(Clone, Copy)]
 pub enum BalanceAnswer {
     Balanced,
     Unbalanced(usize),

@@ -2,6 +2,8 @@
 // input has a net text. One line is written: (balance yes), (balance no TRANSITION), or (refused NUMBER LINE), with line 0 where the weights are turned down.
 // A list that is missing, of more than 1,024 bytes or not of whole numbers, and an input that cannot be read, are spoken of on standard error, and nothing
 // else is.
+#![tactic(auto)]
+
 ghost use Rattle.std.specs.Prelude.{◌≤◌, length};
 
 use balance::BalanceAnswer;

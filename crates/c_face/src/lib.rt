@@ -1,5 +1,7 @@
 // The leaf functions, the reader of net texts, the path, a halted and carried one, the ensemble, the diffusion and its objections to a net, the balance of weights, the soak load,
 // the game, the timer list and the index under plain names, for a program in C or Rust to call. Those on slices do in one call what as many calls would.
+#![tactic(auto)]
+
 mod diffusion;
 mod ensemble;
 mod generator;

@@ -7,7 +7,7 @@ use normals::{Draw, GaussianSampler};
 use rng::Xoshiro256;
 
 // How many cells were filled, and the sampler after them.
-#[derive(Drop)]
+#[derive(Clone, Copy)]
 struct Filled {
     count: usize,
     sampler: GaussianSampler,

@@ -4,6 +4,8 @@
 // naming call and of the carrying call, which is handed what the first gives: the end, the settled instants, where the path stands (steps, limit, peak,
 // rounded steps, recorded instants, clock, generator, 32 counts, the number of timers, and each by its completion time, transition and taken weight), and
 // the answer's cells by their bits, with the one behind them. The table has 2,048 cells of 7. No more is read than 2,048 instants.
+#![tactic(auto)]
+
 ghost use Rattle.std.specs.Prelude.{◌≡◌, min};
 
 use net::Net;

@@ -1,5 +1,7 @@
 // How many ways there are to choose w of m tokens, as a float worked factor by factor, and whether that float is the whole number itself; and the product
 // alone for a real m.
+#![tactic(auto)]
+
 ghost use Rattle.std.specs.Prelude.{◌≡◌, ◌≤◌, ◌<◌, ◌^◌, pos, get_or};
 ghost use Rattle.combinations.specs.Binomial.{binomial, exact};
 ghost use Rattle.combinations.specs.Combinations as Spec;
@@ -19,7 +21,7 @@ const UNROUNDED_2: u64 = 94906266;
 // Below it m * (m - 1) is one word.
 const ONE_WORD_2: u64 = 1 << 32;
 
-#[derive(Drop)]
+#[derive(Clone, Copy)]
 pub enum Ways {
     // The float, and whether it equals the binomial coefficient exactly.
     Value(f64, bool),
@@ -27,7 +29,7 @@ pub enum Ways {
     Refused,
 }
 
-#[derive(Drop)]
+#[derive(Clone, Copy)]
 pub enum RealWays {
     Value(f64),
     // More factors, or a larger whole m, than are worked.

@@ -9,7 +9,7 @@ ghost use Rattle.combinations.specs.Binomial.{falling, exact};
 ghost use Rattle.combinations.specs.Parts.{Holds};
 
 // A whole number above 0: the odd number high * 2^64 + low, times 2^twos.
-#[derive(Drop)]
+#[derive(Clone, Copy)]
 struct Parts {
     high: u64,
     low: u64,

@@ -3,6 +3,8 @@
 // the takes that are not kinetic, the bounded places as a mask, and 1 where a transition is delayed; or `refused` with the number; or `stopped` with the
 // number and the path's; then, for the means, the deviations and the last path, the answer's cells by their bits, with the one behind them. Each table
 // has 2,048 cells of 7.
+#![tactic(auto)]
+
 use gates::Gates;
 use net::Net;
 use net_text::float_of;

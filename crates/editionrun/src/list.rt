@@ -4,14 +4,14 @@ ghost use Rattle.std.specs.Prelude.{◌≤◌, length};
 use net_io::arguments::number_of;
 
 // How many words a list has, if it is one.
-#[derive(Drop)]
+#[derive(Clone, Copy)]
 pub struct Listed {
     pub fits: bool,
     pub words: usize,
 }
 
 // A pair of the list, if there is one, and where it ends.
-#[derive(Drop)]
+#[derive(Clone, Copy)]
 struct Pair {
     fits: bool,
     old: u64,

@@ -9,6 +9,8 @@
 // turned down is (refused NUMBER LINE), with line 0 where it is the run line, the path or the change: as the first line it is said of the old text and its path,
 // behind where the path stands of the new text and the change. Arguments that are missing, too long or of the wrong form, and an input that cannot be read, are
 // spoken of on standard error, and nothing else is.
+#![tactic(auto)]
+
 mod list;
 mod shown;
 

@@ -118,7 +118,7 @@ fn taken_from(count: u64, kind: u64, weight: u64) -> u64
 }
 
 // How much less the places hold, the transitions whose ways that may change, and those of which it may open or shut a slot.
-#[derive(Drop)]
+#[derive(Clone, Copy)]
 pub struct Taken {
     pub less: u64,
     pub moved: u64,
@@ -181,7 +181,7 @@ fn given(kind: u64, weight: u64) -> u64
 }
 
 // Whether all counts stay at or below 2^53, how much more the places hold, and the transitions as for `Taken`.
-#[derive(Drop)]
+#[derive(Clone, Copy)]
 pub struct Added {
     pub fits: bool,
     pub more: u64,
@@ -246,7 +246,7 @@ pub fn put<'a>(
 }
 
 // Whether all counts stay at or below 2^53, how much the places have lost, how much they have got, and the transitions as for `Taken`.
-#[derive(Drop)]
+#[derive(Clone, Copy)]
 pub struct Fired {
     pub fits: bool,
     pub less: u64,

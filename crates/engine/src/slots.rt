@@ -166,7 +166,7 @@ const NO_LIMIT: u64 = 0x7FFF_FFFF_FFFF_FFFF;
 pub const STOP: u64 = 0x8000_0000_0000_0000;
 
 // What a transition puts into a place, and takes from it.
-#[derive(Drop)]
+#[derive(Clone, Copy)]
 pub struct Change {
     pub put: u64,
     pub taken: u64,

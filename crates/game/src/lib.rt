@@ -1,4 +1,6 @@
 // The game of order 13: the sides fire in turn, the fault side first.
+#![tactic(auto)]
+
 mod accept;
 mod search;
 
@@ -9,7 +11,7 @@ use engine::slots;
 use net::{Net, Verdict};
 
 // The first move by which the fault side wins, if there is one.
-#[derive(Drop)]
+#[derive(Clone, Copy)]
 pub enum First {
     Already,
     Fires(usize),
@@ -18,7 +20,7 @@ pub enum First {
 }
 
 // What a call answers: how the fault side wins, with the positions examined; or the number by which it is turned down.
-#[derive(Drop)]
+#[derive(Clone, Copy)]
 pub enum GameAnswer {
     Answered(First, u64),
     Refused(u64),

@@ -13,21 +13,21 @@ use crate::First;
 use engine::marking;
 
 // What a position gives where the fault side moves: how it wins, and the positions examined.
-#[derive(Drop)]
+#[derive(Clone, Copy)]
 pub struct FaultFound {
     pub first: First,
     pub examined: u64,
 }
 
 // The same where the recovery side moves: whether the fault side wins.
-#[derive(Drop)]
+#[derive(Clone, Copy)]
 pub struct RecoveryFound {
     pub won: bool,
     pub examined: u64,
 }
 
 // Whether a transition may fire, and the counts after it.
-#[derive(Drop)]
+#[derive(Clone, Copy)]
 pub struct Outcome {
     pub may: bool,
     pub counts: [u64; 32],

@@ -2,6 +2,8 @@
 // number, of which a label goes first; COUNT; TURNS. Standard input has a net text. One line is written: (game no POSITIONS), (game already POSITIONS),
 // (game pass POSITIONS), (game fires TRANSITION POSITIONS), or (refused NUMBER LINE), with line 0 where the game itself is turned down. Arguments that
 // are missing, too long or no numbers are spoken of on standard error, and nothing else is.
+#![tactic(auto)]
+
 ghost use Rattle.std.specs.Prelude.{◌+◌, ◌<◌, ◌≤◌, length};
 
 use game::{First, GameAnswer};

@@ -1,4 +1,6 @@
 // What a continuous run cannot express: reads, inhibitors, takes that are not kinetic, capacities that bound, delays.
+#![tactic(auto)]
+
 ghost use Rattle.std.specs.Prelude.{◌≡◌, ◌+◌, ◌-◌, ◌*◌, ◌<◌, ◌≤◌};
 ghost use Rattle.net.specs.Net as Reader;
 ghost use Rattle.net.specs.Tests as Tests;
@@ -13,7 +15,7 @@ use engine::slots;
 
 // How many reads, inhibitors and takes that are not kinetic there are, the bounded places as the bits of a mask (place p is bit p), and whether a
 // transition is delayed.
-#[derive(Drop)]
+#[derive(Clone, Copy)]
 pub struct Gates {
     pub reads: u64,
     pub inhibitors: u64,
@@ -22,7 +24,7 @@ pub struct Gates {
     pub delayed: bool,
 }
 
-#[derive(Drop)]
+#[derive(Clone, Copy)]
 enum Gate {
     Read,
     Inhibitor,

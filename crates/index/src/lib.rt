@@ -1,5 +1,7 @@
 // The index of a net: which propensities have to be worked out again. Its tables are made once a call by inner functions, over a net whose slots are in order;
 // one entry stands here, which hands out the table of the places.
+#![tactic(auto)]
+
 pub mod guards;
 pub mod listed;
 pub mod marks;

@@ -1,4 +1,6 @@
 // The jump of a race: how long until it, whether it or a completion comes first, and which transition it fires.
+#![tactic(auto)]
+
 pub mod sums;
 
 ghost use Rattle.std.specs.Prelude.{◌≡◌, List};
@@ -10,7 +12,7 @@ ghost use Rattle.jump.specs.Answers as Answers;
 use rng::Xoshiro256;
 
 // Nothing left, a race after a waiting time, or a completion at a time.
-#[derive(Drop)]
+#[derive(Clone, Copy)]
 pub enum Next {
     Nothing,
     Race(f64),
@@ -18,14 +20,14 @@ pub enum Next {
 }
 
 // The transition that a race fires.
-#[derive(Drop)]
+#[derive(Clone, Copy)]
 pub enum Choice {
     Nobody,
     Chosen(usize),
 }
 
 // A waiting time, with the generator after its draw.
-#[derive(Drop)]
+#[derive(Clone, Copy)]
 pub struct Wait {
     pub dt: f64,
     pub rng: Xoshiro256,

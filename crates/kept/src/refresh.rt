@@ -20,7 +20,7 @@ use engine::sets;
 use jump::sums;
 
 // Which transitions are enabled, which propensities are rounded, and which of them may have changed.
-#[derive(Drop)]
+#[derive(Clone, Copy)]
 struct Settled {
     able: u64,
     marks: u64,
@@ -127,7 +127,7 @@ fn settle<'a>(
 }
 
 // The total of the propensities, which transitions are enabled, and which propensities are rounded.
-#[derive(Drop)]
+#[derive(Clone, Copy)]
 pub struct Fresh {
     pub a0: f64,
     pub able: u64,

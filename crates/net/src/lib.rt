@@ -1,4 +1,6 @@
 // A stochastic Petri net as data, and its test by the numbers 2 to 7, 17 and 18.
+#![tactic(auto)]
+
 mod arcs;
 mod bounds;
 mod labels;
@@ -15,7 +17,7 @@ ghost use Rattle.net.specs.Labels as Labels;
 // Up to 32 places, 64 transitions and 16 arcs a transition. The label of place p stands in label from byte 16 * p on; lengths[p] says how many
 // bytes it has. Arc i of transition j stands in slot 16 * j + i of kind, place and weight; arcs[j] says how many it has. Slots past the counts
 // and bytes past the lengths are not looked at.
-#[derive(Drop)]
+#[derive(Clone, Copy)]
 pub struct Net {
     pub places: usize,
     pub transitions: usize,
@@ -43,7 +45,7 @@ pub const READ: u64 = 3;
 pub const BLOCK: u64 = 4;
 
 // What a test says: accepted, or turned down by this number.
-#[derive(Drop)]
+#[derive(Clone, Copy)]
 pub enum Verdict {
     Accepted,
     Refused(u64),

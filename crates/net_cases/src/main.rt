@@ -1,4 +1,6 @@
 // Tests nets that are built here, and writes a line for each: what it is, and the number that turns it down, or 0.
+#![tactic(auto)]
+
 ghost use Rattle.std.specs.Prelude.{◌<◌};
 
 use libc::STDOUT_FILENO;

@@ -3,7 +3,7 @@ ghost use Rattle.std.specs.Prelude.{◌≡◌, cond, ℕ, ◌+◌, ◌-◌, ◌*
 ghost use Rattle.net_io.specs.Digits as Spec;
 
 // A number that a word may be.
-#[derive(Drop)]
+#[derive(Clone, Copy)]
 pub struct Number {
     pub fits: bool,
     pub value: u64,

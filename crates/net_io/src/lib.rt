@@ -1,4 +1,6 @@
 // Standard input and output of a program that reads a net text, and numbers in its arguments.
+#![tactic(auto)]
+
 pub mod arguments;
 
 ghost use Rattle.std.specs.Prelude.{◌≡◌, false, ◌<◌, ◌≤◌, length};
@@ -38,7 +40,7 @@ pub fn write_refused(number: u64, line: u64) {
 }
 
 // How many bytes were read, or that a read failed.
-#[derive(Drop)]
+#[derive(Clone, Copy)]
 pub enum Input {
     Read(usize),
     Failed,

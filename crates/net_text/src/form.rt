@@ -7,7 +7,7 @@ ghost use Rattle.net_text.specs.Seen as Seen;
 use super::scan;
 
 // The label of a place line: its bytes stand from `from` up to `end`.
-#[derive(Drop)]
+#[derive(Clone, Copy)]
 pub struct LabelSeen {
     pub ok: bool,
     pub from: usize,
@@ -16,7 +16,7 @@ pub struct LabelSeen {
 }
 
 // A place line.
-#[derive(Drop)]
+#[derive(Clone, Copy)]
 pub struct PlaceSeen {
     pub ok: bool,
     pub initial: u64,
@@ -28,7 +28,7 @@ pub struct PlaceSeen {
 }
 
 // A run line.
-#[derive(Drop)]
+#[derive(Clone, Copy)]
 pub struct RunSeen {
     pub ok: bool,
     pub samples: u64,
@@ -40,7 +40,7 @@ pub struct RunSeen {
 }
 
 // A move line; its arcs are in the slots.
-#[derive(Drop)]
+#[derive(Clone, Copy)]
 pub struct MoveSeen {
     pub ok: bool,
     pub rate: u64,

@@ -1,4 +1,6 @@
 // Reads a net text. specs/Forms and specs/Reading say what a text means, specs/Filled which record holds its net, specs/Answered what the answer says.
+#![tactic(auto)]
+
 ghost use Rattle.std.specs.Prelude.{◌≡◌};
 ghost use Rattle.std.specs.Float.{binary64};
 ghost use Rattle.std.specs.Float.Ieee.{of_bits};
@@ -9,7 +11,7 @@ mod order;
 mod scan;
 
 // The run line: samples, realizations and seed of an ensemble, and the bits of its horizon. They are tested there and not here.
-#[derive(Drop)]
+#[derive(Clone, Copy)]
 pub struct RunLine {
     pub samples: u64,
     pub realizations: u64,
@@ -28,14 +30,14 @@ pub fn float_of(bits: u64) -> f64
 }
 
 // A net is given, or the text is turned down: by which number, at which line.
-#[derive(Drop)]
+#[derive(Clone, Copy)]
 pub enum Judged {
     Given,
     Refused(u64, u64),
 }
 
 // Where the text is turned down, the net has no place and the run line is zeros.
-#[derive(Drop)]
+#[derive(Clone, Copy)]
 pub struct NetText {
     pub judged: Judged,
     pub net: net::Net,

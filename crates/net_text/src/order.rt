@@ -9,7 +9,7 @@ ghost use Rattle.net_text.specs.Position as Spec;
 use super::{Judged, RunLine, float_of, form, scan};
 
 // What is due next: `(net`; a place, a move or the run line; `)`; nothing more.
-#[derive(Drop)]
+#[derive(Clone, Copy)]
 pub enum Stage {
     Opening,
     Inside,
@@ -18,7 +18,7 @@ pub enum Stage {
 }
 
 // How far the reading is.
-#[derive(Drop)]
+#[derive(Clone, Copy)]
 pub struct Position {
     pub stage: Stage,
     pub places: usize,
@@ -27,14 +27,14 @@ pub struct Position {
 }
 
 // What a line does: it is refused by a number, or the reading goes on from a position.
-#[derive(Drop)]
+#[derive(Clone, Copy)]
 pub enum Taken {
     Fault(u64),
     GoOn(Position),
 }
 
 // What reading all lines ends with. The counts and the run line are those of a net that is given.
-#[derive(Drop)]
+#[derive(Clone, Copy)]
 pub struct Ended {
     pub judged: Judged,
     pub places: usize,

@@ -5,7 +5,7 @@ ghost use Rattle.net_text.specs.Forms as Forms;
 ghost use Rattle.net_text.specs.Scanned as Scanned;
 
 // A decimal: its value where it fits 64 bits, and whether it is badly written.
-#[derive(Drop)]
+#[derive(Clone, Copy)]
 pub struct Number {
     pub ok: bool,
     pub value: u64,
@@ -14,7 +14,7 @@ pub struct Number {
 }
 
 // Sixteen hexadecimal digits.
-#[derive(Drop)]
+#[derive(Clone, Copy)]
 pub struct Pattern {
     pub ok: bool,
     pub bits: u64,
@@ -22,7 +22,7 @@ pub struct Pattern {
 }
 
 // An arc, by the kinds of the crate net.
-#[derive(Drop)]
+#[derive(Clone, Copy)]
 pub struct ArcSeen {
     pub ok: bool,
     pub kind: u64,
@@ -33,7 +33,7 @@ pub struct ArcSeen {
 }
 
 // The arcs of a transition line.
-#[derive(Drop)]
+#[derive(Clone, Copy)]
 pub struct ArcsSeen {
     pub count: usize,
     pub strange: bool,
@@ -59,7 +59,7 @@ pub fn word(line: &[u8], at: usize, w: &[u8]) -> bool
 }
 
 // The value so far with one digit more, and whether it is over 64 bits; then the value is the largest of 64 bits.
-#[derive(Drop)]
+#[derive(Clone, Copy)]
 struct Sum {
     value: u64,
     over: bool,
@@ -191,7 +191,7 @@ pub fn hexadecimal(line: &[u8], at: usize) -> Pattern
 }
 
 // Place and weight, with a space between them.
-#[derive(Drop)]
+#[derive(Clone, Copy)]
 pub struct Pair {
     pub ok: bool,
     pub place: u64,

@@ -1,4 +1,6 @@
 // Normal draws by the polar method, the spare of a pair kept for the next draw.
+#![tactic(auto)]
+
 ghost use Rattle.std.specs.Prelude.{◌≡◌};
 ghost use Rattle.rng.specs.State as Rng;
 ghost use Rattle.rng.specs.Xoshiro as Xoshiro;
@@ -7,7 +9,7 @@ ghost use Rattle.normals.specs.Normal as Spec;
 use rng::{Uniform, Xoshiro256};
 
 // A generator, and the second value of the last pair: `spare` counts where `waiting` says so.
-#[derive(Drop)]
+#[derive(Clone, Copy)]
 pub struct GaussianSampler {
     pub rng: Xoshiro256,
     pub spare: f64,
@@ -15,21 +17,21 @@ pub struct GaussianSampler {
 }
 
 // A value, or none: one draw rejected 128 pairs.
-#[derive(Drop)]
+#[derive(Clone, Copy)]
 pub enum Draw {
     Value(f64),
     Refused,
 }
 
 // A draw, and the sampler after it; where the draw is refused, the sampler as it came.
-#[derive(Drop)]
+#[derive(Clone, Copy)]
 pub struct Normal {
     pub draw: Draw,
     pub sampler: GaussianSampler,
 }
 
 // Two numbers in [-1, 1), the sum of their squares, and the generator after them.
-#[derive(Drop)]
+#[derive(Clone, Copy)]
 struct Pair {
     u1: f64,
     u2: f64,
@@ -38,7 +40,7 @@ struct Pair {
 }
 
 // Whether there is a pair, and the pair.
-#[derive(Drop)]
+#[derive(Clone, Copy)]
 struct Found {
     any: bool,
     pair: Pair,

@@ -2,6 +2,8 @@
 // number of instants, and each by its bits. One line is written for each case: the end, the steps, the settled instants, the peak, the rounded
 // steps, the generator's words, and the answer's cells by their bits, with the one behind them. The table has 2,048 cells of 7. No more is read than 2,048
 // instants.
+#![tactic(auto)]
+
 use net::Net;
 use net_text::float_of;
 use replay_io::{

@@ -1,5 +1,7 @@
 // Reads a net text from standard input and writes what `pathrun_text::played` prints for it. Standard output has nothing else: that the input cannot be
 // read or the output cannot be written is said on standard error.
+#![tactic(auto)]
+
 ghost use Rattle.std.specs.Prelude.{◌≡◌, length};
 
 use net_io::{Input, read_input, say, text_room, write_front};

@@ -1,4 +1,6 @@
 // What `pathrun` does, from bytes to bytes. specs/Pathrun says what it prints.
+#![tactic(auto)]
+
 ghost use Rattle.std.specs.Prelude.{◌≡◌, ◌≤◌, length};
 ghost use Rattle.std.proofs.Math.Option.{none};
 ghost use Rattle.net.specs.Readable.{readable, labels, fault};

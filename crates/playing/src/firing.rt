@@ -21,7 +21,7 @@ use timers::Ring;
 
 // The timers' ring after the event, the generator after it, whether the counts fit, and where they do the tokens and what the event has changed, as two words of
 // transitions (engine, specs/Guards).
-#[derive(Drop)]
+#[derive(Clone, Copy)]
 pub struct Ended {
     pub timers: Ring,
     pub rng: Xoshiro256,

@@ -1,5 +1,7 @@
 // A path played on from any state: its steps, the loop that takes them, and what it shows in a lent table. An inner crate: a function here may ask what its
 // callers have proved, and no entry stands here.
+#![tactic(auto)]
+
 pub mod begin;
 mod firing;
 pub mod peak;
@@ -10,7 +12,7 @@ mod step;
 pub mod tables;
 
 // How a path ends, or the number by which it was turned down. Only a path that names a number of steps is halted.
-#[derive(Drop)]
+#[derive(Clone, Copy)]
 pub enum PathEnd {
     Quiet,
     Spent,

@@ -28,7 +28,7 @@ pub const ROOM: usize = 256;
 
 // Where a path stands between two steps, beside its counts and the slots of its timers: the clock, the timers' ring, how many instants have been shown, the
 // tokens (all place counts plus the weights taken by the running timers), the peak so far and the generator.
-#[derive(Drop)]
+#[derive(Clone, Copy)]
 pub struct Standing {
     pub clock: f64,
     pub timers: Ring,
@@ -40,7 +40,7 @@ pub struct Standing {
 
 // How the steps ended: after so many, of which so many add a rounded propensity, with so many instants shown, the peak, and the clock, timers and generator
 // that are left.
-#[derive(Drop)]
+#[derive(Clone, Copy)]
 pub struct Walked {
     pub end: PathEnd,
     pub steps: u64,

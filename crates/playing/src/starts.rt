@@ -19,7 +19,7 @@ use timers::{Ring, Timer};
 
 // The timers' ring now, whether a timer has started, and whether one could not since there was no room for it; and what the starts have changed, as two words
 // of transitions (engine, specs/Guards).
-#[derive(Drop)]
+#[derive(Clone, Copy)]
 pub struct Started {
     pub timers: Ring,
     pub any: bool,

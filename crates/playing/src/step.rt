@@ -19,7 +19,7 @@ use timers::Ring;
 
 // What is carried from step to step about propensities (kept, specs/Kept): the transitions whose ways may have changed since, those that may have been opened or
 // shut, those that are enabled, the rounded ones, and the total.
-#[derive(Drop)]
+#[derive(Clone, Copy)]
 pub struct Keeping {
     pub moved: u64,
     pub crossed: u64,
@@ -30,7 +30,7 @@ pub struct Keeping {
 
 // What a step begins with and leaves, beside the counts and the slots of the timers: the timers' ring, how many instants have been shown, the tokens (all
 // place counts plus the weights taken by the running timers), the peak so far, and the waiting time that the generator draws next, at a total of 1.
-#[derive(Drop)]
+#[derive(Clone, Copy)]
 pub struct Now {
     pub clock: f64,
     pub timers: Ring,
@@ -43,7 +43,7 @@ pub struct Now {
 }
 
 // Whether the run goes on, and how it ends where it does not.
-#[derive(Drop)]
+#[derive(Clone, Copy)]
 pub enum Ending {
     GoesOn,
     Quiet,
@@ -52,7 +52,7 @@ pub enum Ending {
 }
 
 // What a step leaves, whether its a0 adds a rounded propensity, and whether the run goes on.
-#[derive(Drop)]
+#[derive(Clone, Copy)]
 pub struct Stepped {
     pub now: Now,
     pub rounded: bool,
@@ -60,7 +60,7 @@ pub struct Stepped {
 }
 
 // What follows the starts of a step: nothing, or an event; Full where a timer could not start.
-#[derive(Drop)]
+#[derive(Clone, Copy)]
 pub enum Due {
     Nothing,
     Event,
@@ -68,7 +68,7 @@ pub enum Due {
 }
 
 // A step up to the clock reading that it sets, whether the event is a completion, and what is kept with whether its total adds a rounded propensity.
-#[derive(Drop)]
+#[derive(Clone, Copy)]
 pub struct Advanced {
     pub due: Due,
     pub completes: bool,

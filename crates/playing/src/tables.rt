@@ -11,7 +11,7 @@ use index::{guards, marks};
 use kept::tables;
 
 // The delayed transitions, and those that take several tokens kinetically: two words.
-#[derive(Drop)]
+#[derive(Clone, Copy)]
 pub struct Kinds {
     pub timed: u64,
     pub heavy: u64,

@@ -1,5 +1,7 @@
 // The portable natural logarithm: every operation is one binary64 operation, in a fixed order, so that its bits are the
 // same on every machine.
+#![tactic(auto)]
+
 ghost use Rattle.std.specs.Prelude.{◌≡◌, false, cond, ◌/◌, ◌^◌, ◌≤◌, ◌<◌, pos, ◌-ℤ◌};
 ghost use Rattle.std.specs.Float.{binary64};
 ghost use Rattle.std.specs.Float.Ieee.{to_bits, ne};
@@ -33,7 +35,7 @@ const L: [u64; 7] = [
 ];
 
 // frac * 2^exp
-#[derive(Drop)]
+#[derive(Clone, Copy)]
 pub struct Parts {
     pub frac: f64,
     pub exp: i32,

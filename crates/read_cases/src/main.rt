@@ -1,5 +1,7 @@
 // Reads a batch of net texts from standard input, each behind its length in five digits and a newline, and writes one line for each: the refusal's
 // number and line, or the numbers and labels of the net and the run line that it gives. tests/net_text.py makes batches and knows the answers.
+#![tactic(auto)]
+
 ghost use Rattle.std.specs.Prelude.{◌≡◌, ◌<◌, ◌≤◌, length};
 
 use libc::{STDIN_FILENO, STDOUT_FILENO};

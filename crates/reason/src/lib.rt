@@ -1,4 +1,6 @@
 // Why a continuous run cannot express a net, in the words of document 001.
+#![tactic(auto)]
+
 mod writing;
 
 ghost use Rattle.std.specs.Prelude.{◌≡◌};
@@ -8,7 +10,7 @@ ghost use Rattle.reason.specs.Call as Call;
 use net::{Net, Verdict};
 
 // The length of the text, or the number by which the call was turned down.
-#[derive(Drop)]
+#[derive(Clone, Copy)]
 pub enum ReasonAnswer {
     Length(usize),
     TurnedDown(u64),

@@ -1,4 +1,5 @@
 // The numbers by which an operation turns its input down, as document 01 lists them. specs/ says what each means.
+#![tactic(auto)]
 
 pub const WRONG_FORM: u64 = 1;
 

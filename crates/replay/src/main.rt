@@ -1,6 +1,8 @@
 // Answers a recorded sample. A line of standard input is a letter and two words, 16 hexadecimal digits each; one line is written for each.
 // Floats go by their bits, any NaN as `nan`; a whole number with a sign is given with 2^62 added. Lines s and t set the generator, and
 // n and u draw from it.
+#![tactic(auto)]
+
 ghost use Rattle.std.specs.Prelude.{◌≤◌};
 
 use combinations::{RealWays, Ways};

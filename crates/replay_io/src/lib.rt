@@ -2,6 +2,8 @@
 // hexadecimal digits and a newline. A net is its places and transitions; for each place its initial count and capacity, its label's length, and the
 // label's sixteen bytes as two numbers, the first byte highest; for each transition its rate and delay, by their bits, its number of arcs, and the kind,
 // place and weight of each. No more is read than a net has room for.
+#![tactic(auto)]
+
 ghost use Rattle.std.specs.Prelude.{◌≡◌, false, ◌+◌, ◌*◌, ◌≤◌, ltb};
 ghost use Rattle.net.specs.Net.{pick};
 
@@ -10,7 +12,7 @@ use net::Net;
 use net_text::float_of;
 
 // A number of the input, or that there is none left.
-#[derive(Drop)]
+#[derive(Clone, Copy)]
 pub struct Found {
     pub there: bool,
     pub value: u64,

@@ -1,5 +1,7 @@
 // Writes document 01's sample result with the labels q0 and q1, then refusals, deviations, labels and numbers at the edges, and what a buffer
 // that is too short is left with.
+#![tactic(auto)]
+
 use libc::STDOUT_FILENO;
 use text::Written;
 

@@ -1,4 +1,6 @@
 // The lines of a result. Each is written whole into a lent buffer, or not at all where it does not fit: its length is worked out first.
+#![tactic(auto)]
+
 ghost use Rattle.std.specs.Prelude.{◌≡◌, ◌+◌, ◌*◌, ◌≤◌, leb, length};
 ghost use Rattle.text.specs.Buffer.{written, and_then};
 ghost use Rattle.result_text.specs.Lines.{result_line, refused_line, cells, row_line, mean_line, dev_line};

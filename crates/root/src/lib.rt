@@ -1,5 +1,7 @@
 // The square root of a binary64: the value of the format nearest to the exact root.
 // A guess is made in whole numbers and then judged by its square. Only the judging is proved: a wrong guess costs time and not the answer.
+#![tactic(auto)]
+
 ghost use Rattle.std.specs.Prelude.{◌≡◌, ◌+◌, ◌*◌, ◌/◌, ◌%◌, ◌^◌, ◌<◌, ◌≤◌, true, from_bits, to_bits};
 ghost use Rattle.std.specs.Float.{binary64};
 ghost use Rattle.root.specs.Nearest.{SquareRoot};
@@ -9,7 +11,7 @@ ghost use Rattle.root.specs.Whole.{NearestWhole};
 mod guess;
 mod inverse;
 
-#[derive(Drop)]
+#[derive(Clone, Copy)]
 struct Root {
     root: u64,
     rem: u64,

@@ -1,4 +1,6 @@
 // The row of a place, as part of a lent table of means or of deviations.
+#![tactic(auto)]
+
 ghost use Rattle.std.specs.Prelude.{◌≡◌};
 ghost use Rattle.net.specs.Readable as Readable;
 ghost use Rattle.rows.specs.Row as Row;
@@ -6,7 +8,7 @@ ghost use Rattle.rows.specs.Row as Row;
 use net::Verdict;
 
 // Which of the two lent tables.
-#[derive(Drop)]
+#[derive(Clone, Copy)]
 pub enum Table {
     Mean,
     Deviation,

@@ -1,5 +1,7 @@
 // Diffusion over a net: paths of the chemical Langevin equation, their means and deviations. In the contracts of the private functions, `net` is the
 // record whose fields are lent.
+#![tactic(auto)]
+
 mod change;
 mod paths;
 mod propensity;
@@ -15,7 +17,7 @@ use net::{Net, Verdict};
 
 // Whether there are deviations; or what gates the net; or the number by which the call was turned down; or the number by which a path was refused, and
 // the path's own.
-#[derive(Drop)]
+#[derive(Clone, Copy)]
 pub enum DiffusionAnswer {
     Averaged(bool),
     Gated(Gates),

@@ -16,7 +16,7 @@ use crate::propensity;
 use normals::{Draw, GaussianSampler};
 
 // The sampler after some draws, and whether one of them was refused.
-#[derive(Drop)]
+#[derive(Clone, Copy)]
 pub struct Pushed {
     pub sampler: GaussianSampler,
     pub stopped: bool,

@@ -1,4 +1,6 @@
 // The published soak load: a net text from a seed and two counts, the same on every bench. specs/Soak says which.
+#![tactic(auto)]
+
 ghost use Rattle.std.specs.Prelude.{◌≡◌, true, ◌<◌, length};
 ghost use Rattle.rng.specs.State.{words};
 ghost use Rattle.text.specs.Text.{bytes};
@@ -13,14 +15,14 @@ use text::Written;
 pub const LONGEST: usize = 1614;
 
 // The length of the text at the buffer's front, or a refusal's number.
-#[derive(Drop)]
+#[derive(Clone, Copy)]
 pub enum Answer {
     Text(usize),
     Refused(u64),
 }
 
 // The generator behind the choices of the places, and what was written.
-#[derive(Drop)]
+#[derive(Clone, Copy)]
 struct Drawn {
     rng: Xoshiro256,
     last: Written,

@@ -1,12 +1,14 @@
 // Prints the soak net of three arguments, the seed, the places and the transitions, as `soak::soak` writes it. Standard output has nothing else: that the
 // arguments are wrong, with the refusal's number, or the output cannot be written is said on standard error.
+#![tactic(auto)]
+
 ghost use Rattle.std.specs.Prelude.{◌≡◌, length};
 
 use libc::{STDERR_FILENO, STDOUT_FILENO};
 use soak::Answer;
 
 // A decimal of at most 64 bits, or no such number.
-#[derive(Drop)]
+#[derive(Clone, Copy)]
 enum Number {
     Is(u64),
     Wrong,

@@ -1,4 +1,6 @@
 // Paths of a stochastic Petri net: one path, drawn from a generator's state, and the averages over an ensemble of paths.
+#![tactic(auto)]
+
 mod accept;
 mod averaging;
 mod change;
@@ -23,7 +25,7 @@ use rng::Xoshiro256;
 
 // The end of a path, its steps, how many instants are settled, the peak, how many steps have an a0 that adds a rounded propensity, and the generator after
 // it; of a path that is turned down the number, four times 0, and the generator as it came.
-#[derive(Drop)]
+#[derive(Clone, Copy)]
 pub struct PathAnswer {
     pub end: PathEnd,
     pub steps: u64,
@@ -35,7 +37,7 @@ pub struct PathAnswer {
 
 // How many paths of an ensemble were spent, and whether there are deviations; or the number by which the call was turned down; or the number by which a
 // path was refused, and the path's own.
-#[derive(Drop)]
+#[derive(Clone, Copy)]
 pub enum EnsembleAnswer {
     Averaged(u64, bool),
     TurnedDown(u64),

@@ -16,14 +16,14 @@ use playing::PathEnd;
 use rng::Xoshiro256;
 
 // A path was refused by that number, or it was added, and so many are spent so far.
-#[derive(Drop)]
+#[derive(Clone, Copy)]
 pub enum Turn {
     Stopped(u64),
     Went(u64),
 }
 
 // A path was refused by a number, and its own number; or all were added, and so many are spent.
-#[derive(Drop)]
+#[derive(Clone, Copy)]
 pub enum Summed {
     Stopped(u64, u64),
     Done(u64),

@@ -2,6 +2,8 @@
 // horizon. One line is written: (path END STEPS SETTLED PEAK ROUNDED), where END is quiet, spent or reached, SETTLED are the instants settled and ROUNDED the
 // steps whose a0 adds a rounded propensity; or (refused NUMBER LINE), with line 0 where the run line or the path is turned down. That the input cannot be read
 // is said on standard error, and nothing else is.
+#![tactic(auto)]
+
 ghost use Rattle.std.specs.Prelude.{◌≤◌};
 
 use averages::request;

@@ -1,4 +1,6 @@
 // Bytes and numbers written into a lent buffer. A writer that finds too little room behind its position answers `Short` and changes no byte.
+#![tactic(auto)]
+
 ghost use Rattle.std.specs.Prelude.{◌≡◌, ◌+◌, ◌≤◌, ◌<◌, leb, length};
 ghost use Rattle.std.specs.Float.{binary64};
 ghost use Rattle.std.specs.Float.Ieee.{to_bits};
@@ -7,7 +9,7 @@ ghost use Rattle.text.specs.Numbers.{low_digits, decimal_text, float_text};
 ghost use Rattle.text.specs.Buffer.{placed, written, and_then};
 
 // The position behind what was written, or that the buffer is too short.
-#[derive(Drop)]
+#[derive(Clone, Copy)]
 pub enum Written {
     Next(usize),
     Short,

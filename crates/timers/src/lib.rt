@@ -1,6 +1,8 @@
 // The running timers of a path, in the order in which they leave: a list that turns. 256 slots are lent, and the list is read from a movable start, wrapping
 // at 256 (specs/Turning). Slot k is ats[k] with owners[2 k], its transition's number, and owners[2 k + 1], the weight that its start took. A start is taken
 // modulo 256, and a length above 256 is 256: every function answers every input.
+#![tactic(auto)]
+
 mod opening;
 pub mod queue;
 mod slots;
@@ -12,7 +14,7 @@ ghost use Rattle.rules.specs.Timers as Timers;
 ghost use Rattle.timers.specs.Turning as Turning;
 
 // A running timer: its completion time, its transition's number, and the weight that its start took.
-#[derive(Drop)]
+#[derive(Clone, Copy)]
 pub struct Timer {
     pub at: f64,
     pub who: usize,
@@ -21,7 +23,7 @@ pub struct Timer {
 
 // Where the list starts, how long it is, and 1 where its completion times are known to be in order: then a new timer's place is looked for from the end.
 // That is a word, since the bytes that fill up a bool are copied apart from it, which made a step three times as long.
-#[derive(Drop)]
+#[derive(Clone, Copy)]
 pub struct Ring {
     pub start: usize,
     pub len: usize,
@@ -29,7 +31,7 @@ pub struct Ring {
 }
 
 // Whether a timer was taken, and the ring after that.
-#[derive(Drop)]
+#[derive(Clone, Copy)]
 pub struct Inserted {
     pub taken: bool,
     pub ring: Ring,

@@ -8,7 +8,7 @@ ghost use Rattle.timers.specs.Turning as Turning;
 use crate::{Ring, Timer, slots};
 
 // Timers in the order in which they leave, the first at 0. A length above 256 is 256.
-#[derive(Drop)]
+#[derive(Clone, Copy)]
 pub struct Queue {
     pub ats: [f64; 256],
     pub whos: [usize; 256],

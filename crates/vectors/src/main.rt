@@ -1,4 +1,6 @@
 // Runs published vectors and cases at edges: words in decimal or hexadecimal as they are published, floats by their bits, any NaN as `nan`.
+#![tactic(auto)]
+
 use combinations::{RealWays, Ways};
 use libc::STDOUT_FILENO;
 use rng::Xoshiro256;

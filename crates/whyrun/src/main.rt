@@ -1,6 +1,8 @@
 // Reads a net text from standard input and writes a line that says why the diffusion has no answer for its net, the text of `reason::reason`; an empty line
 // where nothing stands against it. For a text that is turned down it writes the line that pathrun prints. The run line is not tested. Standard output has
 // nothing else: that the input cannot be read or the output cannot be written is said on standard error.
+#![tactic(auto)]
+
 use net_io::{Input, read_input, say, text_room, write_front};
 use net_text::Judged;
 use reason::ReasonAnswer;

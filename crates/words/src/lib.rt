@@ -1,4 +1,6 @@
 // Operations on 64-bit words: the product's lower and upper half, and the rotation.
+#![tactic(auto)]
+
 ghost use Rattle.std.specs.Prelude.{◌≡◌, ◌*◌, ◌/◌, ◌^◌};
 ghost use Rattle.words.specs.Product.{product};
 ghost use Rattle.words.specs.Rotation.{rotl};
