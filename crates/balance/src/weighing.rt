@@ -102,10 +102,8 @@ pub fn first_uneven<'a>(
     weight: &'a [u64; 1024],
     weights: &[u64],
 ) -> BalanceAnswer
-    ghost net: { NetRecord }
-    requires weight_value { lent places transitions initial.now capacity.now rate.now delay.now arcs.now kind.now place.now weight.now ≡ net }
-    requires sound { Sound.Sound net × (length weights.now ≡ places) × Slots.Small weights.now }
-    ensures { Call.call_of result ≡ Call.weighed (Record.readable net) weights.now }
+    requires { let net = lent places transitions initial.now capacity.now rate.now delay.now arcs.now kind.now place.now weight.now in Sound.Sound net × (length weights.now ≡ places) × Slots.Small weights.now }
+    ensures { let net = lent places transitions initial.now capacity.now rate.now delay.now arcs.now kind.now place.now weight.now in Call.call_of result ≡ Call.weighed (Record.readable net) weights.now }
 {
     let mut j: usize = 0;
     while j < transitions {

@@ -44,10 +44,8 @@ pub fn enabled<'a>(
     counts: &[u64; 32],
     j: usize,
 ) -> bool
-    ghost net: { NetRecord }
-    requires weight_value { lent places transitions initial.now capacity.now rate.now delay.now arcs.now kind.now place.now weight.now ≡ net }
-    requires j_lt_transitions { (j < transitions) × Engine.Tidy net × Limits.Limits net limit.now × Engine.Counts counts.now }
-    ensures { result ≡ Enabled.enabled (Record.readable net) (Engine.marking places counts.now) (Record.transition net j) }
+    requires { let net = lent places transitions initial.now capacity.now rate.now delay.now arcs.now kind.now place.now weight.now in (j < transitions) × Engine.Tidy net × Limits.Limits net limit.now × Engine.Counts counts.now }
+    ensures { let net = lent places transitions initial.now capacity.now rate.now delay.now arcs.now kind.now place.now weight.now in result ≡ Enabled.enabled (Record.readable net) (Engine.marking places counts.now) (Record.transition net j) }
 {
     let from = 16 * j;
     let end = from + arcs[j];

@@ -38,10 +38,8 @@ fn some_inexact<'a>(
     counts: &[u64; 32],
     j: usize,
 ) -> bool
-    ghost net: { NetRecord }
-    requires weight_value { lent places transitions initial.now capacity.now rate.now delay.now arcs.now kind.now place.now weight.now ≡ net }
-    requires j_lt_transitions { (j < transitions) × Engine.Tidy net × Engine.Counts counts.now }
-    ensures { result ≡ Exact.some_inexact (Engine.marking places counts.now) (Record.transition net j).takes }
+    requires { let net = lent places transitions initial.now capacity.now rate.now delay.now arcs.now kind.now place.now weight.now in (j < transitions) × Engine.Tidy net × Engine.Counts counts.now }
+    ensures { let net = lent places transitions initial.now capacity.now rate.now delay.now arcs.now kind.now place.now weight.now in result ≡ Exact.some_inexact (Engine.marking places counts.now) (Record.transition net j).takes }
 {
     let from = 16 * j;
     let end = from + arcs[j];
@@ -72,10 +70,8 @@ pub fn rounded<'a>(
     j: usize,
     a: f64,
 ) -> bool
-    ghost net: { NetRecord }
-    requires weight_value { lent places transitions initial.now capacity.now rate.now delay.now arcs.now kind.now place.now weight.now ≡ net }
-    requires j_lt_transitions { (j < transitions) × Engine.Tidy net × Engine.Counts counts.now }
-    ensures { result ≡ (lt Reader.zero64 a && Exact.some_inexact (Engine.marking places counts.now) (Record.transition net j).takes) }
+    requires { let net = lent places transitions initial.now capacity.now rate.now delay.now arcs.now kind.now place.now weight.now in (j < transitions) × Engine.Tidy net × Engine.Counts counts.now }
+    ensures { let net = lent places transitions initial.now capacity.now rate.now delay.now arcs.now kind.now place.now weight.now in result ≡ (lt Reader.zero64 a && Exact.some_inexact (Engine.marking places counts.now) (Record.transition net j).takes) }
 {
     if 0.0 < a {
         return some_inexact(

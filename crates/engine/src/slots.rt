@@ -99,11 +99,9 @@ pub fn tidy<'a>(
     at: &mut [usize; 1024],
     weights: &mut [u64; 1024],
 )
-    ghost net: { NetRecord }
-    requires weight_value { labelled places transitions initial.now capacity.now label.now lengths.now rate.now delay.now arcs.now kind.now place.now weight.now ≡ net }
-    requires net_value { (Record.fault net ≡ none) × (count.old ≡ replicate 64 0) × (kinds.old ≡ replicate 1024 0) × (at.old ≡ replicate 1024 0)
+    requires { let net = labelled places transitions initial.now capacity.now label.now lengths.now rate.now delay.now arcs.now kind.now place.now weight.now in (Record.fault net ≡ none) × (count.old ≡ replicate 64 0) × (kinds.old ≡ replicate 1024 0) × (at.old ≡ replicate 1024 0)
         × (weights.old ≡ replicate 1024 0) }
-    ensures { Engine.Tidied net (labelled places transitions initial.now capacity.now label.now lengths.now
+    ensures { let net = labelled places transitions initial.now capacity.now label.now lengths.now rate.now delay.now arcs.now kind.now place.now weight.now in Engine.Tidied net (labelled places transitions initial.now capacity.now label.now lengths.now
         rate.now delay.now count.new kinds.new at.new weights.new) }
 {
     let mut j: usize = 0;
@@ -271,10 +269,8 @@ fn slot_limit<'a>(
     weight: &'a [u64; 1024],
     a: usize,
 ) -> u64
-    ghost net: { NetRecord }
-    requires weight_value { lent places transitions initial.now capacity.now rate.now delay.now arcs.now kind.now place.now weight.now ≡ net }
-    requires a_bound { (a < 1024) × Engine.Tidy net }
-    ensures { result ≡ Limits.limit_at net a }
+    requires { let net = lent places transitions initial.now capacity.now rate.now delay.now arcs.now kind.now place.now weight.now in (a < 1024) × Engine.Tidy net }
+    ensures { let net = lent places transitions initial.now capacity.now rate.now delay.now arcs.now kind.now place.now weight.now in result ≡ Limits.limit_at net a }
 {
     let k = kind[a];
     if k != net::PUT {
@@ -306,10 +302,8 @@ fn fill_slots<'a>(
     weight: &'a [u64; 1024],
     limit: &mut [u64; 1024],
 )
-    ghost net: { NetRecord }
-    requires weight_value { lent places transitions initial.now capacity.now rate.now delay.now arcs.now kind.now place.now weight.now ≡ net }
-    requires tidy { Engine.Tidy net × (length limit.old ≡ 1024) }
-    ensures { (length limit.new ≡ 1024) × ((a : ℕ) → a < 16 * transitions → get_or limit.new a 0 ≡ Limits.limit_at net a) }
+    requires { let net = lent places transitions initial.now capacity.now rate.now delay.now arcs.now kind.now place.now weight.now in Engine.Tidy net × (length limit.old ≡ 1024) }
+    ensures { let net = lent places transitions initial.now capacity.now rate.now delay.now arcs.now kind.now place.now weight.now in (length limit.new ≡ 1024) × ((a : ℕ) → a < 16 * transitions → get_or limit.new a 0 ≡ Limits.limit_at net a) }
 {
     let end = 16 * transitions;
     let mut a: usize = 0;
@@ -379,10 +373,8 @@ pub fn fill_limits<'a>(
     weight: &'a [u64; 1024],
     limit: &mut [u64; 1024],
 )
-    ghost net: { NetRecord }
-    requires weight_value { lent places transitions initial.now capacity.now rate.now delay.now arcs.now kind.now place.now weight.now ≡ net }
-    requires tidy { Engine.Tidy net × (length limit.old ≡ 1024) }
-    ensures { Limits.Limits net limit.new }
+    requires { let net = lent places transitions initial.now capacity.now rate.now delay.now arcs.now kind.now place.now weight.now in Engine.Tidy net × (length limit.old ≡ 1024) }
+    ensures { let net = lent places transitions initial.now capacity.now rate.now delay.now arcs.now kind.now place.now weight.now in Limits.Limits net limit.new }
 {
     fill_slots(
         places,

@@ -100,11 +100,9 @@ fn lent_game<'a>(
     count: u64,
     turns: u64,
 ) -> FaultFound
-    ghost net: { NetRecord }
-    requires weight_value { lent places transitions initial.now capacity.now rate.now delay.now arcs.now kind.now place.now weight.now ≡ net }
-    requires tidy { Engine.Tidy net × ((p : ℕ) → p < places → get_or initial.now p 0 ≤ 2 ^ 53)
+    requires { let net = lent places transitions initial.now capacity.now rate.now delay.now arcs.now kind.now place.now weight.now in Engine.Tidy net × ((p : ℕ) → p < places → get_or initial.now p 0 ≤ 2 ^ 53)
         × Play.Sided transitions sides.now × (wanted < places) × (turns ≤ 8) }
-    ensures { Play.fault_of result ≡ Search.fault_move turns (Play.game_of (Record.readable net) sides.now wanted count)
+    ensures { let net = lent places transitions initial.now capacity.now rate.now delay.now arcs.now kind.now place.now weight.now in Play.fault_of result ≡ Search.fault_move turns (Play.game_of (Record.readable net) sides.now wanted count)
         (Moves.initial_counts (Record.readable net)) }
 {
     let mut limit = [0u64; 1024];

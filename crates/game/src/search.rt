@@ -53,10 +53,8 @@ fn fired<'a>(
     counts: [u64; 32],
     j: usize,
 ) -> Outcome
-    ghost net: { NetRecord }
-    requires weight_value { lent places transitions initial.now capacity.now rate.now delay.now arcs.now kind.now place.now weight.now ≡ net }
-    requires j_lt_transitions { (j < transitions) × Engine.Tidy net × Limits.Limits net limit.now × Engine.Counts counts }
-    ensures { Play.FiredBy (Record.readable net) (Engine.marking places counts) j result.may (Engine.marking places result.counts)
+    requires { let net = lent places transitions initial.now capacity.now rate.now delay.now arcs.now kind.now place.now weight.now in (j < transitions) × Engine.Tidy net × Limits.Limits net limit.now × Engine.Counts counts }
+    ensures { let net = lent places transitions initial.now capacity.now rate.now delay.now arcs.now kind.now place.now weight.now in Play.FiredBy (Record.readable net) (Engine.marking places counts) j result.may (Engine.marking places result.counts)
         × Engine.Counts result.counts }
 {
     let mut after = counts;

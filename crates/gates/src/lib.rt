@@ -93,10 +93,8 @@ fn count<'a>(
     place: &'a [usize; 1024],
     weight: &'a [u64; 1024],
 ) -> u64
-    ghost net: { NetRecord }
-    requires weight_value { lent places transitions initial.now capacity.now rate.now delay.now arcs.now kind.now place.now weight.now ≡ net }
-    requires sound { Sound.Sound net }
-    ensures { result ≡ Slots.count_from (Slots.sort_of gate) net 0 transitions }
+    requires { let net = lent places transitions initial.now capacity.now rate.now delay.now arcs.now kind.now place.now weight.now in Sound.Sound net }
+    ensures { let net = lent places transitions initial.now capacity.now rate.now delay.now arcs.now kind.now place.now weight.now in result ≡ Slots.count_from (Slots.sort_of gate) net 0 transitions }
 {
     let mut n: u64 = 0;
     let mut j: usize = 0;
@@ -124,10 +122,8 @@ fn raised<'a>(
     weight: &'a [u64; 1024],
     p: usize,
 ) -> bool
-    ghost net: { NetRecord }
-    requires weight_value { lent places transitions initial.now capacity.now rate.now delay.now arcs.now kind.now place.now weight.now ≡ net }
-    requires sound { Sound.Sound net }
-    ensures { result ≡ Tests.any (Spec.raises p) (Record.transitions_from net 0 transitions) }
+    requires { let net = lent places transitions initial.now capacity.now rate.now delay.now arcs.now kind.now place.now weight.now in Sound.Sound net }
+    ensures { let net = lent places transitions initial.now capacity.now rate.now delay.now arcs.now kind.now place.now weight.now in result ≡ Tests.any (Spec.raises p) (Record.transitions_from net 0 transitions) }
 {
     let mut j: usize = 0;
     while j < transitions {
@@ -155,10 +151,8 @@ fn delayed<'a>(
     place: &'a [usize; 1024],
     weight: &'a [u64; 1024],
 ) -> bool
-    ghost net: { NetRecord }
-    requires weight_value { lent places transitions initial.now capacity.now rate.now delay.now arcs.now kind.now place.now weight.now ≡ net }
-    requires transitions_bound { transitions ≤ 64 }
-    ensures { result ≡ Tests.any Reader.timed (Record.transitions_from net 0 transitions) }
+    requires { transitions ≤ 64 }
+    ensures { let net = lent places transitions initial.now capacity.now rate.now delay.now arcs.now kind.now place.now weight.now in result ≡ Tests.any Reader.timed (Record.transitions_from net 0 transitions) }
 {
     let mut j: usize = 0;
     while j < transitions {
@@ -184,10 +178,8 @@ fn bounded_at<'a>(
     weight: &'a [u64; 1024],
     p: usize,
 ) -> u64
-    ghost net: { NetRecord }
-    requires weight_value { lent places transitions initial.now capacity.now rate.now delay.now arcs.now kind.now place.now weight.now ≡ net }
-    requires p_bound { (p < 32) × Sound.Sound net }
-    ensures { result ≡ Slots.one_if (Slots.bounded_at net p) }
+    requires { let net = lent places transitions initial.now capacity.now rate.now delay.now arcs.now kind.now place.now weight.now in (p < 32) × Sound.Sound net }
+    ensures { let net = lent places transitions initial.now capacity.now rate.now delay.now arcs.now kind.now place.now weight.now in result ≡ Slots.one_if (Slots.bounded_at net p) }
 {
     if capacity[p] == 0 {
         return 0;
@@ -223,10 +215,8 @@ fn bounded_mask<'a>(
     place: &'a [usize; 1024],
     weight: &'a [u64; 1024],
 ) -> u64
-    ghost net: { NetRecord }
-    requires weight_value { lent places transitions initial.now capacity.now rate.now delay.now arcs.now kind.now place.now weight.now ≡ net }
-    requires sound { Sound.Sound net }
-    ensures { result ≡ Slots.mask_from net 0 places }
+    requires { let net = lent places transitions initial.now capacity.now rate.now delay.now arcs.now kind.now place.now weight.now in Sound.Sound net }
+    ensures { let net = lent places transitions initial.now capacity.now rate.now delay.now arcs.now kind.now place.now weight.now in result ≡ Slots.mask_from net 0 places }
 {
     let mut mask: u64 = 0;
     let mut p = places;
@@ -264,10 +254,8 @@ pub fn gates_of<'a>(
     place: &'a [usize; 1024],
     weight: &'a [u64; 1024],
 ) -> Gates
-    ghost net: { NetRecord }
-    requires weight_value { lent places transitions initial.now capacity.now rate.now delay.now arcs.now kind.now place.now weight.now ≡ net }
-    requires sound { Sound.Sound net }
-    ensures { Spec.gates_of result ≡ Spec.gates (Record.readable net) }
+    requires { let net = lent places transitions initial.now capacity.now rate.now delay.now arcs.now kind.now place.now weight.now in Sound.Sound net }
+    ensures { let net = lent places transitions initial.now capacity.now rate.now delay.now arcs.now kind.now place.now weight.now in Spec.gates_of result ≡ Spec.gates (Record.readable net) }
 {
     let reads = count(
         Gate::Read,

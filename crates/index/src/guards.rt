@@ -87,10 +87,8 @@ fn guard_one<'a>(
     j: usize,
     guards: &mut [u64; 160],
 )
-    ghost net: { NetRecord }
-    requires weight_value { lent places transitions initial.now capacity.now rate.now delay.now arcs.now kind.now place.now weight.now ≡ net }
-    requires j_lt_transitions { (j < transitions) × Engine.Tidy net × Limits.Limits net limit.now × Spec.Guarding net guards.old (16 * j) }
-    ensures { Spec.Guarding net guards.new (16 * (j + 1)) }
+    requires { let net = lent places transitions initial.now capacity.now rate.now delay.now arcs.now kind.now place.now weight.now in (j < transitions) × Engine.Tidy net × Limits.Limits net limit.now × Spec.Guarding net guards.old (16 * j) }
+    ensures { let net = lent places transitions initial.now capacity.now rate.now delay.now arcs.now kind.now place.now weight.now in Spec.Guarding net guards.new (16 * (j + 1)) }
 {
     let from = 16 * j;
     let end = from + arcs[j];
@@ -136,10 +134,8 @@ pub fn guards_of<'a>(
     weight: &'a [u64; 1024],
     limit: &'a [u64; 1024],
 ) -> [u64; 160]
-    ghost net: { NetRecord }
-    requires weight_value { lent places transitions initial.now capacity.now rate.now delay.now arcs.now kind.now place.now weight.now ≡ net }
-    requires tidy { Engine.Tidy net × Limits.Limits net limit.now }
-    ensures { Guards.Guards net result }
+    requires { let net = lent places transitions initial.now capacity.now rate.now delay.now arcs.now kind.now place.now weight.now in Engine.Tidy net × Limits.Limits net limit.now }
+    ensures { let net = lent places transitions initial.now capacity.now rate.now delay.now arcs.now kind.now place.now weight.now in Guards.Guards net result }
 {
     let words = listed::listed_words(
         places,

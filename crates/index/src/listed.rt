@@ -75,10 +75,8 @@ pub fn listed_words<'a>(
     place: &'a [usize; 1024],
     weight: &'a [u64; 1024],
 ) -> [u64; 32]
-    ghost net: { NetRecord }
-    requires weight_value { lent places transitions initial.now capacity.now rate.now delay.now arcs.now kind.now place.now weight.now ≡ net }
-    requires tidy { Engine.Tidy net }
-    ensures { Table.Lists (Record.readable net) result }
+    requires { let net = lent places transitions initial.now capacity.now rate.now delay.now arcs.now kind.now place.now weight.now in Engine.Tidy net }
+    ensures { let net = lent places transitions initial.now capacity.now rate.now delay.now arcs.now kind.now place.now weight.now in Table.Lists (Record.readable net) result }
 {
     let mut words = [0u64; 32];
     let mut j: usize = 0;

@@ -24,10 +24,8 @@ pub fn timed_word<'a>(
     place: &'a [usize; 1024],
     weight: &'a [u64; 1024],
 ) -> u64
-    ghost net: { NetRecord }
-    requires weight_value { lent places transitions initial.now capacity.now rate.now delay.now arcs.now kind.now place.now weight.now ≡ net }
-    requires transitions_bound { net.transitions ≤ 64 }
-    ensures { Traits.Marks net Reader.timed result }
+    requires { let net = lent places transitions initial.now capacity.now rate.now delay.now arcs.now kind.now place.now weight.now in net.transitions ≤ 64 }
+    ensures { let net = lent places transitions initial.now capacity.now rate.now delay.now arcs.now kind.now place.now weight.now in Traits.Marks net Reader.timed result }
 {
     let mut word: u64 = 0;
     let mut j: usize = 0;
@@ -84,10 +82,8 @@ pub fn heavy_word<'a>(
     place: &'a [usize; 1024],
     weight: &'a [u64; 1024],
 ) -> u64
-    ghost net: { NetRecord }
-    requires weight_value { lent places transitions initial.now capacity.now rate.now delay.now arcs.now kind.now place.now weight.now ≡ net }
-    requires tidy { Engine.Tidy net }
-    ensures { Traits.Marks net Traits.takes_several result }
+    requires { let net = lent places transitions initial.now capacity.now rate.now delay.now arcs.now kind.now place.now weight.now in Engine.Tidy net }
+    ensures { let net = lent places transitions initial.now capacity.now rate.now delay.now arcs.now kind.now place.now weight.now in Traits.Marks net Traits.takes_several result }
 {
     let mut word: u64 = 0;
     let mut j: usize = 0;

@@ -30,11 +30,9 @@ pub fn remark<'a>(
     marks: u64,
     props: &[f64; 64],
 ) -> u64
-    ghost net: { NetRecord }
-    requires weight_value { lent places transitions initial.now capacity.now rate.now delay.now arcs.now kind.now place.now weight.now ≡ net }
-    requires tidy { Engine.Tidy net × Engine.Counts counts.now × ((j : ℕ) → bit word j ≡ true → j < transitions)
+    requires { let net = lent places transitions initial.now capacity.now rate.now delay.now arcs.now kind.now place.now weight.now in Engine.Tidy net × Engine.Counts counts.now × ((j : ℕ) → bit word j ≡ true → j < transitions)
         × ((j : ℕ) → bit word j ≡ true → get_or props.now j nan ≡ Propensity.propensity (Record.readable net) (Engine.marking places counts.now) (Moves.transition (Record.readable net) j)) }
-    ensures { (j : ℕ) → bit result j ≡ Reader.pick (bit word j)
+    ensures { let net = lent places transitions initial.now capacity.now rate.now delay.now arcs.now kind.now place.now weight.now in (j : ℕ) → bit result j ≡ Reader.pick (bit word j)
         (Exact.rounded (Record.readable net) (Engine.marking places counts.now) (Moves.transition (Record.readable net) j)) (bit marks j) }
 {
     let mut left = word;

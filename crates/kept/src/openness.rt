@@ -44,11 +44,9 @@ pub fn retest<'a>(
     able: u64,
     props: &mut [f64; 64],
 ) -> u64
-    ghost net: { NetRecord }
-    requires weight_value { lent places transitions initial.now capacity.now rate.now delay.now arcs.now kind.now place.now weight.now ≡ net }
-    requires tidy { Engine.Tidy net × Limits.Limits net limit.now × Engine.Counts counts.now
+    requires { let net = lent places transitions initial.now capacity.now rate.now delay.now arcs.now kind.now place.now weight.now in Engine.Tidy net × Limits.Limits net limit.now × Engine.Counts counts.now
         × ((j : ℕ) → bit word j ≡ true → j < transitions) × (length props.old ≡ 64) }
-    ensures { ((j : ℕ) → bit result j ≡ Reader.pick (bit word j)
+    ensures { let net = lent places transitions initial.now capacity.now rate.now delay.now arcs.now kind.now place.now weight.now in ((j : ℕ) → bit result j ≡ Reader.pick (bit word j)
         (Enabled.enabled (Record.readable net) (Engine.marking places counts.now) (Moves.transition (Record.readable net) j)) (bit able j))
         × Reworked (λ (j : ℕ). bit word j && not (Enabled.enabled (Record.readable net) (Engine.marking places counts.now) (Moves.transition (Record.readable net) j)))
         (λ (j : ℕ). Reader.zero64) props.old props.new }

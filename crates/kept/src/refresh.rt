@@ -52,14 +52,12 @@ fn settle<'a>(
     marks: u64,
     props: &mut [f64; 64],
 ) -> Settled
-    ghost net: { NetRecord }
-    requires weight_value { lent places transitions initial.now capacity.now rate.now delay.now arcs.now kind.now place.now weight.now ≡ net }
-    requires tidy { Engine.Tidy net × Limits.Limits net limit.now × Engine.Counts counts.now × Kept.Rates net rates.now × Kept.Ends net ends.now
+    requires { let net = lent places transitions initial.now capacity.now rate.now delay.now arcs.now kind.now place.now weight.now in Engine.Tidy net × Limits.Limits net limit.now × Engine.Counts counts.now × Kept.Rates net rates.now × Kept.Ends net ends.now
         × Traits.Marks net delayed timed × Traits.Marks net Traits.takes_several heavy
         × Kept.Kept (Record.readable net) (Engine.marking places counts.now) moved crossed able props.old
         × Kept.Marked (Record.readable net) (Engine.marking places counts.now) moved crossed able marks
         × Kept.AllShut (Record.readable net) (Engine.marking places counts.now) × (length props.old ≡ 64) }
-    ensures { Kept.Kept (Record.readable net) (Engine.marking places counts.now) 0 0 result.able props.new
+    ensures { let net = lent places transitions initial.now capacity.now rate.now delay.now arcs.now kind.now place.now weight.now in Kept.Kept (Record.readable net) (Engine.marking places counts.now) 0 0 result.able props.new
         × Kept.Marked (Record.readable net) (Engine.marking places counts.now) 0 0 result.able result.marks
         × (length props.new ≡ 64)
         × ((j : ℕ) → bit result.changed j ≡ false → get_or props.new j nan ≡ get_or props.old j nan)
@@ -160,15 +158,13 @@ pub fn refresh<'a>(
     props: &mut [f64; 64],
     sums: &mut [f64; 64],
 ) -> Fresh
-    ghost net: { NetRecord }
-    requires weight_value { lent places transitions initial.now capacity.now rate.now delay.now arcs.now kind.now place.now weight.now ≡ net }
-    requires tidy { Engine.Tidy net × Limits.Limits net limit.now × Engine.Counts counts.now × Kept.Rates net rates.now × Kept.Ends net ends.now
+    requires { let net = lent places transitions initial.now capacity.now rate.now delay.now arcs.now kind.now place.now weight.now in Engine.Tidy net × Limits.Limits net limit.now × Engine.Counts counts.now × Kept.Rates net rates.now × Kept.Ends net ends.now
         × Traits.Marks net delayed timed × Traits.Marks net Traits.takes_several heavy
         × Kept.Kept (Record.readable net) (Engine.marking places counts.now) moved crossed able props.old
         × Kept.Marked (Record.readable net) (Engine.marking places counts.now) moved crossed able marks
         × Kept.AllShut (Record.readable net) (Engine.marking places counts.now) × Summing.Summed transitions props.old sums.old a0
         × (length props.old ≡ 64) × (length sums.old ≡ 64) }
-    ensures { (take transitions props.new ≡ Propensity.propensities (Record.readable net) (Engine.marking places counts.now))
+    ensures { let net = lent places transitions initial.now capacity.now rate.now delay.now arcs.now kind.now place.now weight.now in (take transitions props.new ≡ Propensity.propensities (Record.readable net) (Engine.marking places counts.now))
         × Kept.Kept (Record.readable net) (Engine.marking places counts.now) 0 0 result.able props.new
         × Kept.Marked (Record.readable net) (Engine.marking places counts.now) 0 0 result.able result.marks
         × Summing.Summed transitions props.new sums.new result.a0

@@ -21,10 +21,8 @@ pub fn rates_of<'a>(
     weight: &'a [u64; 1024],
     rates: &mut [f64; 64],
 )
-    ghost net: { NetRecord }
-    requires weight_value { lent places transitions initial.now capacity.now rate.now delay.now arcs.now kind.now place.now weight.now ≡ net }
-    requires tidy { Engine.Tidy net × (length rates.old ≡ 64) }
-    ensures { Kept.Rates net rates.new × (length rates.new ≡ 64) }
+    requires { let net = lent places transitions initial.now capacity.now rate.now delay.now arcs.now kind.now place.now weight.now in Engine.Tidy net × (length rates.old ≡ 64) }
+    ensures { let net = lent places transitions initial.now capacity.now rate.now delay.now arcs.now kind.now place.now weight.now in Kept.Rates net rates.new × (length rates.new ≡ 64) }
 {
     let mut j: usize = 0;
     while j < transitions {
@@ -109,10 +107,8 @@ pub fn ends_of<'a>(
     weight: &'a [u64; 1024],
     ends: &mut [usize; 64],
 )
-    ghost net: { NetRecord }
-    requires weight_value { lent places transitions initial.now capacity.now rate.now delay.now arcs.now kind.now place.now weight.now ≡ net }
-    requires tidy { Engine.Tidy net × (length ends.old ≡ 64) }
-    ensures { Kept.Ends net ends.new × (length ends.new ≡ 64) }
+    requires { let net = lent places transitions initial.now capacity.now rate.now delay.now arcs.now kind.now place.now weight.now in Engine.Tidy net × (length ends.old ≡ 64) }
+    ensures { let net = lent places transitions initial.now capacity.now rate.now delay.now arcs.now kind.now place.now weight.now in Kept.Ends net ends.new × (length ends.new ≡ 64) }
 {
     let mut j: usize = 0;
     while j < transitions {

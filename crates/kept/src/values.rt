@@ -35,11 +35,9 @@ fn walked<'a>(
     j: usize,
     end: usize,
 ) -> f64
-    ghost net: { NetRecord }
-    requires weight_value { lent places transitions initial.now capacity.now rate.now delay.now arcs.now kind.now place.now weight.now ≡ net }
-    requires j_lt_transitions { (j < transitions) × Engine.Tidy net × Limits.Limits net limit.now × Engine.Counts counts.now × Kept.Rates net rates.now
+    requires { let net = lent places transitions initial.now capacity.now rate.now delay.now arcs.now kind.now place.now weight.now in (j < transitions) × Engine.Tidy net × Limits.Limits net limit.now × Engine.Counts counts.now × Kept.Rates net rates.now
         × (end ≤ 16 * j + get_or arcs.now j 0) × ((a : ℕ) → end ≤ a → 16 * j ≤ a → a < 16 * j + get_or arcs.now j 0 → get_or kind.now a 0 ≡ 0 → ⊥) }
-    ensures { result ≡ Propensity.factored (Engine.marking places counts.now) (Reader.rate_of (Moves.transition (Record.readable net) j))
+    ensures { let net = lent places transitions initial.now capacity.now rate.now delay.now arcs.now kind.now place.now weight.now in result ≡ Propensity.factored (Engine.marking places counts.now) (Reader.rate_of (Moves.transition (Record.readable net) j))
         (Moves.transition (Record.readable net) j).takes }
 {
     let mut x = rates[j];
@@ -85,10 +83,8 @@ fn value<'a>(
     counts: &[u64; 32],
     j: usize,
 ) -> f64
-    ghost net: { NetRecord }
-    requires weight_value { lent places transitions initial.now capacity.now rate.now delay.now arcs.now kind.now place.now weight.now ≡ net }
-    requires j_lt_transitions { (j < transitions) × Engine.Tidy net × Limits.Limits net limit.now × Engine.Counts counts.now × Kept.Rates net rates.now × Kept.Ends net ends.now }
-    ensures { result ≡ Propensity.factored (Engine.marking places counts.now) (Reader.rate_of (Moves.transition (Record.readable net) j))
+    requires { let net = lent places transitions initial.now capacity.now rate.now delay.now arcs.now kind.now place.now weight.now in (j < transitions) × Engine.Tidy net × Limits.Limits net limit.now × Engine.Counts counts.now × Kept.Rates net rates.now × Kept.Ends net ends.now }
+    ensures { let net = lent places transitions initial.now capacity.now rate.now delay.now arcs.now kind.now place.now weight.now in result ≡ Propensity.factored (Engine.marking places counts.now) (Reader.rate_of (Moves.transition (Record.readable net) j))
         (Moves.transition (Record.readable net) j).takes }
 {
     let end = ends[j];
@@ -138,11 +134,9 @@ pub fn revalue<'a>(
     word: u64,
     props: &mut [f64; 64],
 )
-    ghost net: { NetRecord }
-    requires weight_value { lent places transitions initial.now capacity.now rate.now delay.now arcs.now kind.now place.now weight.now ≡ net }
-    requires tidy { Engine.Tidy net × Limits.Limits net limit.now × Engine.Counts counts.now × Kept.Rates net rates.now × Kept.Ends net ends.now
+    requires { let net = lent places transitions initial.now capacity.now rate.now delay.now arcs.now kind.now place.now weight.now in Engine.Tidy net × Limits.Limits net limit.now × Engine.Counts counts.now × Kept.Rates net rates.now × Kept.Ends net ends.now
         × ((j : ℕ) → bit word j ≡ true → j < transitions) × (length props.old ≡ 64) }
-    ensures { Reworked (bit word)
+    ensures { let net = lent places transitions initial.now capacity.now rate.now delay.now arcs.now kind.now place.now weight.now in Reworked (bit word)
         (λ (j : ℕ). Propensity.factored (Engine.marking places counts.now) (Reader.rate_of (Moves.transition (Record.readable net) j)) (Moves.transition (Record.readable net) j).takes)
         props.old props.new }
 {

@@ -17,10 +17,8 @@ pub fn no_such_place<'a>(
     from: usize,
     end: usize,
 ) -> bool
-    ghost slots: { List Readable.Slot }
-    requires from_value { Readable.slots kind.now place.now weight.now from (end - from) ≡ slots }
-    requires end_bound { end ≤ 1024 }
-    ensures { result ≡ Tests.any (λ (l : Readable.Slot). leb places l.place) slots }
+    requires { end ≤ 1024 }
+    ensures { let slots = Readable.slots kind.now place.now weight.now from (end - from) in result ≡ Tests.any (λ (l : Readable.Slot). leb places l.place) slots }
 {
     let mut slot = from;
     while slot < end {
@@ -40,10 +38,8 @@ fn outside_arc<'a>(
     from: usize,
     end: usize,
 ) -> bool
-    ghost slots: { List Readable.Slot }
-    requires from_value { Readable.slots kind.now place.now weight.now from (end - from) ≡ slots }
-    requires end_bound { end ≤ 1024 }
-    ensures { result ≡ Tests.any (λ (l : Readable.Slot). ltb 4 l.kind || ltb 1_000_000 l.weight) slots }
+    requires { end ≤ 1024 }
+    ensures { let slots = Readable.slots kind.now place.now weight.now from (end - from) in result ≡ Tests.any (λ (l : Readable.Slot). ltb 4 l.kind || ltb 1_000_000 l.weight) slots }
 {
     let mut slot = from;
     while slot < end {
@@ -69,10 +65,8 @@ pub fn outside<'a>(
     from: usize,
     end: usize,
 ) -> bool
-    ghost slots: { List Readable.Slot }
-    requires from_value { Readable.slots kind.now place.now weight.now from (end - from) ≡ slots }
-    requires end_bound { end ≤ 1024 }
-    ensures { result ≡ (strange || Readable.strange slots || Tests.outside (Readable.transition_of rate delay slots)) }
+    requires { end ≤ 1024 }
+    ensures { let slots = Readable.slots kind.now place.now weight.now from (end - from) in result ≡ (strange || Readable.strange slots || Tests.outside (Readable.transition_of rate delay slots)) }
 {
     if strange {
         return true;

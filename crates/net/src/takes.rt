@@ -28,10 +28,8 @@ fn taken_in<'a>(
     from: usize,
     end: usize,
 ) -> bool
-    ghost slots: { List Readable.Slot }
-    requires from_value { Readable.slots kind.now place.now weight.now from (end - from) ≡ slots }
-    requires end_bound { end ≤ 1024 }
-    ensures { result ≡ Tests.any (λ (l : Readable.Slot). leb l.kind 1 && eqb p l.place) slots }
+    requires { end ≤ 1024 }
+    ensures { let slots = Readable.slots kind.now place.now weight.now from (end - from) in result ≡ Tests.any (λ (l : Readable.Slot). leb l.kind 1 && eqb p l.place) slots }
 {
     let mut slot = from;
     while slot < end {
@@ -54,10 +52,8 @@ fn taken_again<'a>(
     from: usize,
     end: usize,
 ) -> bool
-    ghost slots: { List Readable.Slot }
-    requires from_value { Readable.slots kind.now place.now weight.now from (end - from) ≡ slots }
-    requires end_bound { end ≤ 1024 }
-    ensures { result ≡ (bit seen p || (not (ltb p 64) && Tests.any (λ (l : Readable.Slot). leb l.kind 1 && eqb p l.place) slots)) }
+    requires { end ≤ 1024 }
+    ensures { let slots = Readable.slots kind.now place.now weight.now from (end - from) in result ≡ (bit seen p || (not (ltb p 64) && Tests.any (λ (l : Readable.Slot). leb l.kind 1 && eqb p l.place) slots)) }
 {
     if p < 64 {
         return (seen >> p) & 1 == 1;
@@ -83,10 +79,8 @@ pub fn taken_twice<'a>(
     from: usize,
     end: usize,
 ) -> bool
-    ghost slots: { List Readable.Slot }
-    requires from_value { Readable.slots kind.now place.now weight.now from (end - from) ≡ slots }
-    requires end_bound { end ≤ 1024 }
-    ensures { result ≡ Tests.twice (map (λ (k : NetSpec.Take). k.place) (Readable.takes_of slots)) }
+    requires { end ≤ 1024 }
+    ensures { let slots = Readable.slots kind.now place.now weight.now from (end - from) in result ≡ Tests.twice (map (λ (k : NetSpec.Take). k.place) (Readable.takes_of slots)) }
 {
     let mut seen: u64 = 0;
     let mut slot = from;
@@ -112,10 +106,8 @@ fn any_take<'a>(
     from: usize,
     end: usize,
 ) -> bool
-    ghost slots: { List Readable.Slot }
-    requires from_value { Readable.slots kind.now place.now weight.now from (end - from) ≡ slots }
-    requires end_bound { end ≤ 1024 }
-    ensures { result ≡ Tests.any (λ (l : Readable.Slot). leb l.kind 1) slots }
+    requires { end ≤ 1024 }
+    ensures { let slots = Readable.slots kind.now place.now weight.now from (end - from) in result ≡ Tests.any (λ (l : Readable.Slot). leb l.kind 1) slots }
 {
     let mut slot = from;
     while slot < end {
@@ -136,10 +128,8 @@ pub fn delayed_for_nothing<'a>(
     from: usize,
     end: usize,
 ) -> bool
-    ghost slots: { List Readable.Slot }
-    requires from_value { Readable.slots kind.now place.now weight.now from (end - from) ≡ slots }
-    requires end_bound { end ≤ 1024 }
-    ensures { result ≡ (Ieee.lt NetSpec.zero64 delay && Tests.empty (Readable.takes_of slots)) }
+    requires { end ≤ 1024 }
+    ensures { let slots = Readable.slots kind.now place.now weight.now from (end - from) in result ≡ (Ieee.lt NetSpec.zero64 delay && Tests.empty (Readable.takes_of slots)) }
 {
     if 0.0 < delay {
         return !any_take(kind, place, weight, from, end);
@@ -168,10 +158,8 @@ pub fn kinetic_over<'a>(
     from: usize,
     end: usize,
 ) -> bool
-    ghost slots: { List Readable.Slot }
-    requires from_value { Readable.slots kind.now place.now weight.now from (end - from) ≡ slots }
-    requires end_bound { end ≤ 1024 }
-    ensures { result ≡ ltb 16 (Tests.kinetic_total (Readable.takes_of slots)) }
+    requires { end ≤ 1024 }
+    ensures { let slots = Readable.slots kind.now place.now weight.now from (end - from) in result ≡ ltb 16 (Tests.kinetic_total (Readable.takes_of slots)) }
 {
     let mut total: u64 = 0;
     let mut slot = from;

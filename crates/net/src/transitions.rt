@@ -20,9 +20,7 @@ fn transition_at<'a>(
     weight: &'a [u64; 1024],
     j: usize,
 ) -> Verdict
-    ghost net: { NetRecord }
-    requires { lent places transitions initial.now capacity.now rate.now delay.now arcs.now kind.now place.now weight.now ≡ net }
-    ensures { Readable.meaning result ≡ Readable.move_fault net j }
+    ensures { let net = lent places transitions initial.now capacity.now rate.now delay.now arcs.now kind.now place.now weight.now in Readable.meaning result ≡ Readable.move_fault net j }
 {
     if bounds::MOST_TRANSITIONS <= j {
         return Verdict::Refused(refusals::BAD_SIZE);
@@ -45,9 +43,7 @@ pub fn transitions_fault<'a>(
     place: &'a [usize; 1024],
     weight: &'a [u64; 1024],
 ) -> Verdict
-    ghost net: { NetRecord }
-    requires { lent places transitions initial.now capacity.now rate.now delay.now arcs.now kind.now place.now weight.now ≡ net }
-    ensures { Readable.meaning result ≡ Readable.moves_fault net 0 transitions }
+    ensures { let net = lent places transitions initial.now capacity.now rate.now delay.now arcs.now kind.now place.now weight.now in Readable.meaning result ≡ Readable.moves_fault net 0 transitions }
 {
     let mut j: usize = 0;
     while j < transitions {

@@ -205,10 +205,8 @@ fn inside_line(
     place: &mut [usize; 1024],
     weight: &mut [u64; 1024],
 ) -> Taken
-    ghost before: { Spec.Tables }
-    requires weight_value { Spec.tables initial.old capacity.old label.old lengths.old rate.old delay.old arcs.old kind.old place.old weight.old ≡ before }
-    requires room { Spec.Room (Spec.net_at places transitions before) }
-    ensures { Spec.LineTaken (Spec.inside_of places transitions before) (Spec.net_at places transitions before) line.now
+    requires { let before = Spec.tables initial.old capacity.old label.old lengths.old rate.old delay.old arcs.old kind.old place.old weight.old in Spec.Room (Spec.net_at places transitions before) }
+    ensures { let before = Spec.tables initial.old capacity.old label.old lengths.old rate.old delay.old arcs.old kind.old place.old weight.old in Spec.LineTaken (Spec.inside_of places transitions before) (Spec.net_at places transitions before) line.now
         (Spec.tables initial.new capacity.new label.new lengths.new rate.new delay.new arcs.new kind.new place.new weight.new) result }
 {
     let p = form::place_form(line);
@@ -309,10 +307,8 @@ fn one_line(
     place: &mut [usize; 1024],
     weight: &mut [u64; 1024],
 ) -> Taken
-    ghost before: { Spec.Tables }
-    requires weight_value { Spec.tables initial.old capacity.old label.old lengths.old rate.old delay.old arcs.old kind.old place.old weight.old ≡ before }
-    requires standing { Spec.Standing p before }
-    ensures { Spec.LineTaken (Spec.due_of p before) (Spec.net_at p.places p.transitions before) line.now
+    requires { let before = Spec.tables initial.old capacity.old label.old lengths.old rate.old delay.old arcs.old kind.old place.old weight.old in Spec.Standing p before }
+    ensures { let before = Spec.tables initial.old capacity.old label.old lengths.old rate.old delay.old arcs.old kind.old place.old weight.old in Spec.LineTaken (Spec.due_of p before) (Spec.net_at p.places p.transitions before) line.now
         (Spec.tables initial.new capacity.new label.new lengths.new rate.new delay.new arcs.new kind.new place.new weight.new) result }
 {
     let stage = p.stage;

@@ -53,17 +53,15 @@ fn complete<'a>(
     rng: Xoshiro256,
     tokens: u64,
 ) -> Ended
-    ghost net: { NetRecord }
-    requires weight_value { lent places transitions initial.now capacity.now rate.now delay.now arcs.now kind.now place.now weight.now ≡ net }
-    requires ready_2 { Stepping.Ready net limit.now counts.old ats.now owners.now ring
+    requires { let net = lent places transitions initial.now capacity.now rate.now delay.now arcs.now kind.now place.now weight.now in Stepping.Ready net limit.now counts.old ats.now owners.now ring
         × (tokens ≡ Stepping.tokens_of (Stepping.state_of net counts.old ats.now owners.now ring clock rng.s))
         × Guards.Guards net guards.now }
-    ensures is { Stepping.EventBy
+    ensures is { let net = lent places transitions initial.now capacity.now rate.now delay.now arcs.now kind.now place.now weight.now in Stepping.EventBy
         (Rule.complete (Record.readable net) (Stepping.state_of net counts.old ats.now owners.now ring clock rng.s))
         (Stepping.state_of net counts.new ats.now owners.now result.timers clock result.rng.s) result.tokens result.fits }
-    ensures ready { Stepping.Ready net limit.now counts.new ats.now owners.now result.timers
+    ensures ready { let net = lent places transitions initial.now capacity.now rate.now delay.now arcs.now kind.now place.now weight.now in Stepping.Ready net limit.now counts.new ats.now owners.now result.timers
         × (Turning.running result.timers ≤ Turning.running ring) }
-    ensures quiet { result.fits ≡ true → Guards.Quiet (Record.readable net) (Engine.marking places counts.old) (Engine.marking places counts.new)
+    ensures quiet { let net = lent places transitions initial.now capacity.now rate.now delay.now arcs.now kind.now place.now weight.now in result.fits ≡ true → Guards.Quiet (Record.readable net) (Engine.marking places counts.old) (Engine.marking places counts.new)
         result.moved result.crossed }
 {
     let x = timers::first(ats, owners, ring);
@@ -127,18 +125,16 @@ fn race<'a>(
     rng: Xoshiro256,
     tokens: u64,
 ) -> Ended
-    ghost net: { NetRecord }
-    requires weight_value { lent places transitions initial.now capacity.now rate.now delay.now arcs.now kind.now place.now weight.now ≡ net }
-    requires ready_2 { Stepping.Ready net limit.now counts.old ats.now owners.now ring × (length props.now ≡ 64) × Sums.SumsKept transitions (ListN.take transitions props.now) sums.now
+    requires { let net = lent places transitions initial.now capacity.now rate.now delay.now arcs.now kind.now place.now weight.now in Stepping.Ready net limit.now counts.old ats.now owners.now ring × (length props.now ≡ 64) × Sums.SumsKept transitions (ListN.take transitions props.now) sums.now
         × (tokens ≡ Stepping.tokens_of (Stepping.state_of net counts.old ats.now owners.now ring clock rng.s))
         × Guards.Guards net guards.now }
-    ensures is { Stepping.EventBy
+    ensures is { let net = lent places transitions initial.now capacity.now rate.now delay.now arcs.now kind.now place.now weight.now in Stepping.EventBy
         (Rule.raced (Record.readable net) (Stepping.state_of net counts.old ats.now owners.now ring clock rng.s) a0
         (ListN.take transitions props.now))
         (Stepping.state_of net counts.new ats.now owners.now result.timers clock result.rng.s) result.tokens result.fits }
-    ensures ready { Stepping.Ready net limit.now counts.new ats.now owners.now result.timers
+    ensures ready { let net = lent places transitions initial.now capacity.now rate.now delay.now arcs.now kind.now place.now weight.now in Stepping.Ready net limit.now counts.new ats.now owners.now result.timers
         × (Turning.running result.timers ≤ Turning.running ring) }
-    ensures quiet { result.fits ≡ true → Guards.Quiet (Record.readable net) (Engine.marking places counts.old) (Engine.marking places counts.new)
+    ensures quiet { let net = lent places transitions initial.now capacity.now rate.now delay.now arcs.now kind.now place.now weight.now in result.fits ≡ true → Guards.Quiet (Record.readable net) (Engine.marking places counts.old) (Engine.marking places counts.new)
         result.moved result.crossed }
 {
     let d = rng.uniform();
@@ -226,18 +222,16 @@ pub fn happen<'a>(
     tokens: u64,
     completes: bool,
 ) -> Ended
-    ghost net: { NetRecord }
-    requires weight_value { lent places transitions initial.now capacity.now rate.now delay.now arcs.now kind.now place.now weight.now ≡ net }
-    requires ready_2 { Stepping.Ready net limit.now counts.old ats.now owners.now ring × (length props.now ≡ 64) × Sums.SumsKept transitions (ListN.take transitions props.now) sums.now
+    requires { let net = lent places transitions initial.now capacity.now rate.now delay.now arcs.now kind.now place.now weight.now in Stepping.Ready net limit.now counts.old ats.now owners.now ring × (length props.now ≡ 64) × Sums.SumsKept transitions (ListN.take transitions props.now) sums.now
         × (tokens ≡ Stepping.tokens_of (Stepping.state_of net counts.old ats.now owners.now ring clock rng.s))
         × Guards.Guards net guards.now }
-    ensures is { Stepping.EventBy
+    ensures is { let net = lent places transitions initial.now capacity.now rate.now delay.now arcs.now kind.now place.now weight.now in Stepping.EventBy
         (Stepping.event_of net (Stepping.state_of net counts.old ats.now owners.now ring clock rng.s) a0
         props.now completes)
         (Stepping.state_of net counts.new ats.now owners.now result.timers clock result.rng.s) result.tokens result.fits }
-    ensures ready { Stepping.Ready net limit.now counts.new ats.now owners.now result.timers
+    ensures ready { let net = lent places transitions initial.now capacity.now rate.now delay.now arcs.now kind.now place.now weight.now in Stepping.Ready net limit.now counts.new ats.now owners.now result.timers
         × (Turning.running result.timers ≤ Turning.running ring) }
-    ensures quiet { result.fits ≡ true → Guards.Quiet (Record.readable net) (Engine.marking places counts.old) (Engine.marking places counts.new)
+    ensures quiet { let net = lent places transitions initial.now capacity.now rate.now delay.now arcs.now kind.now place.now weight.now in result.fits ≡ true → Guards.Quiet (Record.readable net) (Engine.marking places counts.old) (Engine.marking places counts.new)
         result.moved result.crossed }
 {
     if completes {

@@ -31,10 +31,8 @@ fn some_ready<'a>(
     limit: &'a [u64; 1024],
     counts: &[u64; 32],
 ) -> bool
-    ghost net: { NetRecord }
-    requires weight_value { lent places transitions initial.now capacity.now rate.now delay.now arcs.now kind.now place.now weight.now ≡ net }
-    requires tidy { Engine.Tidy net × Limits.Limits net limit.now × Engine.Counts counts.now }
-    ensures { result ≡ Tests.any (λ (t : Net.Transition). Net.timed t && Enabled.enabled (Record.readable net) (Engine.marking places counts.now) t)
+    requires { let net = lent places transitions initial.now capacity.now rate.now delay.now arcs.now kind.now place.now weight.now in Engine.Tidy net × Limits.Limits net limit.now × Engine.Counts counts.now }
+    ensures { let net = lent places transitions initial.now capacity.now rate.now delay.now arcs.now kind.now place.now weight.now in result ≡ Tests.any (λ (t : Net.Transition). Net.timed t && Enabled.enabled (Record.readable net) (Engine.marking places counts.now) t)
         (Record.readable net).transitions }
 {
     let mut j: usize = 0;
@@ -86,12 +84,10 @@ pub fn first_peak<'a>(
     steps: u64,
     s: Standing,
 ) -> u64
-    ghost net: { NetRecord }
-    requires weight_value { lent places transitions initial.now capacity.now rate.now delay.now arcs.now kind.now place.now weight.now ≡ net }
-    requires tidy { Engine.Tidy net × Accepted (Record.readable net) × Limits.Limits net limit.now
+    requires { let net = lent places transitions initial.now capacity.now rate.now delay.now arcs.now kind.now place.now weight.now in Engine.Tidy net × Accepted (Record.readable net) × Limits.Limits net limit.now
         × Stepping.Resumes counts.now ats.now owners.now s.timers s.clock
         × (s.tokens ≡ Stepping.tokens_of (Stepping.state_of net counts.now ats.now owners.now s.timers s.clock s.rng.s)) }
-    ensures { let from = (Stepping.state_of net counts.now ats.now owners.now s.timers s.clock s.rng.s) in
+    ensures { let net = lent places transitions initial.now capacity.now rate.now delay.now arcs.now kind.now place.now weight.now in let from = (Stepping.state_of net counts.now ats.now owners.now s.timers s.clock s.rng.s) in
         Stepping.Topped room (Record.readable net) last steps from result
         × ((out : End) (xs : List Float) → Play.higher result (Play.play_within out room (Record.readable net) last steps xs from)
         ≡ Play.higher s.peak (Play.play_within out room (Record.readable net) last steps xs from)) }

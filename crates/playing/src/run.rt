@@ -123,16 +123,14 @@ fn take_steps<'a>(
     steps: u64,
     s: Now,
 ) -> Walked
-    ghost net: { NetRecord }
-    requires weight_value { lent places transitions initial.now capacity.now rate.now delay.now arcs.now kind.now place.now weight.now ≡ net }
-    requires ready { Stepping.Ready net limit.now counts.old ats.old owners.old s.timers × Stepping.Roomy room s.timers
+    requires { let net = lent places transitions initial.now capacity.now rate.now delay.now arcs.now kind.now place.now weight.now in Stepping.Ready net limit.now counts.old ats.old owners.old s.timers × Stepping.Roomy room s.timers
         × Keeps.Tables net rates.now ends.now guards.now timed heavy × Keeps.Carried net (Engine.marking places counts.old) s.kept props.old sums.old
         × (s.next ≤ length instants.now) × (length instants.now ≤ 1024) × (places * length instants.now ≤ length table.old)
         × Stepping.Topped room (Record.readable net) last steps
         (Stepping.state_of net counts.old ats.old owners.old s.timers s.clock s.rng.s) s.peak
         × (s.tokens ≡ Stepping.tokens_of (Stepping.state_of net counts.old ats.old owners.old s.timers s.clock s.rng.s))
         × (s.unit ≡ unit_wait (Random.words s.rng.s)) }
-    ensures is { Playing.WalkBy
+    ensures is { let net = lent places transitions initial.now capacity.now rate.now delay.now arcs.now kind.now place.now weight.now in Playing.WalkBy
         (Play.higher s.peak (Play.play_within (Playing.out_of halts) room (Record.readable net) last steps (ListN.drop s.next instants.now)
         (Stepping.state_of net counts.old ats.old owners.old s.timers s.clock s.rng.s)))
         instants.now
@@ -249,15 +247,13 @@ pub fn play_on<'a>(
     s: Standing,
     table: &mut [f64],
 ) -> Walked
-    ghost net: { NetRecord }
-    requires weight_value { lent places transitions initial.now capacity.now rate.now delay.now arcs.now kind.now place.now weight.now ≡ net }
-    requires ready { Stepping.Ready net limit.now counts.old ats.old owners.old s.timers × Stepping.Roomy room s.timers
+    requires { let net = lent places transitions initial.now capacity.now rate.now delay.now arcs.now kind.now place.now weight.now in Stepping.Ready net limit.now counts.old ats.old owners.old s.timers × Stepping.Roomy room s.timers
         × Keeps.Tables net rates.now ends.now guards.now timed heavy
         × (0 < length instants.now) × (s.next ≤ length instants.now) × (length instants.now ≤ 1024) × (places * length instants.now ≤ length table.old)
         × Stepping.Topped room (Record.readable net) (Shown.last_of instants.now) steps
         (Stepping.state_of net counts.old ats.old owners.old s.timers s.clock s.rng.s) s.peak
         × (s.tokens ≡ Stepping.tokens_of (Stepping.state_of net counts.old ats.old owners.old s.timers s.clock s.rng.s)) }
-    ensures { Playing.PlayedBy
+    ensures { let net = lent places transitions initial.now capacity.now rate.now delay.now arcs.now kind.now place.now weight.now in Playing.PlayedBy
         (Play.higher s.peak (Play.play_within (Playing.out_of halts) room (Record.readable net) (Shown.last_of instants.now) steps
         (ListN.drop s.next instants.now)
         (Stepping.state_of net counts.old ats.old owners.old s.timers s.clock s.rng.s)))

@@ -51,16 +51,14 @@ fn try_start<'a>(
     t: f64,
     j: usize,
 ) -> Started
-    ghost net: { NetRecord }
-    requires weight_value { lent places transitions initial.now capacity.now rate.now delay.now arcs.now kind.now place.now weight.now ≡ net }
-    requires j_lt_transitions { (j < transitions) × Stepping.Ready net limit.now counts.old ats.old owners.old ring × Stepping.Roomy room ring
+    requires { let net = lent places transitions initial.now capacity.now rate.now delay.now arcs.now kind.now place.now weight.now in (j < transitions) × Stepping.Ready net limit.now counts.old ats.old owners.old ring × Stepping.Roomy room ring
         × Guards.Guards net guards.now }
-    ensures is { Starts.StartsAre
+    ensures is { let net = lent places transitions initial.now capacity.now rate.now delay.now arcs.now kind.now place.now weight.now in Starts.StartsAre
         (Rule.pass room (Record.readable net) t j (Record.transition net j ∷ [])
         (Engine.marking places counts.old) (Turning.timers_of ats.old owners.old ring))
         (Engine.marking places counts.new) (Turning.timers_of ats.new owners.new result.timers) result }
-    ensures ready { Stepping.Ready net limit.now counts.new ats.new owners.new result.timers × Stepping.Roomy room result.timers }
-    ensures quiet { result.full ≡ false → Guards.Quiet (Record.readable net) (Engine.marking places counts.old) (Engine.marking places counts.new)
+    ensures ready { let net = lent places transitions initial.now capacity.now rate.now delay.now arcs.now kind.now place.now weight.now in Stepping.Ready net limit.now counts.new ats.new owners.new result.timers × Stepping.Roomy room result.timers }
+    ensures quiet { let net = lent places transitions initial.now capacity.now rate.now delay.now arcs.now kind.now place.now weight.now in result.full ≡ false → Guards.Quiet (Record.readable net) (Engine.marking places counts.old) (Engine.marking places counts.new)
         result.moved result.crossed }
 {
     let d = delay[j];
@@ -141,16 +139,14 @@ fn pass<'a>(
     t: f64,
     asked: u64,
 ) -> Started
-    ghost net: { NetRecord }
-    requires weight_value { lent places transitions initial.now capacity.now rate.now delay.now arcs.now kind.now place.now weight.now ≡ net }
-    requires ready_2 { Stepping.Ready net limit.now counts.old ats.old owners.old ring × Stepping.Roomy room ring × Guards.Guards net guards.now
+    requires { let net = lent places transitions initial.now capacity.now rate.now delay.now arcs.now kind.now place.now weight.now in Stepping.Ready net limit.now counts.old ats.old owners.old ring × Stepping.Roomy room ring × Guards.Guards net guards.now
         × Traits.Marks net delayed timed × ((j : ℕ) → bit asked j ≡ true → bit timed j ≡ true) × Keeping.ShutBut asked (Record.readable net) (Engine.marking places counts.old) }
-    ensures is { Starts.StartsAre
+    ensures is { let net = lent places transitions initial.now capacity.now rate.now delay.now arcs.now kind.now place.now weight.now in Starts.StartsAre
         (Rule.pass room (Record.readable net) t 0 (Record.readable net).transitions
         (Engine.marking places counts.old) (Turning.timers_of ats.old owners.old ring))
         (Engine.marking places counts.new) (Turning.timers_of ats.new owners.new result.timers) result }
-    ensures ready { Stepping.Ready net limit.now counts.new ats.new owners.new result.timers × Stepping.Roomy room result.timers }
-    ensures quiet { result.full ≡ false → Guards.Quiet (Record.readable net) (Engine.marking places counts.old) (Engine.marking places counts.new)
+    ensures ready { let net = lent places transitions initial.now capacity.now rate.now delay.now arcs.now kind.now place.now weight.now in Stepping.Ready net limit.now counts.new ats.new owners.new result.timers × Stepping.Roomy room result.timers }
+    ensures quiet { let net = lent places transitions initial.now capacity.now rate.now delay.now arcs.now kind.now place.now weight.now in result.full ≡ false → Guards.Quiet (Record.readable net) (Engine.marking places counts.old) (Engine.marking places counts.new)
         result.moved result.crossed }
 {
     let mut k = ring;
@@ -226,15 +222,13 @@ pub fn start_all<'a>(
     t: f64,
     before: u64,
 ) -> Started
-    ghost net: { NetRecord }
-    requires weight_value { lent places transitions initial.now capacity.now rate.now delay.now arcs.now kind.now place.now weight.now ≡ net }
-    requires ready_2 { Stepping.Ready net limit.now counts.old ats.old owners.old ring × Stepping.Roomy room ring × Guards.Guards net guards.now
+    requires { let net = lent places transitions initial.now capacity.now rate.now delay.now arcs.now kind.now place.now weight.now in Stepping.Ready net limit.now counts.old ats.old owners.old ring × Stepping.Roomy room ring × Guards.Guards net guards.now
         × Traits.Marks net delayed timed × Keeping.ShutBut before (Record.readable net) (Engine.marking places counts.old) }
-    ensures is { Starts.StartsAre
+    ensures is { let net = lent places transitions initial.now capacity.now rate.now delay.now arcs.now kind.now place.now weight.now in Starts.StartsAre
         (Rule.passes (suc room) room (Record.readable net) t (Engine.marking places counts.old) (Turning.timers_of ats.old owners.old ring))
         (Engine.marking places counts.new) (Turning.timers_of ats.new owners.new result.timers) result }
-    ensures ready { Stepping.Ready net limit.now counts.new ats.new owners.new result.timers × Stepping.Roomy room result.timers }
-    ensures quiet { result.full ≡ false → Guards.Quiet (Record.readable net) (Engine.marking places counts.old) (Engine.marking places counts.new)
+    ensures ready { let net = lent places transitions initial.now capacity.now rate.now delay.now arcs.now kind.now place.now weight.now in Stepping.Ready net limit.now counts.new ats.new owners.new result.timers × Stepping.Roomy room result.timers }
+    ensures quiet { let net = lent places transitions initial.now capacity.now rate.now delay.now arcs.now kind.now place.now weight.now in result.full ≡ false → Guards.Quiet (Record.readable net) (Engine.marking places counts.old) (Engine.marking places counts.new)
         result.moved result.crossed }
 {
     let mut asked = before & timed;

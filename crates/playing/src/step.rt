@@ -109,15 +109,13 @@ fn advance<'a>(
     kept: Keeping,
     unit: f64,
 ) -> Advanced
-    ghost net: { NetRecord }
-    requires weight_value { lent places transitions initial.now capacity.now rate.now delay.now arcs.now kind.now place.now weight.now ≡ net }
-    requires ready_2 { Stepping.Ready net limit.now counts.old ats.old owners.old ring × Stepping.Roomy room ring × Keeps.Tables net rates.now ends.now guards.now timed heavy
+    requires { let net = lent places transitions initial.now capacity.now rate.now delay.now arcs.now kind.now place.now weight.now in Stepping.Ready net limit.now counts.old ats.old owners.old ring × Stepping.Roomy room ring × Keeps.Tables net rates.now ends.now guards.now timed heavy
         × Keeps.Carried net (Engine.marking places counts.old) kept props.old sums.old × (unit ≡ unit_wait (Random.words rng.s)) }
-    ensures is { let before = Stepping.state_of net counts.old ats.old owners.old ring t rng.s in
+    ensures is { let net = lent places transitions initial.now capacity.now rate.now delay.now arcs.now kind.now place.now weight.now in let before = Stepping.state_of net counts.old ats.old owners.old ring t rng.s in
         Stepping.AdvancedBy net (Rule.step room (Record.readable net) before) before
         (Stepping.state_of net counts.new ats.new owners.new result.timers result.clock result.rng.s)
         props.new result.kept.a0 result.rounded result.completes result.due }
-    ensures ready { Stepping.Ready net limit.now counts.new ats.new owners.new result.timers
+    ensures ready { let net = lent places transitions initial.now capacity.now rate.now delay.now arcs.now kind.now place.now weight.now in Stepping.Ready net limit.now counts.new ats.new owners.new result.timers
         × Stepping.Roomy room result.timers
         × (result.due ≡ Due.Event → Keeps.Carried net (Engine.marking places counts.new) result.kept props.new sums.new
         × (result.kept.moved ≡ 0) × (result.kept.crossed ≡ 0)) }
@@ -268,22 +266,20 @@ pub fn one_step<'a>(
     table: &mut [f64],
     s: Now,
 ) -> Stepped
-    ghost net: { NetRecord }
-    requires weight_value { lent places transitions initial.now capacity.now rate.now delay.now arcs.now kind.now place.now weight.now ≡ net }
-    requires ready_2 { Stepping.Ready net limit.now counts.old ats.old owners.old s.timers × Stepping.Roomy room s.timers
+    requires { let net = lent places transitions initial.now capacity.now rate.now delay.now arcs.now kind.now place.now weight.now in Stepping.Ready net limit.now counts.old ats.old owners.old s.timers × Stepping.Roomy room s.timers
         × Keeps.Tables net rates.now ends.now guards.now timed heavy × Keeps.Carried net (Engine.marking places counts.old) s.kept props.old sums.old
         × (s.next ≤ length instants.now) × (length instants.now ≤ 1024)
         × (places * length instants.now ≤ length table.old)
         × (s.tokens ≡ Stepping.tokens_of (Stepping.state_of net counts.old ats.old owners.old s.timers s.clock s.rng.s))
         × (s.unit ≡ unit_wait (Random.words s.rng.s)) }
-    ensures is { let before = Stepping.state_of net counts.old ats.old owners.old s.timers s.clock s.rng.s in
+    ensures is { let net = lent places transitions initial.now capacity.now rate.now delay.now arcs.now kind.now place.now weight.now in let before = Stepping.state_of net counts.old ats.old owners.old s.timers s.clock s.rng.s in
         Stepping.StepBy (Rule.step room (Record.readable net) before) before last
         (λ u. Cells.ShownBy places instants.now u.clock u.counts s.next result.now.next table.old table.new)
         (Cells.NotShown s.next result.now.next table.old table.new)
         s.peak result.now.peak result.now.tokens
         (Stepping.state_of net counts.new ats.new owners.new result.now.timers result.now.clock result.now.rng.s)
         result.rounded result.ending }
-    ensures ready { Stepping.Ready net limit.now counts.new ats.new owners.new result.now.timers
+    ensures ready { let net = lent places transitions initial.now capacity.now rate.now delay.now arcs.now kind.now place.now weight.now in Stepping.Ready net limit.now counts.new ats.new owners.new result.now.timers
         × Stepping.Roomy room result.now.timers
         × (result.ending ≡ Ending.GoesOn → Keeps.Carried net (Engine.marking places counts.new) result.now.kept props.new sums.new
         × (result.now.unit ≡ unit_wait (Random.words result.now.rng.s)))

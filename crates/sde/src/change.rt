@@ -93,10 +93,8 @@ fn change_of<'a>(
     weight: &'a [u64; 1024],
     c: usize,
 ) -> f64
-    ghost net: { NetRecord }
-    requires weight_value { lent places transitions initial.now capacity.now rate.now delay.now arcs.now kind.now place.now weight.now ≡ net }
-    requires c_bound { (c < 32 * transitions) × Sound.Sound net }
-    ensures { result ≡ Slots.change_of net c }
+    requires { let net = lent places transitions initial.now capacity.now rate.now delay.now arcs.now kind.now place.now weight.now in (c < 32 * transitions) × Sound.Sound net }
+    ensures { let net = lent places transitions initial.now capacity.now rate.now delay.now arcs.now kind.now place.now weight.now in result ≡ Slots.change_of net c }
 {
     let j = c / 32;
     let p = c % 32;
@@ -120,10 +118,8 @@ pub fn fill_changes<'a>(
     weight: &'a [u64; 1024],
     changes: &mut [f64; 2048],
 )
-    ghost net: { NetRecord }
-    requires weight_value { lent places transitions initial.now capacity.now rate.now delay.now arcs.now kind.now place.now weight.now ≡ net }
-    requires sound { Sound.Sound net × (length changes.old ≡ 2048) }
-    ensures { Slots.Changes net changes.new }
+    requires { let net = lent places transitions initial.now capacity.now rate.now delay.now arcs.now kind.now place.now weight.now in Sound.Sound net × (length changes.old ≡ 2048) }
+    ensures { let net = lent places transitions initial.now capacity.now rate.now delay.now arcs.now kind.now place.now weight.now in Slots.Changes net changes.new }
 {
     let end = 32 * transitions;
     let mut c: usize = 0;

@@ -55,13 +55,11 @@ fn sum_paths<'a>(
     deviation: &mut [f64],
     path: &mut [f64],
 ) -> u64
-    ghost net: { NetRecord }
-    requires weight_value { lent places transitions initial.now capacity.now rate.now delay.now arcs.now kind.now place.now weight.now ≡ net }
-    requires sound { Sound.Sound net × Slots.Prepared net changes.now skips.now ends.now
+    requires { let net = lent places transitions initial.now capacity.now rate.now delay.now arcs.now kind.now place.now weight.now in Sound.Sound net × Slots.Prepared net changes.now skips.now ends.now
         × (dt ≡ Diffusion.step_of n horizon) × (root ≡ root_of dt)
         × (1 ≤ n) × (n ≤ 1024) × (1 ≤ realizations)
         × (places * n ≤ length mean.old) × (places * n ≤ length deviation.old) × (places * n ≤ length path.old) }
-    ensures { Summed.SummedBy (places * n) realizations
+    ensures { let net = lent places transitions initial.now capacity.now rate.now delay.now arcs.now kind.now place.now weight.now in Summed.SummedBy (places * n) realizations
         (Call.members_from (Record.readable net) (record { samples = n; realizations = realizations; seed = seed; horizon = horizon }) 0 realizations)
         (record { mean = mean.entry.now; deviation = deviation.old; path = path.old })
         mean.exit.now deviation.new path.new result }
@@ -155,13 +153,11 @@ fn averaged<'a>(
     deviation: &mut [f64],
     path: &mut [f64],
 ) -> DiffusionAnswer
-    ghost net: { NetRecord }
-    requires weight_value { lent places transitions initial.now capacity.now rate.now delay.now arcs.now kind.now place.now weight.now ≡ net }
-    requires sound { Sound.Sound net × Slots.Prepared net changes.now skips.now ends.now
+    requires { let net = lent places transitions initial.now capacity.now rate.now delay.now arcs.now kind.now place.now weight.now in Sound.Sound net × Slots.Prepared net changes.now skips.now ends.now
         × (dt ≡ Diffusion.step_of n horizon) × (root ≡ root_of dt)
         × (1 ≤ n) × (n ≤ 1024) × (1 ≤ realizations) × (realizations ≤ 65_535)
         × (places * n ≤ length mean.old) × (places * n ≤ length deviation.old) × (places * n ≤ length path.old) }
-    ensures { Call.call_of result mean.exit.now deviation.new path.new
+    ensures { let net = lent places transitions initial.now capacity.now rate.now delay.now arcs.now kind.now place.now weight.now in Call.call_of result mean.exit.now deviation.new path.new
         ≡ Call.tabulated (places * n) (record { mean = mean.entry.now; deviation = deviation.old; path = path.old })
         (Call.members_from (Record.readable net) (record { samples = n; realizations = realizations; seed = seed; horizon = horizon }) 0 realizations) }
 {
@@ -219,12 +215,10 @@ pub fn lent_run<'a>(
     deviation: &mut [f64],
     path: &mut [f64],
 ) -> DiffusionAnswer
-    ghost net: { NetRecord }
-    requires weight_value { lent places transitions initial.now capacity.now rate.now delay.now arcs.now kind.now place.now weight.now ≡ net }
-    requires sound { Sound.Sound net
+    requires { let net = lent places transitions initial.now capacity.now rate.now delay.now arcs.now kind.now place.now weight.now in Sound.Sound net
         × (2 ≤ samples) × (samples ≤ 1024) × (1 ≤ realizations) × (realizations ≤ 65_535)
         × (places * samples ≤ length mean.old) × (places * samples ≤ length deviation.old) × (places * samples ≤ length path.old) }
-    ensures { Call.call_of result mean.exit.now deviation.new path.new
+    ensures { let net = lent places transitions initial.now capacity.now rate.now delay.now arcs.now kind.now place.now weight.now in Call.call_of result mean.exit.now deviation.new path.new
         ≡ Call.unless_gated (Gated.gated (Gated.gates (Record.readable net))) (Gated.gates (Record.readable net))
         (record { mean = mean.entry.now; deviation = deviation.old; path = path.old })
         (Call.tabulated (places * samples) (record { mean = mean.entry.now; deviation = deviation.old; path = path.old })

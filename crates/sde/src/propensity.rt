@@ -150,10 +150,8 @@ pub fn propensity<'a>(
     x: &[f64; 32],
     j: usize,
 ) -> f64
-    ghost net: { NetRecord }
-    requires weight_value { lent places transitions initial.now capacity.now rate.now delay.now arcs.now kind.now place.now weight.now ≡ net }
-    requires j_lt_transitions { (j < transitions) × Sound.Sound net × Slots.Rated net × Slots.Ends net ends.now }
-    ensures { result ≡ Diffusion.propensity (ListN.take places x.now) (Record.transition net j) }
+    requires { let net = lent places transitions initial.now capacity.now rate.now delay.now arcs.now kind.now place.now weight.now in (j < transitions) × Sound.Sound net × Slots.Rated net × Slots.Ends net ends.now }
+    ensures { let net = lent places transitions initial.now capacity.now rate.now delay.now arcs.now kind.now place.now weight.now in result ≡ Diffusion.propensity (ListN.take places x.now) (Record.transition net j) }
 {
     product(kind, place, weight, places, x, 16 * j, ends[j], rate[j])
 }

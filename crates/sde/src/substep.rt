@@ -109,11 +109,9 @@ fn push_all<'a>(
     drift: &mut [f64; 32],
     sampler: GaussianSampler,
 ) -> Pushed
-    ghost net: { NetRecord }
-    requires weight_value { lent places transitions initial.now capacity.now rate.now delay.now arcs.now kind.now place.now weight.now ≡ net }
-    requires sound { Sound.Sound net × Slots.Prepared net changes.now skips.now ends.now
+    requires { let net = lent places transitions initial.now capacity.now rate.now delay.now arcs.now kind.now place.now weight.now in Sound.Sound net × Slots.Prepared net changes.now skips.now ends.now
         × (root ≡ root_of dt) × Arrays.Lengths x.old drift.old }
-    ensures { (Arrays.unless result.stopped (Arrays.going_of places x.new drift.new result.sampler)
+    ensures { let net = lent places transitions initial.now capacity.now rate.now delay.now arcs.now kind.now place.now weight.now in (Arrays.unless result.stopped (Arrays.going_of places x.new drift.new result.sampler)
         ≡ Diffusion.pushed_all dt (Record.transitions_from net 0 transitions) (Arrays.going_of places x.old drift.old sampler))
         × Arrays.Lengths x.new drift.new }
 {
@@ -182,11 +180,9 @@ pub fn substep<'a>(
     drift: &mut [f64; 32],
     sampler: GaussianSampler,
 ) -> Pushed
-    ghost net: { NetRecord }
-    requires weight_value { lent places transitions initial.now capacity.now rate.now delay.now arcs.now kind.now place.now weight.now ≡ net }
-    requires sound { Sound.Sound net × Slots.Prepared net changes.now skips.now ends.now
+    requires { let net = lent places transitions initial.now capacity.now rate.now delay.now arcs.now kind.now place.now weight.now in Sound.Sound net × Slots.Prepared net changes.now skips.now ends.now
         × (root ≡ root_of dt) × Arrays.Lengths x.old drift.old }
-    ensures { (Arrays.unless result.stopped (Arrays.state_of places x.new result.sampler)
+    ensures { let net = lent places transitions initial.now capacity.now rate.now delay.now arcs.now kind.now place.now weight.now in (Arrays.unless result.stopped (Arrays.state_of places x.new result.sampler)
         ≡ Diffusion.substep (Record.readable net) dt (Arrays.state_of places x.old sampler))
         × Arrays.Lengths x.new drift.new }
 {
@@ -241,11 +237,9 @@ pub fn over_interval<'a>(
     drift: &mut [f64; 32],
     sampler: GaussianSampler,
 ) -> Pushed
-    ghost net: { NetRecord }
-    requires weight_value { lent places transitions initial.now capacity.now rate.now delay.now arcs.now kind.now place.now weight.now ≡ net }
-    requires sound { Sound.Sound net × Slots.Prepared net changes.now skips.now ends.now
+    requires { let net = lent places transitions initial.now capacity.now rate.now delay.now arcs.now kind.now place.now weight.now in Sound.Sound net × Slots.Prepared net changes.now skips.now ends.now
         × (root ≡ root_of dt) × Arrays.Lengths x.old drift.old }
-    ensures { (Arrays.unless result.stopped (Arrays.state_of places x.new result.sampler)
+    ensures { let net = lent places transitions initial.now capacity.now rate.now delay.now arcs.now kind.now place.now weight.now in (Arrays.unless result.stopped (Arrays.state_of places x.new result.sampler)
         ≡ Diffusion.over_interval (Record.readable net) dt (Arrays.state_of places x.old sampler))
         × Arrays.Lengths x.new drift.new }
 {

@@ -63,13 +63,11 @@ fn walk_on<'a>(
     sampler: GaussianSampler,
     table: &mut [f64],
 ) -> bool
-    ghost net: { NetRecord }
-    requires weight_value { lent places transitions initial.now capacity.now rate.now delay.now arcs.now kind.now place.now weight.now ≡ net }
-    requires sound { Sound.Sound net × Slots.Prepared net changes.now skips.now ends.now
+    requires { let net = lent places transitions initial.now capacity.now rate.now delay.now arcs.now kind.now place.now weight.now in Sound.Sound net × Slots.Prepared net changes.now skips.now ends.now
         × (root ≡ root_of dt) × Arrays.Lengths x.old drift.old
         × (1 ≤ n) × (n ≤ 1024) × (places * n ≤ length table.old)
         × ((p : ℕ) → p < places → get_or table.old (p * n + 0) nan ≡ get_or x.old p nan) }
-    ensures { (Arrays.unless result (ListN.take (places * n) table.new)
+    ensures { let net = lent places transitions initial.now capacity.now rate.now delay.now arcs.now kind.now place.now weight.now in (Arrays.unless result (ListN.take (places * n) table.new)
         ≡ Diffusion.cells_of places (Arrays.preceded (ListN.take places x.old ∷ []) (Diffusion.further (n - 1) (Diffusion.over_interval (Record.readable net) dt) (Arrays.state_of places x.old sampler))))
         × Arrays.Beyond (places * n) table.old table.new
         × Arrays.Lengths x.new drift.new }
@@ -131,12 +129,10 @@ pub fn walk<'a>(
     drift: &mut [f64; 32],
     table: &mut [f64],
 ) -> bool
-    ghost net: { NetRecord }
-    requires weight_value { lent places transitions initial.now capacity.now rate.now delay.now arcs.now kind.now place.now weight.now ≡ net }
-    requires sound { Sound.Sound net × Slots.Prepared net changes.now skips.now ends.now
+    requires { let net = lent places transitions initial.now capacity.now rate.now delay.now arcs.now kind.now place.now weight.now in Sound.Sound net × Slots.Prepared net changes.now skips.now ends.now
         × (root ≡ root_of dt) × Arrays.Lengths x.old drift.old
         × (1 ≤ n) × (n ≤ 1024) × (places * n ≤ length table.old) }
-    ensures { (Arrays.unless result (ListN.take (places * n) table.new)
+    ensures { let net = lent places transitions initial.now capacity.now rate.now delay.now arcs.now kind.now place.now weight.now in (Arrays.unless result (ListN.take (places * n) table.new)
         ≡ Diffusion.cells_of places (Diffusion.walked (Record.readable net) dt n seed))
         × Arrays.Beyond (places * n) table.old table.new
         × Arrays.Lengths x.new drift.new }

@@ -45,11 +45,9 @@ fn lent_path<'a>(
     generator: Xoshiro256,
     table: &mut [f64],
 ) -> PathAnswer
-    ghost net: { NetRecord }
-    requires weight_value { lent places transitions initial.now capacity.now rate.now delay.now arcs.now kind.now place.now weight.now ≡ net }
-    requires tidy { Engine.Tidy net × ((p : ℕ) → p < places → get_or initial.now p 0 ≤ 2 ^ 53) × (Shown.instants_fit instants.now ≡ true)
+    requires { let net = lent places transitions initial.now capacity.now rate.now delay.now arcs.now kind.now place.now weight.now in Engine.Tidy net × ((p : ℕ) → p < places → get_or initial.now p 0 ≤ 2 ^ 53) × (Shown.instants_fit instants.now ≡ true)
         × (places * length instants.now ≤ length table.old) }
-    ensures { Path.call_of result table.new ≡ Path.played places (length instants.now) (Random.words generator.s)
+    ensures { let net = lent places transitions initial.now capacity.now rate.now delay.now arcs.now kind.now place.now weight.now in Path.call_of result table.new ≡ Path.played places (length instants.now) (Random.words generator.s)
         table.old (Shown.worked (Record.readable net) (Random.words generator.s) instants.now steps) }
 {
     let mut limit = [0u64; 1024];
@@ -117,10 +115,8 @@ pub fn accepted_path<'a>(
     limit: u64,
     table: &mut [f64],
 ) -> PathAnswer
-    ghost net: { NetRecord }
-    requires weight_value { labelled places transitions initial.now capacity.now label.now lengths.now rate.now delay.now arcs.now kind.now place.now weight.now ≡ net }
-    requires net_value { (Record.fault net ≡ none) × (Shown.instants_fit instants.now ≡ true) × (places * length instants.now ≤ length table.old) }
-    ensures { Path.call_of result table.new ≡ Path.played places (length instants.now) (Random.words generator.s) table.old
+    requires { let net = labelled places transitions initial.now capacity.now label.now lengths.now rate.now delay.now arcs.now kind.now place.now weight.now in (Record.fault net ≡ none) × (Shown.instants_fit instants.now ≡ true) × (places * length instants.now ≤ length table.old) }
+    ensures { let net = labelled places transitions initial.now capacity.now label.now lengths.now rate.now delay.now arcs.now kind.now place.now weight.now in Path.call_of result table.new ≡ Path.played places (length instants.now) (Random.words generator.s) table.old
         (Shown.worked (Record.readable net) (Random.words generator.s) instants.now limit) }
 {
     let mut count = [0usize; 64];

@@ -69,11 +69,9 @@ fn averaged<'a>(
     deviation: &mut [f64],
     path: &mut [f64],
 ) -> EnsembleAnswer
-    ghost net: { NetRecord }
-    requires weight_value { lent places transitions initial.now capacity.now rate.now delay.now arcs.now kind.now place.now weight.now ≡ net }
-    requires lent { Summing.Lent net limit.now rates.now ends.now guards.now timed heavy instants.now × (realizations ≤ 65_535) × (places * length instants.now ≤ length mean.old)
+    requires { let net = lent places transitions initial.now capacity.now rate.now delay.now arcs.now kind.now place.now weight.now in Summing.Lent net limit.now rates.now ends.now guards.now timed heavy instants.now × (realizations ≤ 65_535) × (places * length instants.now ≤ length mean.old)
         × (places * length instants.now ≤ length deviation.old) × (places * length instants.now ≤ length path.old) }
-    ensures { Ensemble.call_of result mean.exit.now deviation.new path.new
+    ensures { let net = lent places transitions initial.now capacity.now rate.now delay.now arcs.now kind.now place.now weight.now in Ensemble.call_of result mean.exit.now deviation.new path.new
         ≡ Ensemble.tabulated places (length instants.now)
         (record { mean = mean.entry.now; deviation = deviation.old; path = path.old })
         (Summing.paths_from (Summing.drawn (Record.readable net) seed instants.now steps) 0 realizations) }
@@ -139,12 +137,10 @@ fn lent_ensemble<'a>(
     deviation: &mut [f64],
     path: &mut [f64],
 ) -> EnsembleAnswer
-    ghost net: { NetRecord }
-    requires weight_value { lent places transitions initial.now capacity.now rate.now delay.now arcs.now kind.now place.now weight.now ≡ net }
-    requires tidy { Engine.Tidy net × ((p : ℕ) → p < places → get_or initial.now p 0 ≤ 2 ^ 53)
+    requires { let net = lent places transitions initial.now capacity.now rate.now delay.now arcs.now kind.now place.now weight.now in Engine.Tidy net × ((p : ℕ) → p < places → get_or initial.now p 0 ≤ 2 ^ 53)
         × (Request.request_fault (record { samples = samples; realizations = realizations; seed = seed; horizon = horizon }) ≡ none)
         × (places * samples ≤ length mean.old) × (places * samples ≤ length deviation.old) × (places * samples ≤ length path.old) }
-    ensures { Ensemble.call_of result mean.exit.now deviation.new path.new
+    ensures { let net = lent places transitions initial.now capacity.now rate.now delay.now arcs.now kind.now place.now weight.now in Ensemble.call_of result mean.exit.now deviation.new path.new
         ≡ Ensemble.tabulated places samples (record { mean = mean.entry.now; deviation = deviation.old; path = path.old })
         (Ensemble.members_from (Record.readable net) (record { samples = samples; realizations = realizations; seed = seed; horizon = horizon }) 0 realizations) }
 {

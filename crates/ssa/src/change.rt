@@ -39,10 +39,8 @@ fn timers_fit<'a>(
     whos: &'a [usize; 256],
     n: usize,
 ) -> bool
-    ghost net: { NetRecord }
-    requires weight_value { labelled places transitions initial.now capacity.now label.now lengths.now rate.now delay.now arcs.now kind.now place.now weight.now ≡ net }
-    requires net_value { (Record.fault net ≡ none) × (n ≤ 256) }
-    ensures { (old : Net.Net) (ps : List Change.Pair) (ats : List Float) (takens : List ℕ) → length old.transitions ≤ 64
+    requires { let net = labelled places transitions initial.now capacity.now label.now lengths.now rate.now delay.now arcs.now kind.now place.now weight.now in (Record.fault net ≡ none) × (n ≤ 256) }
+    ensures { let net = labelled places transitions initial.now capacity.now label.now lengths.now rate.now delay.now arcs.now kind.now place.now weight.now in (old : Net.Net) (ps : List Change.Pair) (ats : List Float) (takens : List ℕ) → length old.transitions ≤ 64
         → Change.list_strange old (Record.readable net) ps ≡ false → Pairs.Names ps names.now
         → result ≡ not (Tests.any (λ (x : Timer). Change.sent_wrong (Record.readable net) (Change.new_number ps x.who)) (Timers.timers_in ats whos.now takens n)) }
 {
@@ -82,10 +80,8 @@ pub fn list_fault<'a>(
     whos: &'a [usize; 256],
     len: usize,
 ) -> Verdict
-    ghost net: { NetRecord }
-    requires weight_value { labelled places transitions initial.now capacity.now label.now lengths.now rate.now delay.now arcs.now kind.now place.now weight.now ≡ net }
-    requires net_value { (Record.fault net ≡ none) × (old_transitions ≤ 64) × (len ≤ 256) }
-    ensures { (old : Net.Net) (path : Rule.Carried) (ats : List Float) (takens : List ℕ) → length old.places ≡ old_places
+    requires { let net = labelled places transitions initial.now capacity.now label.now lengths.now rate.now delay.now arcs.now kind.now place.now weight.now in (Record.fault net ≡ none) × (old_transitions ≤ 64) × (len ≤ 256) }
+    ensures { let net = labelled places transitions initial.now capacity.now label.now lengths.now rate.now delay.now arcs.now kind.now place.now weight.now in (old : Net.Net) (path : Rule.Carried) (ats : List Float) (takens : List ℕ) → length old.places ≡ old_places
         → length old.transitions ≡ old_transitions → path.now.timers ≡ Timers.timers_in ats whos.now takens len
         → Record.meaning result ≡ Tests.first_of (Change.renaming_tests old (Record.readable net) path (pairs_of pairs.now)) }
 {
@@ -139,11 +135,9 @@ pub fn accepted_carry<'a>(
     named: u64,
     table: &mut [f64],
 ) -> Onward
-    ghost net: { NetRecord }
-    requires weight_value { labelled places transitions initial.now capacity.now label.now lengths.now rate.now delay.now arcs.now kind.now place.now weight.now ≡ net }
-    requires net_value { (Record.fault net ≡ none)
+    requires { let net = labelled places transitions initial.now capacity.now label.now lengths.now rate.now delay.now arcs.now kind.now place.now weight.now in (Record.fault net ≡ none)
         × Spec.Passes places (Record.readable net) (pairs_of pairs.now) path instants.now table.old }
-    ensures { Spec.call_of places result table.new ≡ Spec.played places (length instants.now) path.recorded (Spec.standing_of places path)
+    ensures { let net = labelled places transitions initial.now capacity.now label.now lengths.now rate.now delay.now arcs.now kind.now place.now weight.now in Spec.call_of places result table.new ≡ Spec.played places (length instants.now) path.recorded (Spec.standing_of places path)
         table.old (Rule.play_on 256 (Record.readable net) (Change.renamed (pairs_of pairs.now)
         (Spec.carried_from places (Spec.standing_of places path) instants.now table.old)) named) }
 {

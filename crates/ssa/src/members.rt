@@ -53,10 +53,8 @@ fn one_path<'a>(
     k: u64,
     path: &mut [f64],
 ) -> PathAnswer
-    ghost net: { NetRecord }
-    requires weight_value { lent places transitions initial.now capacity.now rate.now delay.now arcs.now kind.now place.now weight.now ≡ net }
-    requires lent { Summing.Lent net limit.now rates.now ends.now guards.now timed heavy instants.now × (places * length instants.now ≤ length path.old) }
-    ensures { Path.call_of result path.new ≡ Path.played places (length instants.now) (Seeding.seeded (Request.seed_of seed k))
+    requires { let net = lent places transitions initial.now capacity.now rate.now delay.now arcs.now kind.now place.now weight.now in Summing.Lent net limit.now rates.now ends.now guards.now timed heavy instants.now × (places * length instants.now ≤ length path.old) }
+    ensures { let net = lent places transitions initial.now capacity.now rate.now delay.now arcs.now kind.now place.now weight.now in Path.call_of result path.new ≡ Path.played places (length instants.now) (Seeding.seeded (Request.seed_of seed k))
         path.old (Summing.drawn (Record.readable net) seed instants.now steps k) }
 {
     let mut counts = slots::first_counts(places, initial);
@@ -126,10 +124,8 @@ fn member_turn<'a>(
     deviation: &mut [f64],
     path: &mut [f64],
 ) -> Turn
-    ghost net: { NetRecord }
-    requires weight_value { lent places transitions initial.now capacity.now rate.now delay.now arcs.now kind.now place.now weight.now ≡ net }
-    requires lent { Summing.Lent net limit.now rates.now ends.now guards.now timed heavy instants.now × (places * length instants.now ≤ length path.old) × (spent < 65_535) }
-    ensures { Summing.TurnBy (Summing.drawn (Record.readable net) seed instants.now steps k) places (length instants.now) spent
+    requires { let net = lent places transitions initial.now capacity.now rate.now delay.now arcs.now kind.now place.now weight.now in Summing.Lent net limit.now rates.now ends.now guards.now timed heavy instants.now × (places * length instants.now ≤ length path.old) × (spent < 65_535) }
+    ensures { let net = lent places transitions initial.now capacity.now rate.now delay.now arcs.now kind.now place.now weight.now in Summing.TurnBy (Summing.drawn (Record.readable net) seed instants.now steps k) places (length instants.now) spent
         mean.old mean.new deviation.old deviation.new path.old path.new result }
 {
     let r = one_path(
@@ -192,12 +188,10 @@ pub fn sum_paths<'a>(
     deviation: &mut [f64],
     path: &mut [f64],
 ) -> Summed
-    ghost net: { NetRecord }
-    requires weight_value { lent places transitions initial.now capacity.now rate.now delay.now arcs.now kind.now place.now weight.now ≡ net }
-    requires lent { Summing.Lent net limit.now rates.now ends.now guards.now timed heavy instants.now × (realizations ≤ 65_535) × (places * length instants.now ≤ length path.old)
+    requires { let net = lent places transitions initial.now capacity.now rate.now delay.now arcs.now kind.now place.now weight.now in Summing.Lent net limit.now rates.now ends.now guards.now timed heavy instants.now × (realizations ≤ 65_535) × (places * length instants.now ≤ length path.old)
         × (mean.old ≡ Cells.cleared (places * length instants.now) mean.old)
         × (deviation.old ≡ Cells.cleared (places * length instants.now) deviation.old) }
-    ensures { Summing.SummedBy (Summing.paths_from (Summing.drawn (Record.readable net) seed instants.now steps) 0 realizations)
+    ensures { let net = lent places transitions initial.now capacity.now rate.now delay.now arcs.now kind.now place.now weight.now in Summing.SummedBy (Summing.paths_from (Summing.drawn (Record.readable net) seed instants.now steps) 0 realizations)
         places (length instants.now) realizations
         mean.old mean.new deviation.old deviation.new path.old path.new result }
 {

@@ -69,13 +69,11 @@ pub fn play<'a>(
     rng: Xoshiro256,
     table: &mut [f64],
 ) -> PathAnswer
-    ghost net: { NetRecord }
-    requires weight_value { lent places transitions initial.now capacity.now rate.now delay.now arcs.now kind.now place.now weight.now ≡ net }
-    requires tidy { Engine.Tidy net × Limits.Limits net limit.now × Engine.Counts counts.old
+    requires { let net = lent places transitions initial.now capacity.now rate.now delay.now arcs.now kind.now place.now weight.now in Engine.Tidy net × Limits.Limits net limit.now × Engine.Counts counts.old
         × (Engine.marking places counts.old ≡ Moves.initial_counts (Record.readable net)) × Keeps.Tables net rates.now ends.now guards.now timed heavy
         × (0 < length instants.now) × (length instants.now ≤ 1024) × (Shown.rising zero64 instants.now ≡ true)
         × (places * length instants.now ≤ length table.old) }
-    ensures { Path.call_of result table.new ≡ Path.played places (length instants.now) (Random.words rng.s) table.old
+    ensures { let net = lent places transitions initial.now capacity.now rate.now delay.now arcs.now kind.now place.now weight.now in Path.call_of result table.new ≡ Path.played places (length instants.now) (Random.words rng.s) table.old
         (Shown.worked (Record.readable net) (Random.words rng.s) instants.now steps) }
 {
     let mut ats = [0.0; 256];
