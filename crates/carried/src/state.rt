@@ -77,7 +77,7 @@ fn weights_fit(takens: &[u64; 256], n: usize) -> bool
     true
 }
 
-// Does a carried state pass the first 4, over so many places: counts, step counts, times, taken weights, and at most so many timers as there is room for?
+// Does a carried state pass the first 4, over so many places: counts, step counts, times, taken weights, and at most 256 timers?
 pub fn state_fits<'a>(
     places: usize,
     counts: &'a [u64; 32],
@@ -88,10 +88,9 @@ pub fn state_fits<'a>(
     ats: &'a [f64; 256],
     takens: &'a [u64; 256],
     n: usize,
-    room: usize,
 ) -> bool
-    requires { (places ≤ 32) × (room ≤ 256) }
-    ensures { (whos : List ℕ) (g : Generator) (peak : ℕ) (xs : List Float) (shown : List Marking) → result ≡ not (Change.state_strange room (record {
+    requires { places ≤ 32 }
+    ensures { (whos : List ℕ) (g : Generator) (peak : ℕ) (xs : List Float) (shown : List Marking) → result ≡ not (Change.state_strange 256 (record {
       now = Step.state clock (take places counts.now) (Timers.timers_in ats.now whos takens.now n) g;
       steps = steps;
       limit = limit;
@@ -101,7 +100,7 @@ pub fn state_fits<'a>(
       recorded = shown;
     })) }
 {
-    if room < n {
+    if 256 < n {
         return false;
     }
     if !counts_fit(counts, places) {

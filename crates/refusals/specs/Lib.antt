@@ -79,10 +79,6 @@ unequal_places = 20
 abbrev pub bad_renaming : ℕ
 bad_renaming = 21
 
--- a path of two planners that is neither 0 nor 1: the same number in another call
-abbrev pub no_such_path : ℕ
-no_such_path = 21
-
 -- a running timer that is unlisted, or sent to a transition without delay
 abbrev pub bad_timer : ℕ
 bad_timer = 22

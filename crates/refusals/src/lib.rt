@@ -43,8 +43,6 @@ pub const UNEQUAL_PLACES: u64 = 20;
 
 pub const BAD_RENAMING: u64 = 21;
 
-pub const NO_SUCH_PATH: u64 = 21;
-
 pub const BAD_TIMER: u64 = 22;
 
 pub const DELAYED_TRANSITION: u64 = 23;

@@ -38,5 +38,3 @@ pub mod Fitting
 pub mod Happening
 pub mod Passing
 pub mod HaltingHeld
-pub mod InHand
-pub mod Sharing

@@ -15,8 +15,6 @@ pub mod Demand3
 pub mod Carried
 pub mod Change
 pub mod Halting
-pub mod InHand
-pub mod Sharing
 pub mod Tokens
 pub mod Index
 pub mod RunningSums

@@ -1,10 +1,12 @@
 -- The answer of a path from what its run leaves: the instants at most 0 are shown first, and what is played is written behind them, one list over all instants,
 -- which is the table of the definition. A refusal clears the cells of the answer.
+use types.Run.{OneOf}
+use denote.Enum.Declared.{tag_of}
 use Prim.Native.Nat.{ℕ, ◌+◌, ◌*◌, ◌≤◌, max}
 use mathlib.Core.Path.{◌≡◌, refl, sym, ap, ◌∙◌}
 use mathlib.Core.Bool.{true, false}
 use mathlib.Core.List.{List, [], ◌∷◌, ◌++◌}
-use mathlib.Core.Logic.{◌≢◌}
+use mathlib.Core.Logic.{◌≢◌, ⊎_elim}
 use native.Mathlib.Omega.{arith}
 use lib.ListN.{length, drop, length-append, length-drop}
 use lib.Ieee.{Float}
@@ -26,12 +28,26 @@ use Rattle.playing.specs.declared.run.Walked.{Walked}
 use Rattle.playing.specs.Cells.{table_with, table_of, ShownBy}
 use Rattle.ssa.specs.Path.{Call, played, end_of}
 use Rattle.playing.specs.Playing.{PlayedBy, refuses, ends}
-use Rattle.halting.proofs.Ends.{NotRefused}
 use Rattle.ssa.specs.Told.{settled_at, told_of, answer_of}
 use Rattle.playing.proofs.Cells.{cleared_stay}
 use Rattle.playing.proofs.Columns.{listed_with, with_with, with_whole}
 use Rattle.playing.proofs.Finished.{fills}
+use Rattle.playing.specs.contracts.PathEnd.{the_type}
 use Rattle.playing.proofs.Playing.{shown_beyond, listed_shown, shown_within}
+
+abbrev pub NotRefused : PathEnd → Type 0
+NotRefused Quiet = Unit
+NotRefused Spent = Unit
+NotRefused Reached = Unit
+NotRefused Halted = Unit
+NotRefused (Refused c) = ⊥
+
+pub not_refused : (end : PathEnd) → OneOf (0 ∷ 1 ∷ 2 ∷ 3 ∷ []) (tag_of the_type end) → NotRefused end
+not_refused Quiet h = tt
+not_refused Spent h = tt
+not_refused Reached h = tt
+not_refused Halted h = tt
+not_refused (Refused c) h = ⊎_elim (λ a. omega arith) (⊎_elim (λ a. omega arith) (⊎_elim (λ a. omega arith) (λ a. omega arith))) h
 
 -- a path that names no number is not halted
 path_unhalted : (n : Net) (g : Generator) (xs : List Float) (k : ℕ) (a : Path) → worked n g xs k ≡ given a → a.end ≢ halted

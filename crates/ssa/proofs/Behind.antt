@@ -92,7 +92,7 @@ counts_fit_lem c h = go (counts_fit c.now.counts) refl
   where
     go : (b : Bool) → counts_fit c.now.counts ≡ b → b ≡ true
     go true e = refl
-    go false e = by_counts 256 c e ∙ ap not h
+    go false e = by_counts c e ∙ ap not h
 
 -- the path of a carrying call
 module _ (old new : NetRecord) (ps : List Pair) (s : Standing) (xs t : List Float) (w : Passed old new ps s xs t) where
@@ -118,28 +118,28 @@ module _ (old new : NetRecord) (ps : List Pair) (s : Standing) (xs t : List Floa
 
 -- ---- its answer
 
-abbrev shown_by : ℕ → Net → Carried → ℕ → Float → Marking
-shown_by room n c h = shown_from n c.now.counts (entries (run_onward room n c h))
+abbrev shown_by : Net → Carried → ℕ → Float → Marking
+shown_by n c h = shown_from n c.now.counts (entries (run_onward 256 n c h))
 
 -- the table that it leaves
 abbrev pub left_by : ℕ → ℕ → Carried → List Float → Onward → List Float
 left_by places from c t a = table_with places (length c.instants) from (drop from a.shown) t
 
-module _ (room : ℕ) (n : Net) (places from : ℕ) (c : Carried) (t : List Float) (w : Plays places from c t)
-    (h : ℕ) (a : Onward) (q : play_on room n c h ≡ given a) where
+module _ (n : Net) (places from : ℕ) (c : Carried) (t : List Float) (w : Plays places from c t)
+    (h : ℕ) (a : Onward) (q : play_on 256 n c h ≡ given a) where
   rise : Rises (unrecorded c)
   rise = rises_drop (length c.recorded) c.instants (rises zero64 c.instants w.rise)
 
-  shows : (k : ℕ) × (a.shown ≡ c.recorded ++ map (shown_by room n c h) (take k (unrecorded c)))
-  shows = answer_shows room n c rise h a (answered room n c h a q)
+  shows : (k : ℕ) × (a.shown ≡ c.recorded ++ map (shown_by n c h) (take k (unrecorded c)))
+  shows = answer_shows 256 n c rise h a (answered 256 n c h a q)
 
   -- how many instants are shown: between those recorded before and all; those recorded then, where it is halted; and all, where it is not
   long : length a.shown ≡ length c.recorded + min shows.0 (length c.instants - length c.recorded)
   long =
       let k = shows.0 in
       ap length shows.1
-      ∙ length-append c.recorded (map (shown_by room n c h) (take k (unrecorded c)))
-      ∙ ap (λ (j : ℕ). length c.recorded + j) (length-map (take k (unrecorded c)) (shown_by room n c h) ∙ length-take k (unrecorded c))
+      ∙ length-append c.recorded (map (shown_by n c h) (take k (unrecorded c)))
+      ∙ ap (λ (j : ℕ). length c.recorded + j) (length-map (take k (unrecorded c)) (shown_by n c h) ∙ length-take k (unrecorded c))
       ∙ ap (λ (j : ℕ). length c.recorded + min k j) (length-drop (length c.recorded) c.instants)
 
   pub shown_some : length c.recorded ≤ length a.shown
@@ -150,21 +150,21 @@ module _ (room : ℕ) (n : Net) (places from : ℕ) (c : Carried) (t : List Floa
 
   pub shown_halted : a.end ≡ halted → length a.shown ≡ length a.left.recorded
   shown_halted e =
-      let A = answered room n c h a q in
+      let A = answered 256 n c h a q in
       let halts = ap (λ (b : Onward). b.end) (sym A.is) ∙ e in
       ap (λ (b : Onward). length b.shown) A.is
-      ∙ ap length (shows_recorded A.ending.end (leaving n c (run_onward room n c h) A.ending.left) halts)
+      ∙ ap length (shows_recorded A.ending.end (leaving n c (run_onward 256 n c h) A.ending.left) halts)
       ∙ ap (λ (b : Onward). length b.left.recorded) (sym A.is)
 
   pub shown_whole : a.end ≢ halted → length a.shown ≡ length c.instants
   shown_whole e =
-      let A = answered room n c h a q in
-      let all = shows_all room n c h A.ending rise A.Ended-so (λ z. e (ap (λ (b : Onward). b.end) A.is ∙ z)) in
+      let A = answered 256 n c h a q in
+      let all = shows_all 256 n c h A.ending rise A.Ended-so (λ z. e (ap (λ (b : Onward). b.end) A.is ∙ z)) in
       omega (
         arith,
         ap (λ (b : Onward). length b.shown) A.is ∙ ap length all,
-        length-append c.recorded (map (shown_by room n c h) (unrecorded c)),
-        length-map (unrecorded c) (shown_by room n c h),
+        length-append c.recorded (map (shown_by n c h) (unrecorded c)),
+        length-map (unrecorded c) (shown_by n c h),
         length-drop (length c.recorded) c.instants,
         w.few,
       )
@@ -176,17 +176,17 @@ module _ (room : ℕ) (n : Net) (places from : ℕ) (c : Carried) (t : List Floa
       xs = take shows.0 (unrecorded c)
 
       ms : List Marking
-      ms = map (shown_by room n c h) (take shows.0 (unrecorded c))
+      ms = map (shown_by n c h) (take shows.0 (unrecorded c))
 
-      fits : (x : Float) → counts_fit (shown_by room n c h x) ≡ true
-      fits x = run_shows _ room n (last_of c.instants) (min h (c.limit - c.steps)) c.now w.fit x
+      fits : (x : Float) → counts_fit (shown_by n c h x) ≡ true
+      fits x = run_shows _ 256 n (last_of c.instants) (min h (c.limit - c.steps)) c.now w.fit x
 
-      go : Dec (i < length c.recorded) → held (get_or (c.recorded ++ map (shown_by room n c h) (take shows.0 (unrecorded c))) i []) p ≤ 2 ^ 53
+      go : Dec (i < length c.recorded) → held (get_or (c.recorded ++ map (shown_by n c h) (take shows.0 (unrecorded c))) i []) p ≤ 2 ^ 53
       go (yes b) = rw (get_or-append c.recorded ms [] i b) (w.exact i p l)
       go (no b) =
           let j : ℕ = i - length c.recorded in
           let e : i ≡ length c.recorded + j = omega arith in
-          rw (e, get_or-append-add c.recorded ms j []) (fit_held (get_or ms j []) (each_fits (shown_by room n c h) fits xs j) p)
+          rw (e, get_or-append-add c.recorded ms j []) (fit_held (get_or ms j []) (each_fits (shown_by n c h) fits xs j) p)
 
   -- ---- the cells
 

@@ -124,8 +124,8 @@ module _ (old new : NetRecord) (ps : List Pair) (s : Standing) (xs t : List Floa
   pub passed_plays : Passed old new ps s xs t → (h : ℕ) → carrying old new ps s xs h t
       ≡ played old.places (length xs) s.recorded s t (play_on 256 (readable new) (renamed ps (carried_by old s xs t)) h)
   passed_plays w h =
-      let none_met = ap₂ (λ (a b : Bool). fault_by a b (carried_by old s xs t)) (ap not (le-leb _ _ w.room)) w.fine ∙ w.no_fault in
-      carrying_is h ∙ λ i. answered (w.old_sound i) (w.new_sound i) (none_met i) old.places (played_over old.places h)
+      let none-met = ap₂ (λ (a b : Bool). fault_by a b (carried_by old s xs t)) (ap not (le-leb _ _ w.room)) w.fine ∙ w.no_fault in
+      carrying_is h ∙ λ i. answered (w.old_sound i) (w.new_sound i) (none-met i) old.places (played_over old.places h)
 
   -- 20 is not met
   pub same_places : Passed old new ps s xs t → old.places ≡ new.places

@@ -1,11 +1,14 @@
--- The call that carries a path: its answer is the definition's by the tests that led to it.
-use Prim.Native.Nat.{ℕ, ◌-◌}
-use mathlib.Core.Path.{◌≡◌, refl, sym, ap, ap₂, subst, ◌∙◌}
-use mathlib.Core.Bool.{not}
+-- The run of a carried path: what it leaves is what the rules leave of the renamed path (Resumed), and no more steps are done than were left. And the call
+-- that carries a path: its answer is the definition's by the tests that led to it.
+use Prim.Native.Nat.{ℕ, ◌-◌, ◌≤◌}
+use Prim.{tt}
+use mathlib.Core.Path.{◌≡◌, refl, sym, ap, subst, ◌∙◌}
+use mathlib.Core.Bool.{Bool, not}
 use mathlib.Core.List.{List}
 use mathlib.Core.Option.{Option, none, some}
 use native.Mathlib.Omega.{arith}
-use lib.ListN.{length}
+use lib.Dec.{ltb}
+use lib.ListN.{length, drop}
 use lib.Ieee.{Float}
 use borrow.Author.Tests.{eqb-true, not-false}
 use Rattle.net.specs.declared.Net.{Net as NetRecord}
@@ -13,19 +16,94 @@ use Rattle.net.specs.Net.{Net}
 use Rattle.net.specs.Readable.{readable, fault}
 use Rattle.net.specs.Tests.{first_of, or_else}
 use Rattle.net.proofs.Lengths.{places_length}
-use Rattle.rules.specs.Step.{Answer, refused, given}
-use Rattle.rules.specs.Run.{End, quiet, spent, reached, halted}
-use Rattle.rules.specs.Carried.{Carried, Onward, play_on}
+use Rattle.rules.specs.Moments.{Moment, moment}
+use Rattle.rules.specs.Step.{State, Answer, refused, given}
+use Rattle.rules.specs.Run.{End, Run, Outcome, outcome, run_within, entries, steps_of, rounded_of}
+use Rattle.rules.specs.Shown.{last_of}
+use Rattle.rules.specs.Carried.{Carried, play_on}
 use Rattle.rules.specs.Change.{Pair, carried_tests, renaming_tests, renamed}
 use Rattle.rules.proofs.TakesOnce.{none_applies}
+use Rattle.rules.proofs.Runs.{steps_most, rounded_most}
+use Rattle.rules.proofs.Play.{Played, told, told_run, higher, play_within, as_played, Rises}
+use Rattle.rules.proofs.PlayedOn.{steps_for}
 use Rattle.carried.specs.Records.{record_strange}
-use Rattle.halting.specs.declared.Halted.{Halted}
-use Rattle.halting.specs.declared.Onward.{Onward as OnwardAnswer}
+use Rattle.carried.proofs.Recorded.{recorded_long}
+use Rattle.ssa.specs.declared.Halted.{Halted}
+use Rattle.ssa.specs.declared.Onward.{Onward as OnwardAnswer}
 use Rattle.playing.specs.declared.PathEnd.{PathEnd}
-use Rattle.playing.specs.declared.PathEnd.TheVariants.{Quiet, Spent, Reached, Halted as HaltedEnd, Refused}
+use Rattle.playing.specs.declared.PathEnd.TheVariants.{Refused}
+use Rattle.playing.specs.declared.run.Walked.{Walked}
 use Rattle.ssa.specs.Path.{end_of, table_fits}
+use Rattle.playing.specs.Playing.{out_of, PlayedBy, refuses, ends}
+use Rattle.ssa.specs.Told.{settled_at}
 use Rattle.ssa.specs.Halted.{Standing, Call, standing_of, carried_from, turned_down, played, unless_fault, after_nets, carrying, call_of}
-use Rattle.halting.proofs.Ends.{NotRefused}
+use Rattle.ssa.proofs.Answered.{NotRefused}
+use Rattle.ssa.proofs.Resumed.{told_on, refused_on, played_to}
+
+-- ---- no more steps than were left, and of these no more are rounded
+
+abbrev Within : ℕ → Answer Played → Type 0
+Within k (refused c) = Unit
+Within k (given r) = (r.rounded ≤ r.steps) × (r.steps ≤ k)
+
+within_told : (n : Net) (x : Moment) (xs : List Float) (r : Run) (k : ℕ) → steps_of r ≤ k → Within k (told_run n x xs r)
+unfolding told
+within_told n x xs r k h = go (outcome r)
+  where
+    go : (o : Answer Outcome) → Within k (told n x xs (entries r) (steps_of r) (rounded_of r) o)
+    go (refused c) = tt
+    go (given o) = (rounded_most r, h)
+
+within_higher : (v k : ℕ) (r : Answer Played) → Within k r → Within k (higher v r)
+within_higher v k (refused c) h = h
+within_higher v k (given r) h = h
+
+within_run : (v : ℕ) (out : End) (n : Net) (last : Float) (k : ℕ) (xs : List Float) (s : State) → Rises xs
+    → Within k (higher v (play_within out 256 n last k xs s))
+within_run v out n last k xs s rise =
+    within_higher v k (play_within out 256 n last k xs s)
+    (subst (Within k) (as_played out 256 n last k s xs rise)
+    (within_told n (moment s) xs (run_within out 256 n last k s) k (steps_most out 256 n last k s)))
+
+-- ---- the run of a carried path
+
+module _ (n : Net) (places : ℕ) (ps : List Pair) (h : Halted) (xs t : List Float) (named : ℕ) (rise : Rises (drop h.recorded xs)) where
+  abbrev moved : Carried
+  moved = renamed ps (carried_from places (standing_of places h) xs t)
+
+  abbrev playing : Bool → ℕ → State → Answer Played
+  playing halts steps from = higher h.peak (play_within (out_of halts) 256 n (last_of xs) steps (drop h.recorded xs) from)
+
+  abbrev answer : Call
+  answer = played places (length xs) h.recorded (standing_of places h) t (play_on 256 n moved named)
+
+  long : length moved.recorded ≡ h.recorded
+  long = recorded_long places (length xs) t h.recorded
+
+  module _ {from : State} (same : from ≡ moved.now) {halts : Bool} {steps : ℕ} (b : halts ≡ ltb named (h.limit - h.steps))
+      (m : steps ≡ steps_for moved named) {t' : List Float} {left : State} {w : Walked} {end : PathEnd}
+      (run : PlayedBy (playing halts steps from) places xs h.recorded t t' left w end) where
+    rise' : Rises (drop (length moved.recorded) xs)
+    rise' = subst (λ (k : ℕ). Rises (drop k xs)) (sym long) rise
+
+    pub continued_refused : {k : ℕ} → end ≡ Refused k → turned_down k (standing_of places h) t' ≡ answer
+    continued_refused e = sym (refused_on n moved named rise' b m (sym long) refl same (standing_of places h) e run)
+
+    pub continued_to : NotRefused end → (r : OnwardAnswer) → r.end ≡ end → r.settled ≡ settled_at end w.next (length xs)
+        → standing_of places r.state ≡ (told_on moved left w t' end).state → call_of places r t' ≡ answer
+    continued_to e r a d f =
+        (λ i. record { end = end_of (a i); settled = d i; state = f i; table = t' })
+        ∙ sym (played_to n moved named rise' b m (sym long) refl same (standing_of places h) e run)
+
+    pub few_steps : NotRefused end → (w.rounded ≤ w.steps) × (w.steps ≤ steps)
+    few_steps e = go run e
+      where
+        go : {end' : PathEnd} → PlayedBy (playing halts steps from) places xs h.recorded t t' left w end'
+            → NotRefused end' → (w.rounded ≤ w.steps) × (w.steps ≤ steps)
+        go (refuses k p q) e = absurd e
+        go (ends end e' sh a b i x q) e =
+            let r = subst (Within steps) q (within_run h.peak (out_of halts) n (last_of xs) steps (drop h.recorded xs) from rise) in
+            (omega (arith, r.0), omega (arith, r.1))
 
 -- ---- the call
 
@@ -89,24 +167,3 @@ Answers new ps h xs t named r t' p =
 pub answers_same : (new : Net) (ps : List Pair) (h : Halted) (xs t : List Float) (named : ℕ) (r : OnwardAnswer) {t' : List Float} {p q : ℕ} → p ≡ q
     → Answers new ps h xs t named r t' q → Answers new ps h xs t named r t' p
 answers_same new ps h xs t named r {t'} e a = subst (Answers new ps h xs t named r t') (sym e) a
-
--- ---- the answer of a path played on by its new numbers is that of the path itself, but for the state that a refused run gives back
-
-module _ (places n from : ℕ) (s s' : Standing) (t : List Float) where
-  pub refused_back : (a : Answer Onward) (r : Call) (k : ℕ) → r ≡ played places n from s t a → r.end ≡ refused k
-      → turned_down k s' r.table ≡ played places n from s' t a
-  refused_back (refused c) r k e z =
-      let y : c ≡ k = cc in
-      ap₂ (λ (j : ℕ) (u : List Float). turned_down j s' u) (sym y) (ap (λ (d : Call). d.table) e)
-  refused_back (given o) r k e z = let y : ◌≡◌ {A = ℕ} 0 1 = cc in absurd (omega arith)
-
-  pub answered_so : (a : Answer Onward) (r : Call) (b : End) → r ≡ played places n from s t a → r.end ≡ given b → r ≡ played places n from s' t a
-  answered_so (refused c) r b e z = let y : ◌≡◌ {A = ℕ} 0 1 = cc in absurd (omega arith)
-  answered_so (given o) r b e z = e
-
-pub not_refused_given : (end : PathEnd) → NotRefused end → (b : End) × (end_of end ≡ given b)
-not_refused_given Quiet h = (quiet, refl)
-not_refused_given Spent h = (spent, refl)
-not_refused_given Reached h = (reached, refl)
-not_refused_given HaltedEnd h = (halted, refl)
-not_refused_given (Refused c) h = absurd h

@@ -56,7 +56,7 @@ halted_in places from s t n c r (given o) p = (o.left, ap (λ (e : End). given (
 module _ (n : NetRecord) (from : ℕ) (c : Carried) (s : Standing) (t : List Float) (w : Plays n.places from c t) (call : ℕ → Call)
     (is : (h : ℕ) → call h ≡ played n.places (length c.instants) from s t (play_on 256 (readable n) c h)) where
   stopped : (h : ℕ) → (call h).end ≡ given halted → (u : State) × (outcome (run_onward 256 (readable n) c h) ≡ given (record { end = halted; left = u }))
-      × (call h ≡ played n.places (length c.instants) from s t (given (answering halted (halted_as 256 n c h u))))
+      × (call h ≡ played n.places (length c.instants) from s t (given (answering halted (halted_as n c h u))))
   stopped h p =
       let r = run_onward 256 (readable n) c h in
       let stop = halted_in n.places from s t (readable n) c r (outcome r) (ap (λ (x : Call). x.end) (sym (is h)) ∙ p) in
@@ -75,7 +75,7 @@ module _ (n : NetRecord) (from : ℕ) (c : Carried) (s : Standing) (t : List Flo
   taken_over wide each h p o q =
       let stop = stopped h p in
       ap (λ (x : Call). carried_by n x.state c.instants x.table) stop.2
-      ∙ goes_over 256 n from c t w h stop.0 stop.1 wide each
+      ∙ goes_over n from c t w h stop.0 stop.1 wide each
       ∙ ap (λ (b : Onward). b.left) (given_same (sym (ap (ended (readable n) c (run_onward 256 (readable n) c h)) stop.1) ∙ q))
 
 -- ---- call after call
@@ -108,7 +108,7 @@ module _ (n : NetRecord) (g : Generator) (xs : List Float) (limit : ℕ) (t : Li
   named_behind h e p =
       let nothing = unbegun n.places g in
       let answer = answer_of_lem n.places (length xs) 0 nothing t _ e (ap (λ (x : Call). x.end) (sym (named_plays n g xs limit t a h)) ∙ p) in
-      behind 256 (readable n) n.places 0 path t plays h answer.0 answer.1 nothing _ _
+      behind (readable n) n.places 0 path t plays h answer.0 answer.1 nothing _ _
       (named_plays n g xs limit t a h ∙ ap (played n.places (length xs) 0 nothing t) answer.1)
       (λ i. pick (a.instants i) (pick (a.limits i) (answer.1 i) (refused Refusal.bad_limit)) (refused Refusal.bad_instants))
 
@@ -118,10 +118,10 @@ module _ (n : NetRecord) (g : Generator) (xs : List Float) (limit : ℕ) (t : Li
       → cell (length xs) (naming n g xs limit h t) p i ≡ float (held (counts_at b.answer i) p)
   named_cell h b z p i l m =
       let works = (path_accepted 256 (readable n) g xs limit h b.answer b.gives).2 in
-      let all = shown_halted 256 (readable n) n.places 0 path t plays h b.answer works z in
+      let all = shown_halted (readable n) n.places 0 path t plays h b.answer works z in
       let inside : i < length b.answer.shown = omega (arith, m, all, ap (λ (x : Standing). x.recorded) b.state) in
       ap (λ (x : List Float). cell_in (length xs) x p i) b.table
-      ∙ cell_shows 256 (readable n) n.places 0 path t plays h b.answer works p i l (omega arith) inside
+      ∙ cell_shows (readable n) n.places 0 path t plays h b.answer works p i l (omega arith) inside
 
   unhalted : (h k : ℕ) → (naming n g xs limit h t).end ≡ given halted
       → Same (carried_on n xs k (naming n g xs limit h t)) (naming n g xs limit (h + k) t)
@@ -159,7 +159,7 @@ module _ (old new : NetRecord) (ps : List Pair) (s : Standing) (xs : List Float)
   carried_behind h e p =
       let ends = ap (λ (x : Call). x.end) (sym (passed_plays old new ps s xs t a h)) ∙ p in
       let answer = answer_of_lem old.places (length xs) s.recorded s t _ e ends in
-      behind 256 (readable new) old.places s.recorded given_path t carries h answer.0 answer.1 s _ _
+      behind (readable new) old.places s.recorded given_path t carries h answer.0 answer.1 s _ _
       (passed_plays old new ps s xs t a h ∙ ap (played old.places (length xs) s.recorded s t) answer.1)
       (ap (λ (f : Option ℕ). unless_fault f (play_on 256 (readable new) given_path h)) a.no_fault ∙ answer.1)
 
@@ -171,9 +171,9 @@ module _ (old new : NetRecord) (ps : List Pair) (s : Standing) (xs : List Float)
   carried_cell h b z p i m k =
       let works = (Rule.carried 256 (readable old) (readable new) false false (carried_by old s xs t) ps h b.answer b.gives).plays in
       let l : p < old.places = omega (arith, m, same_places old new ps s xs t a) in
-      let all = shown_whole 256 (readable new) old.places s.recorded given_path t carries h b.answer works z in
+      let all = shown_whole (readable new) old.places s.recorded given_path t carries h b.answer works z in
       ap (λ (x : List Float). count_in (cell_in (length xs) x p i)) b.table
-      ∙ cell_holds 256 (readable new) old.places s.recorded given_path t carries h b.answer works p i l (omega (arith, k, all))
+      ∙ cell_holds (readable new) old.places s.recorded given_path t carries h b.answer works p i l (omega (arith, k, all))
 
   over_new : Plays new.places s.recorded (renamed ps (carried_by old s xs t)) t
   over_new = subst (λ (places : ℕ). Plays places s.recorded given_path t) (same_places old new ps s xs t a) carries

@@ -1,4 +1,5 @@
 pub mod Answered
+pub mod Resumed
 pub mod Accepted
 pub mod Changed
 pub mod Brought

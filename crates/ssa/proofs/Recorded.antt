@@ -33,7 +33,7 @@ float_grows : (m n : ℕ) → m ≤ n → le (float m) (float n) ≡ true
 unfolding of_int
 float_grows m n h = is_true _ (round_mono binary64 m 1 n 1 (omega arith) (omega arith) (omega arith))
 
-pub float_zero : float 0 ≡ zero64
+float_zero : float 0 ≡ zero64
 unfolding of_int round of_bits
 float_zero = refl
 

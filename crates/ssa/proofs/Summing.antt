@@ -43,7 +43,7 @@ use Rattle.ssa.specs.Ensemble.{one_if_spent, spent_of, cells_of, last_shown, tab
 use Rattle.ssa.specs.Summing as Summing
 use Rattle.ssa.specs.Summing.{drawn, one_by_spent, TurnBy, sum_at, SummedBy}
 use Rattle.playing.proofs.Cells.{rows_long}
-use Rattle.halting.proofs.Ends.{NotRefused}
+use Rattle.ssa.proofs.Answered.{NotRefused}
 
 -- ---- tables and the cells behind
 

@@ -39,39 +39,39 @@ use Rattle.ssa.proofs.ByNumber.{with_records, resumed}
 
 -- ---- what a halted call leaves
 
-abbrev pub halted_as : ℕ → NetRecord → Carried → ℕ → State → Carried
-halted_as room n c h u = leaving (readable n) c (run_onward room (readable n) c h) u
+abbrev pub halted_as : NetRecord → Carried → ℕ → State → Carried
+halted_as n c h u = leaving (readable n) c (run_onward 256 (readable n) c h) u
 
-abbrev pub cells_of : ℕ → NetRecord → ℕ → Carried → List Float → ℕ → State → List Float
-cells_of room n from c t h u = left_by n.places from c t (answering halted (halted_as room n c h u))
+abbrev cells_of : NetRecord → ℕ → Carried → List Float → ℕ → State → List Float
+cells_of n from c t h u = left_by n.places from c t (answering halted (halted_as n c h u))
 
 after_length : (n : Net) (es : List Entry) (m : Marking) → length (after n m es) ≡ length m
 after_length n [] m = refl
 after_length n (e ∷ es) m = after_length n es (move n m e) ∙ move_length n m e
 
-module _ (room : ℕ) (n : NetRecord) (from : ℕ) (c : Carried) (t : List Float) (w : Plays n.places from c t)
-    (h : ℕ) (u : State) (stops : outcome (run_onward room (readable n) c h) ≡ given (record { end = halted; left = u })) where
+module _ (n : NetRecord) (from : ℕ) (c : Carried) (t : List Float) (w : Plays n.places from c t)
+    (h : ℕ) (u : State) (stops : outcome (run_onward 256 (readable n) c h) ≡ given (record { end = halted; left = u })) where
   abbrev d : Carried
-  d = halted_as room n c h u
+  d = halted_as n c h u
 
   abbrev a : Onward
-  a = answering halted (halted_as room n c h u)
+  a = answering halted (halted_as n c h u)
 
   abbrev cells : List Float
-  cells = cells_of room n from c t h u
+  cells = cells_of n from c t h u
 
-  pub plays : play_on room (readable n) c h ≡ given a
-  plays = ap (ended (readable n) c (run_onward room (readable n) c h)) stops
+  plays : play_on 256 (readable n) c h ≡ given a
+  plays = ap (ended (readable n) c (run_onward 256 (readable n) c h)) stops
 
-  pub many : length a.shown ≡ length d.recorded
-  many = shown_halted room (readable n) n.places from c t w h a plays refl
+  many : length a.shown ≡ length d.recorded
+  many = shown_halted (readable n) n.places from c t w h a plays refl
 
   -- ---- the records as the next call reads them
 
-  abbrev pub ms : List Marking
+  abbrev ms : List Marking
   ms = recorded_in n.places (length c.instants) cells (length d.recorded)
 
-  pub as_many : length ms ≡ length d.recorded
+  as_many : length ms ≡ length d.recorded
   as_many = recorded_long n.places (length c.instants) cells (length d.recorded)
 
   -- where each marking has as many counts as the net has places, they are those that were left
@@ -81,13 +81,13 @@ module _ (room : ℕ) (n : NetRecord) (from : ℕ) (c : Carried) (t : List Float
     each_left i b = go (dec_lt i (length c.recorded))
       where
         es : List Entry
-        es = entries (run_onward room (readable n) c h)
+        es = entries (run_onward 256 (readable n) c h)
 
         f : Float → Marking
-        f = shown_from (readable n) c.now.counts (entries (run_onward room (readable n) c h))
+        f = shown_from (readable n) c.now.counts (entries (run_onward 256 (readable n) c h))
 
         zs : List Float
-        zs = met_by (entries (run_onward room (readable n) c h)) (unrecorded c)
+        zs = met_by (entries (run_onward 256 (readable n) c h)) (unrecorded c)
 
         go : Dec (i < length c.recorded) → length (get_or (c.recorded ++ map f zs) i []) ≡ n.places
         go (yes k) = ap length (get_or-append c.recorded (map f zs) [] i k) ∙ each i k
@@ -106,86 +106,61 @@ module _ (room : ℕ) (n : NetRecord) (from : ℕ) (c : Carried) (t : List Float
         ext_get_or 0 (get_or ms i []) (get_or d.recorded i []) (all ∙ sym (each_left i k)) (λ p l.
         let inside : p < n.places = omega (arith, l, all) in
         recorded_held n.places (length c.instants) cells (length d.recorded) p i inside k
-        ∙ cell_holds room (readable n) n.places from c t w h a plays p i inside (omega (arith, k, many))
+        ∙ cell_holds (readable n) n.places from c t w h a plays p i inside (omega (arith, k, many))
         ∙ ap (λ (shown : List Marking). held (get_or shown i []) p) (append-nil d.recorded))
 
-    pub goes_over : carried_by n (standing (halted_as room n c h u)) c.instants (cells_of room n from c t h u) ≡ halted_as room n c h u
+    pub goes_over : carried_by n (standing (halted_as n c h u)) c.instants (cells_of n from c t h u) ≡ halted_as n c h u
     goes_over = ap (with_records d) (ext_get_or [] ms d.recorded as_many (λ i b. column i (omega (arith, b, as_many))))
 
   -- ---- the call that takes it up
 
-  pub cells_fine : (p i : ℕ) → p < n.places → i < length d.recorded → cell_fits (cell_in (length c.instants) cells p i) ≡ true
+  cells_fine : (p i : ℕ) → p < n.places → i < length d.recorded → cell_fits (cell_in (length c.instants) cells p i) ≡ true
   cells_fine p i l b = go (dec_lt i from)
     where
       go : Dec (i < from) → cell_fits (cell_in (length c.instants) cells p i) ≡ true
-      go (yes k) = ap cell_fits (cell_stands room (readable n) n.places from c t w h a plays p i l k) ∙ w.fine p i l k
+      go (yes k) = ap cell_fits (cell_stands (readable n) n.places from c t w h a plays p i l k) ∙ w.fine p i l k
       go (no k) =
-          ap cell_fits (cell_shows room (readable n) n.places from c t w h a plays p i l (omega arith) (omega (arith, many)))
-          ∙ float_fits _ (shown_exact room (readable n) n.places from c t w h a plays i p l)
+          ap cell_fits (cell_shows (readable n) n.places from c t w h a plays p i l (omega arith) (omega (arith, many)))
+          ∙ float_fits _ (shown_exact (readable n) n.places from c t w h a plays i p l)
 
--- ---- the call that takes it up
+  module _ (sound : fault n ≡ none) (v : Fit 256 (readable n) c) where
+    fit : Fit 256 (readable n) d
+    fit = fit_left 256 (readable n) (bounded n sound) c v h a plays refl
 
-module _ (n : NetRecord) (from : ℕ) (c : Carried) (t : List Float) (w : Plays n.places from c t)
-    (h : ℕ) (u : State) (stops : outcome (run_onward 256 (readable n) c h) ≡ given (record { end = halted; left = u }))
-    (sound : fault n ≡ none) (v : Fit 256 (readable n) c) where
-  abbrev left : Carried
-  left = halted_as 256 n c h u
+    passes : Passed n n (identity (readable n)) (standing d) c.instants cells
+    passes = record {
+      old_sound = sound;
+      new_sound = sound;
+      room = omega (arith, w.room, left_long (readable n) n.places from c t w h a plays);
+      fine = not_strange (length c.instants) (length d.recorded) cells n.places cells_fine;
+      no_fault = no_fault 256 (readable n) (with_records d ms) (record {
+        moment = fit.moment;
+        few = fit.few;
+        steps = fit.steps;
+        rounded = fit.rounded;
+        instants = fit.instants;
+        records = ap (λ (k : ℕ). leb k (length c.instants) && not (any (λ (x : Float). le x u.clock) (drop k c.instants))) as_many
+            ∙ fit.records;
+        limit = fit.limit;
+      });
+    }
 
-  abbrev answer : Onward
-  answer = answering halted (halted_as 256 n c h u)
-
-  abbrev table : List Float
-  table = cells_of 256 n from c t h u
-
-  abbrev read : List Marking
-  read = ms 256 n from c t w h u stops
-
-  so_many : length answer.shown ≡ length left.recorded
-  so_many = many 256 n from c t w h u stops
-
-  so_plays : play_on 256 (readable n) c h ≡ given answer
-  so_plays = plays 256 n from c t w h u stops
-
-  read_many : length read ≡ length left.recorded
-  read_many = as_many 256 n from c t w h u stops
-
-  fit : Fit 256 (readable n) left
-  fit = fit_left 256 (readable n) (bounded n sound) c v h answer so_plays refl
-
-  passes : Passed n n (identity (readable n)) (standing left) c.instants table
-  passes = record {
-    old_sound = sound;
-    new_sound = sound;
-    room = omega (arith, w.room, left_long 256 (readable n) n.places from c t w h answer so_plays);
-    fine = not_strange (length c.instants) (length left.recorded) table n.places (cells_fine 256 n from c t w h u stops);
-    no_fault = no_fault 256 (readable n) (with_records left read) (record {
-      moment = fit.moment;
-      few = fit.few;
-      steps = fit.steps;
-      rounded = fit.rounded;
-      instants = fit.instants;
-      records = ap (λ (k : ℕ). leb k (length c.instants) && not (any (λ (x : Float). le x u.clock) (drop k c.instants))) read_many
-          ∙ fit.records;
-      limit = fit.limit;
-    });
-  }
-
-  pub goes_on : (s : Standing) (k : ℕ)
-      → Same (carrying n n (identity (readable n)) (standing (halted_as 256 n c h u)) c.instants k (cells_of 256 n from c t h u))
-      (played n.places (length c.instants) from s t (play_on 256 (readable n) c (h + k)))
-  goes_on s k =
-      let inside : from ≤ length left.recorded = omega (arith, w.first, so_many, shown_some 256 (readable n) n.places from c t w h answer so_plays) in
-      let answers : List Float → Carried → Call = λ (x : List Float) (e : Carried).
-      played n.places (length c.instants) (length left.recorded) (standing left) x (play_on 256 (readable n) e k) in
-      let written : table ≡ table_with n.places (length c.instants) from (drop from left.recorded) t =
-      ap (λ (sh : List Marking). table_with n.places (length c.instants) from (drop from sh) t) (append-nil left.recorded) in
-      let carries : carrying n n (identity (readable n)) (standing left) c.instants k table ≡ answers table (with_records left read) =
-      passed_plays n n (identity (readable n)) (standing left) c.instants table passes k
-      ∙ ap (answers table) (identity_same (readable n) (with_records left read)) in
-      let whole : play_on 256 (readable n) c (h + k) ≡ play_on 256 (readable n) left k =
-      two 256 (readable n) c w.rise h k
-      ∙ ap (λ (b : Answer Onward). then_call b (λ (e : Carried). play_on 256 (readable n) e k)) so_plays in
-      subst₂ Same
-      (sym (carries ∙ ap (λ (x : List Float). answers x (with_records left read)) written))
-      (sym (ap (played n.places (length c.instants) from s t) whole))
-      (resumed (readable n) n.places from s (standing left) t left read read_many inside (recorded_few left fit.records) w.room k)
+    pub goes_on : (s : Standing) (k : ℕ)
+        → Same (carrying n n (identity (readable n)) (standing (halted_as n c h u)) c.instants k (cells_of n from c t h u))
+        (played n.places (length c.instants) from s t (play_on 256 (readable n) c (h + k)))
+    goes_on s k =
+        let inside : from ≤ length d.recorded = omega (arith, w.first, many, shown_some (readable n) n.places from c t w h a plays) in
+        let answers : List Float → Carried → Call = λ (x : List Float) (e : Carried).
+        played n.places (length c.instants) (length d.recorded) (standing d) x (play_on 256 (readable n) e k) in
+        let table : cells ≡ table_with n.places (length c.instants) from (drop from d.recorded) t =
+        ap (λ (sh : List Marking). table_with n.places (length c.instants) from (drop from sh) t) (append-nil d.recorded) in
+        let carries : carrying n n (identity (readable n)) (standing d) c.instants k cells ≡ answers cells (with_records d ms) =
+        passed_plays n n (identity (readable n)) (standing d) c.instants cells passes k
+        ∙ ap (answers cells) (identity_same (readable n) (with_records d ms)) in
+        let whole : play_on 256 (readable n) c (h + k) ≡ play_on 256 (readable n) d k =
+        two 256 (readable n) c w.rise h k
+        ∙ ap (λ (b : Answer Onward). then_call b (λ (e : Carried). play_on 256 (readable n) e k)) plays in
+        subst₂ Same
+        (sym (carries ∙ ap (λ (x : List Float). answers x (with_records d ms)) table))
+        (sym (ap (played n.places (length c.instants) from s t) whole))
+        (resumed (readable n) n.places from s (standing d) t d ms as_many inside (recorded_few d fit.records) w.room k)

@@ -1,5 +1,5 @@
 -- The path call: its answer and what it leaves in the table. Document 01, "000", "Added" and "Each operation's turn-downs: Path".
-use Rattle.std.specs.Prelude.{ℕ, ◌*◌, List, length, Float}
+use Rattle.std.specs.Prelude.{ℕ, ◌*◌, Bool, List, leb, length, Float}
 use Rattle.std.proofs.Math.Option.{Option, none, some}
 use Rattle.refusals.specs as Refusal
 use Rattle.net.specs.declared.Net.{Net as NetRecord}
@@ -11,7 +11,6 @@ use Rattle.rules.specs.Step.{Answer, refused, given}
 use Rattle.rules.specs.Run.{End}
 use Rattle.rules.specs.Shown.{Path, instants_fit, limit_fits, worked}
 pub use Rattle.playing.specs.Ends.{end_of}
-pub use Rattle.halting.specs.Halted.{table_fits}
 use Rattle.ssa.specs.declared.PathAnswer.{PathAnswer}
 
 -- ---- the answer
@@ -35,6 +34,10 @@ abbrev pub played : ℕ → ℕ → Generator → List Float → Answer Path →
 played places n g table (refused c) = turned_down c g (cleared (places * n) table)
 played places n g table (given a) =
     record { end = given a.end; steps = a.steps; settled = a.settled; peak = a.peak; rounded = a.rounded; generator = a.generator; table = table_of places a.shown table }
+
+-- "11 table too short"
+abbrev pub table_fits : ℕ → ℕ → List Float → Bool
+table_fits places n table = leb (places * n) (length table)
 
 -- "12 …; 13 …; 11 …; these touch nothing"
 abbrev pub after_net : Net → Generator → List Float → ℕ → List Float → Call

@@ -5,8 +5,15 @@ use Rattle.playing.specs.Ends.{end_of}
 use Rattle.playing.specs.declared.PathEnd.{PathEnd}
 use Rattle.playing.specs.declared.PathEnd.TheVariants.{Quiet, Spent, Reached, Halted, Refused}
 use Rattle.playing.specs.declared.run.Walked.{Walked}
-pub use Rattle.halting.specs.Halted.{settled_at}
 use Rattle.ssa.specs.Path.{Call, turned_down}
+
+-- "Settled are then the instants ≤ some clock reading so far, else all"; halted: "with instants settled as for spent"
+abbrev pub settled_at : PathEnd → ℕ → ℕ → ℕ
+settled_at Quiet next n = n
+settled_at Spent next n = next
+settled_at Reached next n = n
+settled_at Halted next n = next
+settled_at (Refused c) next n = n
 
 -- what a path call answers of a run that ends so, over n instants
 abbrev pub told_of : Walked → ℕ → List Float → PathEnd → Call

@@ -1,25 +1,88 @@
-// What a carrying call tests after the state of its path, and the path of one that is accepted.
-ghost use Rattle.std.specs.Prelude.{◌≡◌, false, not, List, ℕ, ◌≤◌, Float, length};
+// What a carrying call tests after its nets, and the path of one that is accepted.
+ghost use Rattle.std.specs.Prelude.{◌≡◌, false, not, List, ℕ, ◌*◌, ◌≤◌, Float, length};
 ghost use Rattle.std.proofs.Math.Option.{none};
 ghost use Rattle.net.specs.Net as Net;
 ghost use Rattle.net.specs.Readable as Record;
 ghost use Rattle.net.specs.Record.{labelled};
 ghost use Rattle.net.specs.Tests as Tests;
 ghost use Rattle.net.specs.declared.Net.{Net as NetRecord};
+ghost use Rattle.rng.specs.State as Random;
 ghost use Rattle.rules.specs.Carried as Rule;
 ghost use Rattle.rules.specs.Change as Change;
+ghost use Rattle.rules.specs.Moments as Moments;
+ghost use Rattle.rules.specs.Step as Step;
 ghost use Rattle.rules.specs.Timers.{Timer};
+ghost use Rattle.engine.specs.Engine as Engine;
 ghost use Rattle.carried.specs.Pairs as Pairs;
 ghost use Rattle.carried.specs.Pairs.{pairs_of};
+ghost use Rattle.carried.specs.Records as Records;
 ghost use Rattle.carried.specs.Timers as Timers;
 ghost use Rattle.ssa.specs.Halted as Spec;
+ghost use Rattle.ssa.specs.Path as Path;
+ghost use Rattle.playing.specs.Stepping as Stepping;
 
-use carried::renaming;
-use halting::{Halted, Onward, on, until};
+use crate::{Halted, Onward, accept, until};
+use carried::{records, renaming, state};
+use engine::slots;
 use index::marks;
 use net::Verdict;
-use playing::{PathEnd, run};
+use playing::run::Standing;
+use playing::{PathEnd, begin};
+use timers::queue;
 use timers::queue::Queue;
+
+// The first of 4, 12, 13, 11 and, for the recorded cells, 4 that a carried path meets, over a net of so many places. No test looks at its generator, its peak or
+// the transitions of its timers; what is looked at is lent, since the path itself is 7 KB.
+pub fn state_fault<'a>(
+    places: usize,
+    clock: f64,
+    counts: &'a [u64; 32],
+    steps: u64,
+    limit: u64,
+    rounded: u64,
+    recorded: usize,
+    ats: &'a [f64; 256],
+    takens: &'a [u64; 256],
+    len: usize,
+    instants: &[f64],
+    table: &[f64],
+) -> Verdict
+    requires { places ≤ 32 }
+    ensures { (whos : List ℕ) (g : Random.State) (peak : ℕ) → Record.meaning result
+        ≡ Tests.first_of (Change.carried_tests 256 (not (Path.table_fits places (length instants.now) table.now))
+        (Records.record_strange places (length instants.now) recorded table.now)
+        (Spec.carried_from places (record {
+          now = Step.state clock (Engine.marking places counts.now) (Timers.timers_in ats.now whos takens.now len) g;
+          steps = steps;
+          limit = limit;
+          peak = peak;
+          rounded = rounded;
+          recorded = recorded;
+        }) instants.now table.now)) }
+{
+    if !state::state_fits(
+        places, counts, steps, limit, rounded, clock, ats, takens, len,
+    ) {
+        return Verdict::Refused(refusals::OUTSIDE_DOMAIN);
+    }
+    if !accept::instants_fit(instants) {
+        return Verdict::Refused(refusals::BAD_INSTANTS);
+    }
+    if !records::records_fit(instants, recorded, clock) {
+        return Verdict::Refused(refusals::BAD_INSTANTS);
+    }
+    if !accept::limit_fits(limit) {
+        return Verdict::Refused(refusals::BAD_LIMIT);
+    }
+    let n = instants.len();
+    if table.len() < places * n {
+        return Verdict::Refused(refusals::SHORT_TABLE);
+    }
+    if !records::cells_fit(table, places, n, recorded) {
+        return Verdict::Refused(refusals::OUTSIDE_DOMAIN);
+    }
+    Verdict::Accepted
+}
 
 // Are the timers listed, and sent to delayed transitions of the accepted net whose fields are lent?
 fn timers_fit<'a>(
@@ -114,8 +177,21 @@ pub fn list_fault<'a>(
     Verdict::Refused(refusals::BAD_TIMER)
 }
 
-// The path of a carrying call that no test turns down, over the new net, whose fields are lent: played on by its new numbers. A run that is refused gives the
-// path back as it came.
+// The weights that so many timers took.
+fn taken(takens: &[u64; 256], n: usize) -> u64
+    requires { (n ≤ 256) × ((ats : List Float) (whos : List ℕ) → Stepping.Light (Timers.timers_in ats whos takens.now n)) }
+    ensures { (result ≤ 4_096_000_000) × ((ats : List Float) (whos : List ℕ) → result ≡ Moments.taken_by_timers (Timers.timers_in ats whos takens.now n)) }
+{
+    let mut total: u64 = 0;
+    let mut i: usize = 0;
+    while i < n {
+        total = total + takens[i];
+        i += 1;
+    }
+    total
+}
+
+// The path of a carrying call that no test turns down, over the new net, whose fields are lent.
 pub fn accepted_carry<'a>(
     places: usize,
     transitions: usize,
@@ -149,20 +225,21 @@ pub fn accepted_carry<'a>(
         takens: q.takens,
         len: q.len,
     };
-    let g = path.generator;
-    let counts = path.counts;
-    let moved = Halted {
+    let mut ats = [0.0; 256];
+    let mut owners = [0u64; 512];
+    let ring = queue::hand_in(&mut ats, &mut owners, renamed);
+    let mut counts = slots::first_counts(places, &path.counts);
+    let rng = path.generator;
+    let s = Standing {
         clock: path.clock,
-        counts: counts,
-        generator: g,
-        steps: path.steps,
-        limit: path.limit,
+        timers: ring,
+        next: path.recorded,
+        tokens: begin::sum(&counts, places) + taken(&q.takens, q.len),
         peak: path.peak,
-        rounded: path.rounded,
-        recorded: path.recorded,
-        timers: renamed,
+        rng: rng,
     };
-    let r = on::played_on(
+    let left = path.limit - path.steps;
+    let w = until::resume(
         places,
         transitions,
         initial,
@@ -175,15 +252,27 @@ pub fn accepted_carry<'a>(
         kind,
         place,
         weight,
-        moved,
-        run::ROOM,
+        &mut counts,
+        &mut ats,
+        &mut owners,
         instants,
-        named,
+        named < left,
+        until::fewer(named, left),
+        s,
         table,
     );
-    let end = r.end;
+    let end = w.end;
     if let PathEnd::Refused(c) = end {
         return until::turned_down(c, path);
     }
-    r
+    until::handed(
+        w,
+        &counts,
+        &ats,
+        &owners,
+        path.steps,
+        path.limit,
+        path.rounded,
+        instants.len(),
+    )
 }

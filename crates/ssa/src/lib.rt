@@ -6,6 +6,7 @@ mod averaging;
 mod change;
 mod members;
 mod start;
+mod until;
 
 ghost use Rattle.std.specs.Prelude.{◌≡◌};
 ghost use Rattle.net.specs.Record.{labelled};
@@ -16,12 +17,10 @@ ghost use Rattle.ssa.specs.Halted as Halting;
 ghost use Rattle.ssa.specs.Path as Path;
 
 use averages::request;
-pub use halting::{Halted, Onward};
-use halting::{state, tests, until};
 use net::{Net, Verdict};
 pub use playing::PathEnd;
-use playing::run;
 use rng::Xoshiro256;
+use timers::queue::Queue;
 
 // The end of a path, its steps, how many instants are settled, the peak, how many steps have an a0 that adds a rounded propensity, and the generator after
 // it; of a path that is turned down the number, four times 0, and the generator as it came.
@@ -33,6 +32,29 @@ pub struct PathAnswer {
     pub peak: u64,
     pub rounded: u64,
     pub generator: Xoshiro256,
+}
+
+// A path between two steps, as a call halts it and the next takes it up: the clock, the counts, the generator, the steps so far and their limit, the peak and the
+// number of rounded steps so far, how many instants are recorded, and the running timers, the first to leave first. Instants and table are lent beside it.
+#[derive(Clone, Copy)]
+pub struct Halted {
+    pub clock: f64,
+    pub counts: [u64; 32],
+    pub generator: Xoshiro256,
+    pub steps: u64,
+    pub limit: u64,
+    pub peak: u64,
+    pub rounded: u64,
+    pub recorded: usize,
+    pub timers: Queue,
+}
+
+// The end of a path that names a number of steps or was carried, how many instants are settled, and where it stands.
+#[derive(Clone, Copy)]
+pub struct Onward {
+    pub end: PathEnd,
+    pub settled: u64,
+    pub state: Halted,
 }
 
 // How many paths of an ensemble were spent, and whether there are deviations; or the number by which the call was turned down; or the number by which a
@@ -86,10 +108,10 @@ pub fn fields_path<'a>(
     ) {
         return accept::turned_down(c, generator);
     }
-    if !tests::instants_fit(instants) {
+    if !accept::instants_fit(instants) {
         return accept::turned_down(refusals::BAD_INSTANTS, generator);
     }
-    if !tests::limit_fits(limit) {
+    if !accept::limit_fits(limit) {
         return accept::turned_down(refusals::BAD_LIMIT, generator);
     }
     let n = instants.len();
@@ -188,10 +210,10 @@ pub fn fields_path_until<'a>(
     ) {
         return until::refused(c, generator);
     }
-    if !tests::instants_fit(instants) {
+    if !accept::instants_fit(instants) {
         return until::refused(refusals::BAD_INSTANTS, generator);
     }
-    if !tests::limit_fits(limit) {
+    if !accept::limit_fits(limit) {
         return until::refused(refusals::BAD_LIMIT, generator);
     }
     let n = instants.len();
@@ -212,7 +234,6 @@ pub fn fields_path_until<'a>(
         place,
         weight,
         generator,
-        run::ROOM,
         instants,
         limit,
         named,
@@ -327,7 +348,7 @@ pub fn fields_carry<'a>(
         return until::turned_down(c, path);
     }
     let q = path.timers;
-    if let Verdict::Refused(c) = state::state_fault(
+    if let Verdict::Refused(c) = change::state_fault(
         old_places,
         path.clock,
         &path.counts,
@@ -338,7 +359,6 @@ pub fn fields_carry<'a>(
         &q.ats,
         &q.takens,
         q.len,
-        run::ROOM,
         instants,
         table,
     ) {

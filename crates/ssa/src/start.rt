@@ -14,10 +14,22 @@ ghost use Rattle.ssa.specs.Path as Path;
 ghost use Rattle.ssa.specs.Told as Told;
 
 use crate::PathAnswer;
-use halting::until;
 use playing::run::Walked;
 use playing::{PathEnd, begin, run};
 use rng::Xoshiro256;
+
+// How many instants are settled.
+pub fn settled(end: PathEnd, next: usize, n: usize) -> u64
+    ensures { result ≡ Told.settled_at end next n }
+{
+    match end {
+        PathEnd::Quiet => n as u64,
+        PathEnd::Spent => next as u64,
+        PathEnd::Reached => n as u64,
+        PathEnd::Halted => next as u64,
+        PathEnd::Refused(_) => n as u64,
+    }
+}
 
 // What a path call answers of it.
 fn answer(w: Walked, n: usize, rng: Xoshiro256) -> PathAnswer
@@ -38,7 +50,7 @@ fn answer(w: Walked, n: usize, rng: Xoshiro256) -> PathAnswer
     PathAnswer {
         end: end,
         steps: w.steps,
-        settled: until::settled(end, w.next, n),
+        settled: settled(end, w.next, n),
         peak: w.peak,
         rounded: w.rounded,
         generator: g,

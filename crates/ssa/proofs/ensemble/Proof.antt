@@ -8,7 +8,7 @@ use Rattle.net.proofs.Sound.{sound}
 use Rattle.averages.specs.Request.{Request, request_fault}
 use Rattle.averages.specs.Tables.{Tables}
 use Rattle.averages.proofs.Passes.{passing, room}
-use Rattle.halting.proofs.Instants.{cells_fit}
+use Rattle.ssa.proofs.Accepted.{cells_fit}
 use Rattle.ssa.proofs.Requested.{by_tests}
 use Rattle.ssa.proofs.ensemble.Statement.{statement}
 use Rattle.ssa.proofs.ensemble.Tie as tie

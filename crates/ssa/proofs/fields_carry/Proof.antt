@@ -19,10 +19,10 @@ use Rattle.rules.specs.Carried.{Carried}
 use Rattle.rules.specs.Change.{Pair, carried_tests, renaming_tests}
 use Rattle.carried.specs.Pairs.{pairs_of}
 use Rattle.carried.specs.Records.{record_strange}
-use Rattle.halting.specs.declared.Halted.{Halted}
+use Rattle.ssa.specs.declared.Halted.{Halted}
 use Rattle.ssa.specs.Path.{table_fits}
 use Rattle.ssa.specs.Halted.{standing_of, carried_from, Passes}
-use Rattle.halting.proofs.Brought.{carries}
+use Rattle.ssa.proofs.Brought.{carries}
 use Rattle.ssa.proofs.Continued.{by_old, by_new, by_state, by_list, by_run, same_places, answers_same}
 use Rattle.ssa.proofs.fields_carry.Statement.{statement}
 use Rattle.ssa.proofs.fields_carry.Tie as tie
@@ -50,8 +50,8 @@ abbrev path_at : tie.Start → Carried
 path_at s = let a = s.args in carried_from a.old-places (standing_of a.old-places (handed_at s)) a.instants.now a.table.now
 
 -- what the tests of the state and those of the list meet first
-abbrev state_fault : tie.Start → Option ℕ
-state_fault s =
+abbrev stateFault : tie.Start → Option ℕ
+stateFault s =
     let a = s.args in
     first_of (carried_tests 256 (not (table_fits a.old-places (length a.instants.now) a.table.now))
     (record_strange a.old-places (length a.instants.now) (handed_at s).recorded a.table.now) (path_at s))
@@ -80,7 +80,7 @@ abbrev start4 : tie.After-enum-told4 → tie.Start
 start4 c = start3 (state-passed c.before.before)
 
 -- what the functions say of the state and of the list
-by_state_of : (c : tie.After-state-fault) → meaning c.state-fault.result ≡ state_fault (start2 (new-passed c))
+by_state_of : (c : tie.After-state-fault) → meaning c.state-fault.result ≡ stateFault (start2 (new-passed c))
 by_state_of c = let h = handed_at (start2 (new-passed c)) in c.state-fault.ensures h.timers.whos (words h.generator.s) h.peak
 
 by_words : (c : tie.After-list-fault) → meaning c.list-fault.result ≡ list_fault (start3 (state-passed c))
@@ -96,7 +96,7 @@ accepted c = sym c.before.before.fields-fault.ensures ∙ ap meaning c.enum_told
 accepted_new : (c : tie.After-enum-told2) → fault (new_at (start2 c)) ≡ none
 accepted_new c = sym c.before.before.fields-fault2.ensures ∙ ap meaning c.enum-told2.given.1
 
-plain : (c : tie.After-enum-told3) → state_fault (start3 c) ≡ none
+plain : (c : tie.After-enum-told3) → stateFault (start3 c) ≡ none
 plain c = sym (by_state_of c.before.before) ∙ ap meaning c.enum-told3.given.1
 
 listed : (c : tie.After-enum-told4) → list_fault (start4 c) ≡ none
@@ -148,7 +148,7 @@ enum-told-2 : tie.Need-enum-told-2
 enum-told-2 c = search rules
 
 state-fault-requires : tie.Need-state-fault-requires
-state-fault-requires c κs = let o = c.before.before.before.before.before.before.before.before.before.before in ((sound (old_at (start1 o)) (accepted o)).places, omega arith)
+state-fault-requires c κs = let o = c.before.before.before.before.before.before.before.before.before.before in (sound (old_at (start1 o)) (accepted o)).places
 
 enum-known-c-3 : tie.Need-enum-known-c-3
 enum-known-c-3 c = search rules
@@ -180,7 +180,7 @@ list-fault-requires c κs =
     let a = s.args in (
       accepted_new n,
       (sound (old_at s) (accepted n.before.before.before)).transitions,
-      (carries 256 a.old-places (handed_at s) a.instants.now a.table.now (plain p)).few,
+      (carries a.old-places (handed_at s) a.instants.now a.table.now (plain p)).few,
     )
 
 enum-known-c-4 : tie.Need-enum-known-c-4

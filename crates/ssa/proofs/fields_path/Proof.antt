@@ -11,8 +11,7 @@ use Rattle.net.specs.declared.Net.{Net as NetRecord}
 use Rattle.net.proofs.Sound.{sound}
 use Rattle.rng.specs.State.{words}
 use Rattle.rules.specs.Shown.{instants_fit, limit_fits}
-use Rattle.halting.proofs.Instants.{fitting, cells_fit}
-use Rattle.ssa.proofs.Accepted.{called_tests}
+use Rattle.ssa.proofs.Accepted.{fitting, cells_fit, called_tests}
 use Rattle.ssa.proofs.fields_path.Statement.{statement}
 use Rattle.ssa.proofs.fields_path.Tie as tie
 

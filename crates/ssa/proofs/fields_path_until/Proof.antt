@@ -1,7 +1,6 @@
 -- Each answer is that of the call by the tests that led to it (Accepted). A net without a fault has at most 32 places, so the product of places and
 -- instants fits. Assumes nothing.
 use borrow.Author.Rules.{rules}
-use native.Mathlib.Omega.{arith}
 use borrow.Author.Tests.{not-true, not-false}
 use mathlib.Core.Path.{◌≡◌, sym, ap, ◌∙◌}
 use mathlib.Core.Bool.{true}
@@ -12,8 +11,7 @@ use Rattle.net.specs.declared.Net.{Net as NetRecord}
 use Rattle.net.proofs.Sound.{sound}
 use Rattle.rng.specs.State.{words}
 use Rattle.rules.specs.Shown.{instants_fit, limit_fits}
-use Rattle.halting.proofs.Instants.{fitting, cells_fit}
-use Rattle.ssa.proofs.Accepted.{naming_tests}
+use Rattle.ssa.proofs.Accepted.{fitting, cells_fit, naming_tests}
 use Rattle.ssa.proofs.fields_path_until.Statement.{statement}
 use Rattle.ssa.proofs.fields_path_until.Tie as tie
 
@@ -108,7 +106,7 @@ returns-4 c =
 accepted-until-requires : tie.Need-accepted-until-requires
 accepted-until-requires c κs =
     let e = c.before.before.before.before in
-    (accepted e.before.before, timely e, limited c.before.before, c.before.if3.false, omega arith)
+    (accepted e.before.before, timely e, limited c.before.before, c.before.if3.false)
 
 same_length : tie.Need-same-length
 same_length c = search rules

@@ -26,7 +26,7 @@ carried s whos g peak xs shown =
     }
 
 returns : tie.Need-returns
-returns c = λ whos g peak xs shown. by_room c.before.args.room (carried c.before whos g peak xs shown) (rw length_from c.if1.true)
+returns c = λ whos g peak xs shown. by_room (carried c.before whos g peak xs shown) (rw length_from c.if1.true)
 
 counts-fit-requires : tie.Need-counts-fit-requires
 counts-fit-requires c κs = search rules
@@ -34,17 +34,13 @@ counts-fit-requires c κs = search rules
 returns-2 : tie.Need-returns-2
 returns-2 c =
     let s = c.before.before.before in
-    λ whos g peak xs shown. by_counts s.args.room (carried s whos g peak xs shown) (sym c.before.counts_fit.ensures ∙ not-true _ c.if2.true)
+    λ whos g peak xs shown. by_counts (carried s whos g peak xs shown) (sym c.before.counts_fit.ensures ∙ not-true _ c.if2.true)
 
 returns-3 : tie.Need-returns-3
-returns-3 c =
-    let s = c.before.before.before.before in
-    λ whos g peak xs shown. by_limit s.args.room (carried s whos g peak xs shown) c.if3.true
+returns-3 c = λ whos g peak xs shown. by_limit (carried c.before.before.before.before whos g peak xs shown) c.if3.true
 
 returns-4 : tie.Need-returns-4
-returns-4 c =
-    let s = c.before.before.before.before.before in
-    λ whos g peak xs shown. by_rounded s.args.room (carried s whos g peak xs shown) c.if4.true
+returns-4 c = λ whos g peak xs shown. by_rounded (carried c.before.before.before.before.before whos g peak xs shown) c.if4.true
 
 time-fits-requires : tie.Need-time-fits-requires
 time-fits-requires c κs = search rules
@@ -52,7 +48,7 @@ time-fits-requires c κs = search rules
 returns-5 : tie.Need-returns-5
 returns-5 c =
     let s = c.before.before.before.before.before.before.before in
-    λ whos g peak xs shown. by_clock s.args.room (carried s whos g peak xs shown) (sym c.before.time-fits.ensures ∙ not-true _ c.if5.true)
+    λ whos g peak xs shown. by_clock (carried s whos g peak xs shown) (sym c.before.time-fits.ensures ∙ not-true _ c.if5.true)
 
 completions-fit-requires : tie.Need-completions-fit-requires
 completions-fit-requires c κs = search rules
@@ -61,7 +57,7 @@ returns-6 : tie.Need-returns-6
 returns-6 c =
     let s = c.before.before.before.before.before.before.before.before.before in
     λ whos g peak xs shown.
-    by_times s.args.room (carried s whos g peak xs shown)
+    by_times (carried s whos g peak xs shown)
     (sym (c.before.completions-fit.ensures whos s.args.takens.now) ∙ not-true _ c.if6.true)
 
 weights-fit-requires : tie.Need-weights-fit-requires
@@ -75,7 +71,7 @@ returns-7 c =
     let s = j.before.before.before in
     λ whos g peak xs shown.
     c.weights-fit.ensures s.args.ats.now whos
-    ∙ by_weights s.args.room (carried s whos g peak xs shown)
+    ∙ by_weights (carried s whos g peak xs shown)
     (rw length_from (omega arith))
     (sym j.before.counts_fit.ensures ∙ not-false _ j.if2.false)
     (omega arith)

@@ -3,7 +3,7 @@ use borrow.Author.Rules.{rules}
 use mathlib.Core.Path.{◌∙◌}
 use Rattle.net.specs.Record.{lent}
 use Rattle.engine.proofs.Lists.{initial_is}
-use Rattle.halting.proofs.Instants.{fitting}
+use Rattle.ssa.proofs.Accepted.{fitting}
 use Rattle.ssa.proofs.accept.lent_path.Statement.{statement}
 use Rattle.ssa.proofs.accept.lent_path.Tie as tie
 

@@ -1,24 +1,25 @@
--- The path by its new numbers is the renamed path of the rules, and passes the tests of its state too (Brought). What it answers when played on is the answer of
--- the path, but for the state that a refused run gives back (Continued).
+-- A path that passes its tests brings what the run asks for (Brought): its counts in a fresh array, its timers by their new numbers in the ring, and its
+-- tokens. What the run leaves is the answer of the rules over the renamed path (Continued).
 use borrow.Author.Rules.{rules}
-use mathlib.Core.Path.{◌≡◌, sym, ap, ◌∙◌}
-use mathlib.Core.List.{List}
+use mathlib.Core.Path.{◌≡◌, refl, sym, ◌∙◌}
+use mathlib.Core.List.{List, map}
 use native.Mathlib.Omega.{arith}
-use Prim.Native.Nat.{ℕ}
-use lib.ListN.{length}
+use lib.ListN.{length, length-map}
 use Rattle.net.specs.declared.Net.{Net as NetRecord}
 use Rattle.net.specs.Readable.{readable}
 use Rattle.net.specs.Record.{labelled}
-use Rattle.rules.specs.Step.{Answer}
-use Rattle.rules.specs.Carried.{Carried, Onward, play_on}
-use Rattle.rules.specs.Change.{Pair, renamed}
+use Rattle.net.proofs.Sound.{sound}
+use Rattle.rules.specs.Step.{State}
+use Rattle.rules.specs.Carried.{Carried}
+use Rattle.rules.specs.Change.{Pair, renamed_timer, renamed}
+use Rattle.timers.specs.Turning.{timers_of}
 use Rattle.carried.specs.Pairs.{pairs_of}
-use Rattle.halting.specs.declared.Halted.{Halted}
-use Rattle.halting.specs.Halted.{Standing, standing_of, carried_from, call_of, played}
-use Rattle.playing.specs.Ends.{end_of}
-use Rattle.halting.proofs.Ends.{not_refused}
-use Rattle.ssa.proofs.Brought.{brought, below, moved, is_renamed, passes_too}
-use Rattle.ssa.proofs.Continued.{refused_back, answered_so, not_refused_given}
+use Rattle.ssa.specs.Halted.{standing_of, carried_from}
+use Rattle.playing.specs.Stepping.{state_of}
+use Rattle.ssa.proofs.Answered.{not_refused}
+use Rattle.playing.proofs.Tokens.{sum_few}
+use Rattle.ssa.proofs.Brought.{Carries, timers_at, brought, below, renamed_queue, small, light, rest_rises, resumes, tokens_same, now_same, counts_same}
+use Rattle.ssa.proofs.Continued.{continued_refused, continued_to, few_steps}
 use Rattle.ssa.proofs.change.accepted_carry.Statement.{statement}
 use Rattle.ssa.proofs.change.accepted_carry.Tie as tie
 
@@ -31,50 +32,63 @@ net_at s =
 abbrev pairs_at : tie.Start → List Pair
 pairs_at s = pairs_of s.args.pairs.now
 
-abbrev renamed_at : tie.Start → Carried
-renamed_at s =
+abbrev moved_at : tie.Start → Carried
+moved_at s =
     let a = s.args in
-    renamed (pairs_at s) (carried_from a.places (standing_of a.places a.path) a.instants.now a.table.now)
+    renamed (pairs_at s) (carried_from a.places (standing_of a.places a.t14) a.instants.now a.table.now)
 
--- the start, from the names; the names, from the new numbers; and these, from the run
+-- the start, from the names, from the timers in the ring, from the counts and from before the run
 abbrev start1 : tie.After-names-of → tie.Start
 start1 c = c.before.before.before.before
 
-abbrev named : tie.After-new-numbers → tie.After-names-of
-named c = c.before.before.before.before.before.before
+abbrev start2 : tie.After-hand-in → tie.Start
+start2 c = start1 c.before.before.before.before.before.before.before.before.before.before
 
-abbrev numbered : tie.After-played-on → tie.After-new-numbers
-numbered c = c.before.before.before.before.before
+abbrev start3 : tie.After-first-counts → tie.Start
+start3 c = start2 c.before.before.before
 
--- the path by its new numbers
-abbrev moved_at : tie.After-new-numbers → Halted
-moved_at c =
-    let m = named c in
-    let s = start1 m in
+abbrev counted : tie.After-resume-arg → tie.After-first-counts
+counted c = c.before.before.before.before.before.before.before.before.before.before.before
+
+-- what the path brings
+brings : (s : tie.Start) → Carries s.args.places s.args.t14 s.args.instants.now s.args.table.now
+brings s =
     let a = s.args in
-    moved (net_at s) s.pre.0 a.places (pairs_at s) a.path a.instants.now a.table.now s.pre.1 m.names_of.result m.names_of.ensures
-    c.new-numbers.result c.new-numbers.ensures
+    brought (net_at s) s.requires.0 a.places (pairs_at s) a.t14 a.instants.now a.table.now s.requires.1
 
-is_moved : (c : tie.After-new-numbers) → let s = start1 (named c) in let a = s.args in
-    carried_from a.places (standing_of a.places (moved_at c)) a.instants.now a.table.now ≡ renamed_at s
-is_moved c =
-    let m = named c in
-    let s = start1 m in
-    let a = s.args in
-    is_renamed (net_at s) s.pre.0 a.places (pairs_at s) a.path a.instants.now a.table.now s.pre.1 m.names_of.result
-    m.names_of.ensures c.new-numbers.result c.new-numbers.ensures
+-- the array of its counts is 32 long
+long : (s : tie.Start) → length s.args.t14.counts ≡ 32
+long s = sym (length-map s.args.t14.counts (λ v. v)) ∙ s.well-formed.1.1.1.1.1.1.1.1.1.1.1.1.1.0.1.1.1.0.1.0.1
 
--- the answer that the run gives
-answers : (c : tie.After-played-on) → let s = start1 (named (numbered c)) in let a = s.args in
-    call_of a.places c.played_on.result c.played_on.new.1.1.1.1.1.1.1.1.1.1.1.1.1.1.1.1.0
-    ≡ played a.places (length a.instants.now) a.path.recorded (standing_of a.places (moved_at (numbered c))) a.table.now
-    (play_on 256 (readable (net_at s)) (renamed_at s) a.named)
-answers c =
-    let s = start1 (named (numbered c)) in
+-- its timers in the ring
+timers_are : (c : tie.After-hand-in)
+    → timers_of c.hand_in.new.0 c.hand_in.new.1.0 c.hand_in.result ≡ map (renamed_timer (pairs_at (start2 c))) (timers_at (start2 c).args.t14)
+timers_are c =
+    let w = c.before.before.before.before.new-numbers in
+    let m = c.before.before.before.before.before.before.before.before.before.before.names_of in
+    let s = start2 c in
     let a = s.args in
-    c.played_on.ensures
-    ∙ ap (λ (x : Carried). played a.places (length a.instants.now) a.path.recorded (standing_of a.places (moved_at (numbered c))) a.table.now
-    (play_on 256 (readable (net_at s)) x a.named)) (is_moved (numbered c))
+    c.hand_in.ensures.list
+    ∙ renamed_queue (net_at s) s.pre.0 a.places (pairs_at s) a.t14 a.instants.now a.table.now s.pre.1 m.result m.ensures
+    w.result w.ensures
+
+-- the state that the run begins with
+abbrev state_at : tie.After-first-counts → State
+state_at c =
+    let i = c.before.before.before.hand_in in
+    let s = start3 c in
+    state_of (net_at s) c.first-counts.result i.new.0 i.new.1.0 i.result s.args.t14.clock s.args.t14.generator.s
+
+now_is : (c : tie.After-first-counts) → state_at c ≡ (moved_at (start3 c)).now
+now_is c =
+    let k = c.first-counts in
+    let h = c.before.before.before in
+    let i = h.hand_in in
+    let s = start3 c in
+    let a = s.args in
+    now_same (brings s) (pairs_at s) k.result i.new.0 i.new.1.0 i.result (timers_are h)
+    (counts_same a.places a.t14.counts k.result (omega (arith, long s, (sound (net_at s) s.pre.0).places)) k.ensures.0)
+    a.t14.generator.s
 
 names-of-requires : tie.Need-names-of-requires
 names-of-requires c κs = search rules
@@ -85,20 +99,56 @@ new-numbers-requires c κs =
     let w = m.names_of in
     let s = start1 m in
     let a = s.args in (
-      (brought (net_at s) s.pre.0 a.places (pairs_at s) a.path a.instants.now a.table.now s.pre.1).few,
-      below (net_at s) s.pre.0 a.places (pairs_at s) a.path a.instants.now a.table.now s.pre.1 w.result w.ensures,
+      (brings s).few,
+      below (net_at s) s.pre.0 a.places (pairs_at s) a.t14 a.instants.now a.table.now s.pre.1 w.result w.ensures,
     )
 
-played-on-requires : tie.Need-played-on-requires
-played-on-requires c κs =
-    let n = c.before.before.before.before in
-    let m = named n in
-    let s = start1 m in
-    let a = s.args in (
+hand-in-requires : tie.Need-hand-in-requires
+hand-in-requires c κs = search rules
+
+first-counts-requires : tie.Need-first-counts-requires
+first-counts-requires c κs = let s = start2 c.before.before in ((sound (net_at s) s.pre.0).places, small (brings s))
+
+sum-requires : tie.Need-sum-requires
+sum-requires c κs =
+    let k = c.before.before in
+    let s = start3 k in
+    ((sound (net_at s) s.pre.0).places, k.first-counts.ensures.1)
+
+taken-requires : tie.Need-taken-requires
+taken-requires c κs = let s = start3 c.before.before.before.before.before in ((brings s).few, light (brings s))
+
+add-resume : tie.Need-overflow-add-resume
+add-resume c =
+    let k = c.before.before.before.before.before.before in
+    let s = start3 k in
+    let few = sum_few s.args.places k.first-counts.result k.first-counts.ensures.1.small in
+    record { fits = omega (arith, c.before.before.before.sum.ensures, few, (sound (net_at s) s.pre.0).places, c.taken.ensures.0) }
+
+sub-left : tie.Need-overflow-sub-left
+sub-left c = (brings (start3 c.before.before.before.before.before.before)).steps
+
+fewer-requires : tie.Need-fewer-requires
+fewer-requires c κs = search rules
+
+resume-requires : tie.Need-resume-requires
+resume-requires c κs =
+    let t = c.before.before.before.before.before.taken in
+    let u = c.before.before.before.before.before.before.before.before.sum in
+    let k = (counted c).first-counts in
+    let h = (counted c).before.before.before in
+    let i = h.hand_in in
+    let s = start2 h in
+    let q = s.args.t14.timers in
+    let b = brings s in (
       s.pre.0,
-      passes_too (net_at s) s.pre.0 a.places (pairs_at s) a.path a.instants.now a.table.now s.pre.1 m.names_of.result
-          m.names_of.ensures n.new-numbers.result n.new-numbers.ensures,
-      omega arith,
+      resumes b (pairs_at s) k.result i.last.0 i.last.1.0 i.result (timers_are h) k.ensures.1 i.ensures.sound,
+      b.instants.some_instant,
+      b.recorded,
+      b.instants.few,
+      b.room,
+      tokens_same b (pairs_at s) k.result i.last.0 i.last.1.0 i.result (timers_are h) u.result t.result u.ensures
+          (t.ensures.1 q.ats q.whos),
     )
 
 enum-known-end : tie.Need-enum-known-end
@@ -113,25 +163,39 @@ same_length c = search rules
 returns : tie.Need-returns
 returns c =
     let r = c.before.before.before.before.before.before in
-    let n = numbered r in
-    let s = start1 (named n) in
+    let k = counted r.before in
+    let s = start3 k in
     let a = s.args in
     c.turned_down.ensures a.places _
-    ∙ refused_back a.places (length a.instants.now) a.path.recorded (standing_of a.places (moved_at n)) (standing_of a.places a.path)
-    a.table.now (play_on 256 (readable (net_at s)) (renamed_at s) a.named) _ _ (answers r) (ap end_of c.before.before.end.given.1)
+    ∙ continued_refused (readable (net_at s)) a.places (pairs_at s) a.t14 a.instants.now a.table.now a.named (rest_rises (brings s))
+    (now_is k) refl r.before.before.fewer.ensures r.resume.ensures c.before.before.end.given.1
+
+handed-requires : tie.Need-handed-requires
+handed-requires c κs =
+    let r = c.before.before.before.before.before.before in
+    let k = counted r.before in
+    let s = start3 k in
+    let a = s.args in
+    let m = r.before.before.fewer.ensures in
+    let b = brings s in
+    let few =
+    few_steps (readable (net_at s)) a.places (pairs_at s) a.t14 a.instants.now a.table.now a.named (rest_rises b)
+    (now_is k) refl m r.resume.ensures (not_refused r.resume.result.end c.before.before.before.match.keys2) in
+    (omega (arith, few, m, b.steps, b.limit), omega (arith, few, m, b.steps, b.limit, b.rounded))
 
 same-length-2 : tie.Need-same-length-2
 same-length-2 c = search rules
 
 returns-2 : tie.Need-returns-2
 returns-2 c =
-    let r = c.before.before.before in
-    let n = numbered r in
-    let s = start1 (named n) in
+    let h = c.handed in
+    let r = c.before.before.before.before.before.before.before in
+    let k = counted r.before in
+    let s = start3 k in
     let a = s.args in
-    let b = not_refused_given r.played_on.result.end (not_refused r.played_on.result.end c.match.keys2) in
-    answered_so a.places (length a.instants.now) a.path.recorded (standing_of a.places (moved_at n)) (standing_of a.places a.path)
-    a.table.now (play_on 256 (readable (net_at s)) (renamed_at s) a.named) _ b.0 (answers r) b.1
+    continued_to (readable (net_at s)) a.places (pairs_at s) a.t14 a.instants.now a.table.now a.named (rest_rises (brings s))
+    (now_is k) refl r.before.before.fewer.ensures r.resume.ensures (not_refused r.resume.result.end c.before.before.before.before.match.keys2)
+    h.result h.ensures.0 h.ensures.1 (h.ensures.2 a.places)
 
 pub accepted-carry-spec : {M : Type 1} → statement M
 accepted-carry-spec =
@@ -139,10 +203,18 @@ accepted-carry-spec =
     (tie.spec
     names-of-requires
     new-numbers-requires
-    played-on-requires
+    hand-in-requires
+    first-counts-requires
+    sum-requires
+    taken-requires
+    add-resume
+    sub-left
+    fewer-requires
+    resume-requires
     enum-known-end
     turned-down-requires
     same_length
     returns
+    handed-requires
     same-length-2
     returns-2)

@@ -8,8 +8,8 @@ use Rattle.net.specs.Record.{lent}
 use Rattle.rng.specs.Splitmix.{seeded}
 use Rattle.averages.specs.Request.{seed_of}
 use Rattle.ssa.specs.Summing.{drawn}
-use Rattle.halting.proofs.Instants.{fitting, cells_fit}
-use Rattle.halting.proofs.Ends.{not_refused}
+use Rattle.ssa.proofs.Accepted.{fitting, cells_fit}
+use Rattle.ssa.proofs.Answered.{not_refused}
 use Rattle.ssa.proofs.Summing.{one_by_spent_lem, turn_stops, turn_goes}
 use Rattle.ssa.proofs.members.member_turn.Statement.{statement}
 use Rattle.ssa.proofs.members.member_turn.Tie as tie

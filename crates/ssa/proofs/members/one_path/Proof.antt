@@ -6,7 +6,7 @@ use Rattle.net.specs.Record.{lent}
 use Rattle.rng.specs.State.{words}
 use Rattle.rng.specs.Splitmix.{seeded}
 use Rattle.engine.proofs.Lists.{initial_is}
-use Rattle.halting.proofs.Instants.{fitting}
+use Rattle.ssa.proofs.Accepted.{fitting}
 use Rattle.ssa.proofs.Summing.{own_path}
 use Rattle.ssa.proofs.members.one_path.Statement.{statement}
 use Rattle.ssa.proofs.members.one_path.Tie as tie

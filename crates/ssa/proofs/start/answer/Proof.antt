@@ -8,8 +8,7 @@ use Rattle.rng.specs.State.{words}
 use Rattle.playing.specs.declared.PathEnd.{PathEnd}
 use Rattle.ssa.specs.Path.{end_of}
 use Rattle.ssa.specs.Told.{answer_of}
-use Rattle.halting.proofs.Ends.{not_refused}
-use Rattle.ssa.proofs.Answered.{told}
+use Rattle.ssa.proofs.Answered.{not_refused, told}
 use Rattle.ssa.proofs.start.answer.Statement.{statement}
 use Rattle.ssa.proofs.start.answer.Tie as tie
 

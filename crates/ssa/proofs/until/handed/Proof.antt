@@ -1,0 +1,51 @@
+-- A list that is handed out is the queue's (timers, HandedOut), which has at most 256 timers: so it is what the state says. Assumes nothing.
+use borrow.Author.Rules.{rules}
+use native.Mathlib.Omega.{arith}
+use mathlib.Core.Path.{◌≡◌, refl, ap, ◌∙◌}
+use mathlib.Core.List.{List}
+use Prim.Native.Nat.{ℕ, ◌+◌, min}
+use lib.Ieee.{Float}
+use Rattle.rng.specs.State.{words}
+use Rattle.rules.specs.Step.{state}
+use Rattle.engine.specs.Engine.{marking}
+use Rattle.timers.specs.declared.Ring.{Ring}
+use Rattle.timers.specs.declared.queue.Queue.{Queue}
+use Rattle.timers.specs.Turning.{from, timers_of}
+use Rattle.timers.specs.Queues.{waiting, HandedOut}
+use Rattle.carried.specs.Timers.{timers_in}
+use Rattle.ssa.proofs.until.handed.Statement.{statement}
+use Rattle.ssa.proofs.until.handed.Tie as tie
+
+queued : {ats : List Float} {owners : List ℕ} {r : Ring} {q : Queue} → HandedOut ats owners r q
+    → timers_in q.ats q.whos q.takens q.len ≡ timers_of ats owners r
+queued {q = q} h = let e : q.len ≡ min q.len 256 = omega (arith, h.long) in ap (from (waiting q) 0) e ∙ h.list
+
+add-t13 : tie.Need-overflow-add-t13
+add-t13 c = search rules
+
+add-t14 : tie.Need-overflow-add-t14
+add-t14 c = search rules
+
+hand-out-requires : tie.Need-hand-out-requires
+hand-out-requires c κs = search rules
+
+settled-requires : tie.Need-settled-requires
+settled-requires c κs = search rules
+
+returns : tie.Need-returns
+returns c =
+    let a = c.before.before.before.before.before.before.args in (
+      refl,
+      c.settled.ensures,
+      λ places i. record {
+        now = state a.w.clock (marking places a.counts.now) (queued c.before.hand-out.ensures i) (words a.w.rng.s);
+        steps = a.steps + a.w.steps;
+        limit = a.limit;
+        peak = a.w.peak;
+        rounded = a.rounded + a.w.rounded;
+        recorded = a.w.next;
+      },
+    )
+
+pub handed-spec : {M : Type 1} → statement M
+handed-spec = tie.close (tie.spec add-t13 add-t14 hand-out-requires settled-requires returns)
