@@ -16,20 +16,27 @@ pairs c = c.args.m * (c.args.m - 1)
 apart : (c : tie.Start) → Stripped 64 (pairs c) (count_trailing_zeros 64 (pairs c))
 apart c = let h = c.requires.0 in stripped 64 (pairs c) (mul-pos (omega arith) (omega arith)) (pairs_fit c.args.m c.requires.1)
 
-sub-p : tie.Need-overflow-sub-p
+sub-p : tie.Need-overflow_sub-p
 sub-p c = search rules
 
-mul-p : tie.Need-overflow-mul-p
+mul-p : tie.Need-overflow_mul-p
 mul-p c = omega (arith, pairs_fit c.args.m c.requires.1)
 
-cast_t : tie.Need-overflow-cast-t
+cast_t : tie.Need-overflow_cast-t
 cast_t c = omega (arith, (apart c).few)
 
-shr-result : tie.Need-overflow-shr-result
+shr-result : tie.Need-overflow_shr-result
 shr-result c = (apart c).few
 
 returns : tie.Need-returns
 returns c = pairs_exact c.args.m c.requires.0 c.requires.1 (count_trailing_zeros 64 (pairs c)) (apart c)
 
-pub exact-pairs-spec : {M : Type 1} → statement M
-exact-pairs-spec = tie.close (tie.spec sub-p mul-p cast_t shr-result returns)
+pub exact_pairs_spec : {M : Type 1} → statement M
+exact_pairs_spec =
+    tie.close
+    (tie.spec
+    sub-p
+    mul-p
+    cast_t
+    shr-result
+    returns)

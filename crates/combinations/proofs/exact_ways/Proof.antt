@@ -27,56 +27,56 @@ too_large m w p h k l = simp (lt-leb w 0 p, le-ltb m w h, le-ltb 16 w k, lt-ltb 
 worked : (m w : ℕ) → 0 < w → w ≤ m → w ≤ 16 → m ≤ 2 ^ 53 → combinations (pos m) (pos w) ≡ counted m w
 worked m w p h k l = simp (lt-leb w 0 p, le-ltb m w h, le-ltb 16 w k, le-ltb (2 ^ 53) m l)
 
-returns : tie.Need-returns
-returns c = of_none c.before.args.m c.before.args.w c.if1.true
+returns : tie.Need-returns-then-w-eq0
+returns c = of_none c.args.m c.args.w c.if-w-eq0.true
 
-returns-2 : tie.Need-returns-2
-returns-2 c = let a = c.before.before.args in too_few a.m a.w c.if2.true
+returns-2 : tie.Need-returns-then-m-w
+returns-2 c = let a = c.args in too_few a.m a.w c.if-m-w.true
 
-cast-if3 : tie.Need-overflow-cast-if3
+cast-if3 : tie.Need-overflow_cast-t-6
 cast-if3 c = search rules
 
-returns-3 : tie.Need-returns-3
-returns-3 c = let a = c.before.before.before.args in many_factors a.m a.w c.before.if2.false c.if3.true
+returns-3 : tie.Need-returns-then-w
+returns-3 c = let a = c.args in many_factors a.m a.w c.if-m-w.false c.if-w.true
 
-cast-if4 : tie.Need-overflow-cast-if4
+cast-if4 : tie.Need-overflow_cast-t-6-2
 cast-if4 c = search rules
 
-returns-4 : tie.Need-returns-4
+returns-4 : tie.Need-returns-then-m
 returns-4 c =
     let e = c.before in
-    let a = e.before.before.before.args in
-    too_large a.m a.w (omega (arith, e.before.before.if1.false)) e.before.if2.false e.if3.false c.if4.true
+    let a = e.args in
+    too_large a.m a.w (omega (arith, e.if-w-eq0.false)) e.if-m-w.false e.if-w.false c.if-m.true
 
-counted-requires : tie.Need-counted-requires
+counted-requires : tie.Need-counted-answer-requires
 counted-requires c κs = search rules
 
-enum-known-answer : tie.Need-enum-known-answer
+enum-known-answer : tie.Need-enum_known-answer
 enum-known-answer c = search rules
 
-enum_told : tie.Need-enum-told
+enum_told : tie.Need-enum_told-1
 enum_told c = search rules
 
 -- past the tests each case of `counted` says its flag
-flag_counted : (k : tie.Else4) → (r : Ways) → (let a = k.before.before.before.before.args in meaning r ≡ counted a.m a.w)
-    → (let a = k.before.before.before.before.args in as_flag (meaning r) ≡ as_flag (combinations (pos a.m) (pos a.w)))
+flag_counted : (k : tie.Else-m) → (r : Ways) → (let a = k.args in meaning r ≡ counted a.m a.w)
+    → (let a = k.args in as_flag (meaning r) ≡ as_flag (combinations (pos a.m) (pos a.w)))
 flag_counted k r e =
     let t = k.before in
-    let a = t.before.before.before.args in
-    ap as_flag (e ∙ sym (worked a.m a.w (omega (arith, t.before.before.if1.false)) t.before.if2.false t.if3.false k.if4.false))
+    let a = t.args in
+    ap as_flag (e ∙ sym (worked a.m a.w (omega (arith, t.if-w-eq0.false)) t.if-m-w.false t.if-w.false k.if-m.false))
 
-returns-5 : tie.Need-returns-5
+returns-5 : tie.Need-returns-in-Value
 returns-5 c =
-    let k = c.before.before.before in
-    ap (λ (z : Ways). as_flag (meaning z)) (sym c.before.answer.given.1) ∙ flag_counted k.before k.counted.result k.counted.ensures
+    let k = c.before in
+    ap (λ (z : Ways). as_flag (meaning z)) (sym c.in-Value.is) ∙ flag_counted k.before k.counted-answer.result k.counted-answer.ensures
 
-returns-6 : tie.Need-returns-6
+returns-6 : tie.Need-returns-in-Refused
 returns-6 c =
-    let k = c.before.before in
-    ap (λ (z : Ways). as_flag (meaning z)) (sym c.enum_told.given.1) ∙ flag_counted k.before k.counted.result k.counted.ensures
+    let k = c.before in
+    ap (λ (z : Ways). as_flag (meaning z)) (sym c.in-Refused.is) ∙ flag_counted k.before k.counted-answer.result k.counted-answer.ensures
 
-pub exact-ways-spec : {M : Type 1} → statement M
-exact-ways-spec =
+pub exact_ways_spec : {M : Type 1} → statement M
+exact_ways_spec =
     tie.close
     (tie.spec
     returns

@@ -12,24 +12,31 @@ net_at s =
     lent s.args.places s.args.transitions s.args.initial.now s.args.capacity.now s.args.rate.now s.args.delay.now
     s.args.arcs.now s.args.kind.now s.args.place.now s.args.weight.now
 
-mul-if1 : tie.Need-overflow-mul-if1
+mul-if1 : tie.Need-offset_bounds-capacity-p
 mul-if1 c = search rules
 
-element-copy-out-if1 : tie.Need-element-copy-out-if1
+element-copy-out-if1 : tie.Need-bounds-capacity-p
 element-copy-out-if1 c = search rules
 
-returns : tie.Need-returns
-returns c = bounded_free (net_at c.before.before) c.before.before.args.p c.if1.true
+returns : tie.Need-returns-then-capacity-p-eq0
+returns c = bounded_free (net_at c.before.before.before) c.args.p c.if-capacity-p-eq0.true
 
 raised-requires : tie.Need-raised-requires
 raised-requires c κs = search rules
 
-returns-2 : tie.Need-returns-2
-returns-2 c = bounded_by (net_at c.before.before.before.before) c.before.before.before.before.args.p c.before.before.if1.false c.before.raised.result true c.before.raised.ensures c.if2.true
+returns-2 : tie.Need-returns-then-raised
+returns-2 c = bounded_by (net_at c.before.before.before.before.before) c.args.p c.if-capacity-p-eq0.false c.raised.result true c.raised.ensures c.if-raised.true
 
-returns-3 : tie.Need-returns-3
-returns-3 c = bounded_by (net_at c.before.before.before.before) c.before.before.before.before.args.p c.before.before.if1.false c.before.raised.result false c.before.raised.ensures c.if2.false
+returns-3 : tie.Need-returns
+returns-3 c = bounded_by (net_at c.before.before.before.before.before) c.args.p c.if-capacity-p-eq0.false c.raised.result false c.raised.ensures c.if-raised.false
 
-pub bounded-at-spec : {M : Type 1} → statement M
-bounded-at-spec =
-    tie.close (tie.spec mul-if1 element-copy-out-if1 returns raised-requires returns-2 returns-3)
+pub bounded_at_spec : {M : Type 1} → statement M
+bounded_at_spec =
+    tie.close
+    (tie.spec
+    mul-if1
+    element-copy-out-if1
+    returns
+    raised-requires
+    returns-2
+    returns-3)

@@ -10,11 +10,11 @@ use Prim.Native.Nat.{ℕ, ◌-◌, ◌≤◌}
 use Rattle.gates.proofs.bounded_mask.Statement.{statement}
 use Rattle.gates.proofs.bounded_mask.Tie as tie
 
-abbrev invariant-loop : tie.invariant-loop
+abbrev invariant-loop : tie.invariant-loop-p
 invariant-loop places transitions initial capacity rate delay arcs kind place weight mask₀ p₀ mask p =
     (p ≤ places) × (mask ≡ mask_from (lent places transitions initial capacity rate delay arcs kind place weight) p (places - p))
 
-abbrev decreases-loop : tie.decreases-loop
+abbrev decreases-loop : tie.decreases-loop-p
 decreases-loop places transitions initial capacity rate delay arcs kind place weight mask₀ p₀ mask p = p
 
 abbrev net_at : tie.Start invariant-loop decreases-loop → NetRecord
@@ -22,49 +22,49 @@ net_at s =
     lent s.args.places s.args.transitions s.args.initial.now s.args.capacity.now s.args.rate.now s.args.delay.now
     s.args.arcs.now s.args.kind.now s.args.place.now s.args.weight.now
 
-loop-holds : tie.Need-loop-init invariant-loop decreases-loop
+loop-holds : tie.Need-loop-p-init invariant-loop decreases-loop
 loop-holds c = (omega arith, mask_none (net_at c) c.args.places c.args.places refl)
 
-sub-q : tie.Need-overflow-sub-q invariant-loop decreases-loop
+sub-q : tie.Need-overflow_sub-q invariant-loop decreases-loop
 sub-q c = search rules
 
-bounded-at-requires : tie.Need-bounded-at-requires invariant-loop decreases-loop
-bounded-at-requires c κs = (omega (arith, c.before.before.requires.places), c.before.before.requires)
+bounded-at-requires : tie.Need-bounded_at-bit-requires invariant-loop decreases-loop
+bounded-at-requires c κs = (omega (arith, c.requires.places), c.requires)
 
-mul-mask : tie.Need-overflow-mul-mask invariant-loop decreases-loop
+mul-mask : tie.Need-overflow_mul-mask invariant-loop decreases-loop
 mul-mask c =
     let l = c.before.before in
-    omega (arith, l.before.requires.places, mask_fits (net_at l.before) l.loop.p (l.before.args.places - l.loop.p) (omega (arith, l.before.requires.places)))
+    omega (arith, l.requires.places, mask_fits (net_at l.before) l.loop-p.p (l.args.places - l.loop-p.p) (omega (arith, l.requires.places)))
 
-add-mask : tie.Need-overflow-add-mask invariant-loop decreases-loop
+add-mask : tie.Need-overflow_add-mask invariant-loop decreases-loop
 add-mask c =
     let l = c.before.before in
     omega (
       arith,
-      c.Bounded-at.ensures,
-      one_most (bounded_at (net_at l.before) (l.loop.p - 1)),
-      mask_fits (net_at l.before) l.loop.p (l.before.args.places - l.loop.p) (omega (arith, l.before.requires.places)),
+      c.bounded_at-bit.ensures,
+      one_most (bounded_at (net_at l.before) (l.loop-p.p - 1)),
+      mask_fits (net_at l.before) l.loop-p.p (l.args.places - l.loop-p.p) (omega (arith, l.requires.places)),
     )
 
-loop-less : tie.Need-loop-smaller invariant-loop decreases-loop
-loop-less c = omega (arith, c.before.loop-test.true)
+loop-less : tie.Need-loop-p-smaller invariant-loop decreases-loop
+loop-less c = omega (arith, c.loop-p-test.true)
 
-loop-again : tie.Need-loop-preserved invariant-loop decreases-loop
+loop-again : tie.Need-loop-p-preserved invariant-loop decreases-loop
 loop-again c =
     let l = c.before.before in
-    let m = mask_front (net_at l.before) l.loop.p l.before.args.places c.before.loop-test.true l.loop.invariant.0 in
-    (omega (arith, c.before.loop-test.true), omega (arith, c.Bounded-at.ensures))
+    let m = mask_front (net_at l.before) l.loop-p.p l.args.places c.loop-p-test.true l.loop-p.invariant.0 in
+    (omega (arith, c.loop-p-test.true), omega (arith, c.bounded_at-bit.ensures))
 
 returns : tie.Need-returns invariant-loop decreases-loop
 returns c =
     let l = c.before in
-    let z : l.loop.p ≡ 0 = omega (arith, c.loop-test.false) in
+    let z : l.loop-p.p ≡ 0 = omega (arith, c.loop-p-test.false) in
     let n = net_at l.before in
-    let d : l.before.args.places - 0 ≡ l.before.args.places = omega arith in
-    l.loop.invariant.1 ∙ ap (λ (q : ℕ). mask_from n q (l.before.args.places - q)) z ∙ ap (mask_from n 0) d
+    let d : l.args.places - 0 ≡ l.args.places = omega arith in
+    l.loop-p.invariant.1 ∙ ap (λ (q : ℕ). mask_from n q (l.args.places - q)) z ∙ ap (mask_from n 0) d
 
-pub bounded-mask-spec : {M : Type 1} → statement M
-bounded-mask-spec =
+pub bounded_mask_spec : {M : Type 1} → statement M
+bounded_mask_spec =
     tie.close
     (tie.spec
     invariant-loop

@@ -11,12 +11,12 @@ use Prim.Native.Nat.{◌-◌}
 use Rattle.gates.proofs.delayed.Statement.{statement}
 use Rattle.gates.proofs.delayed.Tie as tie
 
-abbrev invariant-loop : tie.invariant-loop
+abbrev invariant-loop : tie.invariant-loop-j
 invariant-loop places transitions initial capacity rate delay arcs kind place weight j₀ j =
     let net = lent places transitions initial capacity rate delay arcs kind place weight in
     any timed (transitions_from net j (transitions - j)) ≡ any timed (transitions_from net 0 transitions)
 
-abbrev decreases-loop : tie.decreases-loop
+abbrev decreases-loop : tie.decreases-loop-j
 decreases-loop places transitions initial capacity rate delay arcs kind place weight j₀ j = transitions - j
 
 abbrev net_at : tie.Start invariant-loop decreases-loop → NetRecord
@@ -24,38 +24,38 @@ net_at s =
     lent s.args.places s.args.transitions s.args.initial.now s.args.capacity.now s.args.rate.now s.args.delay.now
     s.args.arcs.now s.args.kind.now s.args.place.now s.args.weight.now
 
-loop-holds : tie.Need-loop-init invariant-loop decreases-loop
+loop-holds : tie.Need-loop-j-init invariant-loop decreases-loop
 loop-holds c = any_whole timed (net_at c) c.args.transitions
 
-mul-if1 : tie.Need-overflow-mul-if1 invariant-loop decreases-loop
+mul-if1 : tie.Need-offset_bounds-delay-j invariant-loop decreases-loop
 mul-if1 c = search rules
 
-element-copy-out-if1 : tie.Need-element-copy-out-if1 invariant-loop decreases-loop
+element-copy-out-if1 : tie.Need-bounds-delay-j invariant-loop decreases-loop
 element-copy-out-if1 c = search rules
 
-returns : tie.Need-returns invariant-loop decreases-loop
+returns : tie.Need-returns-then-delay-j invariant-loop decreases-loop
 returns c =
     let l = c.before.before.before in
-    any_stop timed (net_at l.before) l.loop.j l.before.args.transitions l.loop.invariant c.before.before.loop-test.true c.if1.true
+    any_stop timed (net_at l.before) l.loop-j.j l.args.transitions l.loop-j.invariant c.loop-j-test.true c.if-delay-j.true
 
-add-j : tie.Need-overflow-add-j invariant-loop decreases-loop
+add-j : tie.Need-overflow_add-j invariant-loop decreases-loop
 add-j c = search rules
 
-loop-less : tie.Need-loop-smaller invariant-loop decreases-loop
+loop-less : tie.Need-loop-j-smaller invariant-loop decreases-loop
 loop-less c = search rules
 
-loop-again : tie.Need-loop-preserved invariant-loop decreases-loop
+loop-again : tie.Need-loop-j-preserved invariant-loop decreases-loop
 loop-again c =
     let l = c.before.before.before in
-    any_go timed (net_at l.before) l.loop.j l.before.args.transitions l.loop.invariant c.before.before.loop-test.true c.if1.false
+    any_go timed (net_at l.before) l.loop-j.j l.args.transitions l.loop-j.invariant c.loop-j-test.true c.if-delay-j.false
 
-returns-2 : tie.Need-returns-2 invariant-loop decreases-loop
+returns-2 : tie.Need-returns invariant-loop decreases-loop
 returns-2 c =
     let l = c.before in
-    any_end timed (net_at l.before) l.loop.j l.before.args.transitions l.loop.invariant c.loop-test.false
+    any_end timed (net_at l.before) l.loop-j.j l.args.transitions l.loop-j.invariant c.loop-j-test.false
 
-pub delayed-spec : {M : Type 1} → statement M
-delayed-spec =
+pub delayed_spec : {M : Type 1} → statement M
+delayed_spec =
     tie.close
     (tie.spec
     invariant-loop

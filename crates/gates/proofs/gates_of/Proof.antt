@@ -11,28 +11,28 @@ net_at s =
     lent s.args.places s.args.transitions s.args.initial.now s.args.capacity.now s.args.rate.now s.args.delay.now
     s.args.arcs.now s.args.kind.now s.args.place.now s.args.weight.now
 
-count-requires : tie.Need-count-requires
+count-requires : tie.Need-count-reads-requires
 count-requires c κs = search rules
 
-count-requires-2 : tie.Need-count-requires-2
+count-requires-2 : tie.Need-count-inhibitors-requires
 count-requires-2 c κs = search rules
 
-count-requires-3 : tie.Need-count-requires-3
+count-requires-3 : tie.Need-count-nonkinetic-requires
 count-requires-3 c κs = search rules
 
-bounded-mask-requires : tie.Need-bounded-mask-requires
+bounded-mask-requires : tie.Need-bounded_mask-bounded-requires
 bounded-mask-requires c κs = search rules
 
-delayed-requires : tie.Need-delayed-requires
+delayed-requires : tie.Need-delayed-late-requires
 delayed-requires c κs = search rules
 
 returns : tie.Need-returns
 returns c =
     let s = c.before.before.before.before.before in
-    gates_all (net_at s) _ s.requires.places c.before.before.before.before.count.ensures c.before.before.before.count2.ensures c.before.before.count3.ensures c.before.bounded-mask.ensures c.delayed.ensures
+    gates_all (net_at s) _ s.requires.places c.count-reads.ensures c.count-inhibitors.ensures c.count-nonkinetic.ensures c.bounded_mask-bounded.ensures c.delayed-late.ensures
 
-pub gates-of-spec : {M : Type 1} → statement M
-gates-of-spec =
+pub gates_of_spec : {M : Type 1} → statement M
+gates_of_spec =
     tie.close
     (tie.spec
     count-requires

@@ -9,38 +9,38 @@ use borrow.Author.Rules.{rules}
 use Rattle.index.proofs.index_of.Statement.{statement}
 use Rattle.index.proofs.index_of.Tie as tie
 
-accepted : (c : tie.After-enum-told) → fault c.before.before.before.args.net ≡ none
-accepted c = sym c.before.before.test-net.ensures ∙ ap meaning c.enum_told.given.1
+accepted : (c : tie.In_default) → fault c.args.net ≡ none
+accepted c = sym c.test_net.ensures ∙ ap meaning c.in_default.is
 
-test-net-requires : tie.Need-test-net-requires
+test-net-requires : tie.Need-test_net-requires
 test-net-requires c κs = search rules
 
-enum-known-c : tie.Need-enum-known-c
+enum-known-c : tie.Need-enum_known-c
 enum-known-c c = search rules
 
-returns : tie.Need-returns
+returns : tie.Need-returns-in-Refused
 returns c =
-    let t = c.before.before.before in
-    (sym t.test-net.ensures ∙ ap meaning c.before.c.given.1, refl)
+    let t = c.before in
+    (sym t.test_net.ensures ∙ ap meaning c.in-Refused.is, refl)
 
-enum_told : tie.Need-enum-told
+enum_told : tie.Need-enum_told-1
 enum_told c = search rules
 
-tidied-requires : tie.Need-tidied-requires
+tidied-requires : tie.Need-tidied-n-requires
 tidied-requires c κs = accepted c
 
-listed-words-requires : tie.Need-listed-words-requires
+listed-words-requires : tie.Need-listed_words-requires
 listed-words-requires c κs =
     let t = c.before.before.before.before.before.before.before.before.before in
     tidy_unlabelled t.tidied.result t.tidied.ensures.1
 
-returns-2 : tie.Need-returns-2
+returns-2 : tie.Need-returns
 returns-2 c =
     let t = c.before.before.before.before.before.before.before.before.before.before in
-    (accepted t.before, subst (λ (n : Net). Lists n c.listed-words.result) t.tidied.ensures.0 c.listed-words.ensures)
+    (accepted t, subst (λ (n : Net). Lists n c.listed_words.result) t.tidied.ensures.0 c.listed_words.ensures)
 
-pub index-of-spec : {M : Type 1} → statement M
-index-of-spec =
+pub index_of_spec : {M : Type 1} → statement M
+index_of_spec =
     tie.close
     (tie.spec
     test-net-requires

@@ -16,39 +16,39 @@ net s =
     s.args.rate.now s.args.delay.now s.args.arcs.now s.args.kind.now s.args.place.now s.args.weight.now
 
 -- the places have no fault
-fine : (c : tie.After-enum-told)
-    → let s = c.before.before.before.args in
+fine : (c : tie.In_default)
+    → let s = c.args in
     places_fault s.initial.now s.capacity.now s.label.now s.lengths.now 0 s.places ≡ none
-fine c = sym c.before.before.places-fault.ensures ∙ ap meaning c.enum_told.given.1
+fine c = sym c.places_fault.ensures ∙ ap meaning c.in_default.is
 
-places-fault-requires : tie.Need-places-fault-requires
+places-fault-requires : tie.Need-places_fault-requires
 places-fault-requires c κs = search rules
 
-enum-known-c : tie.Need-enum-known-c
+enum-known-c : tie.Need-enum_known-c
 enum-known-c c = search rules
 
-returns : tie.Need-returns
+returns : tie.Need-returns-in-Refused
 returns c =
-    let m = c.before in
-    let a = m.before.before in
-    by_place (net a.before) (sym a.places-fault.ensures ∙ ap meaning m.c.given.1)
+    let m = c in
+    let a = m.before in
+    by_place (net a.before) (sym a.places_fault.ensures ∙ ap meaning m.in-Refused.is)
 
-enum_told : tie.Need-enum-told
+enum_told : tie.Need-enum_told-1
 enum_told c = search rules
 
-returns-2 : tie.Need-returns-2
-returns-2 c = by_none (net c.before.before.before.before) (fine c.before) c.if1.true
+returns-2 : tie.Need-returns-then-places-eq0
+returns-2 c = by_none (net c.before.before.before) (fine c.before) c.if-places-eq0.true
 
-transitions-fault-requires : tie.Need-transitions-fault-requires
+transitions-fault-requires : tie.Need-transitions_fault-requires
 transitions-fault-requires c κs = search rules
 
-returns-3 : tie.Need-returns-3
+returns-3 : tie.Need-returns
 returns-3 c =
     let e = c.before in
-    by_moves (net e.before.before.before.before) (fine e.before) e.if1.false c.transitions-fault.ensures
+    by_moves (net e.before.before.before) (fine e.before) e.if-places-eq0.false c.transitions_fault.ensures
 
-pub fields-fault-spec : {M : Type 1} → statement M
-fields-fault-spec =
+pub fields_fault_spec : {M : Type 1} → statement M
+fields_fault_spec =
     tie.close
     (tie.spec
     places-fault-requires

@@ -10,98 +10,98 @@ use Rattle.pathrun_text.proofs.Called.{as_lent, turned_down, stopped_run, averag
 use Rattle.pathrun_text.proofs.run.Statement.{statement}
 use Rattle.pathrun_text.proofs.run.Tie as tie
 
-module _ (e : tie.After-ensemble) where
+module _ (e : tie.After-ensemble-answer) where
   abbrev start : tie.Start
   start = e.before.before.before.before.before.before.before.before.before.before.before
 
   abbrev mean : List Float
-  mean = e.ensemble.last.1.1.1.1.1.0
+  mean = e.ensemble-answer.last.1.1.1.1.1.0
 
   abbrev deviation : List Float
-  deviation = e.ensemble.last.1.1.1.1.1.1.0
+  deviation = e.ensemble-answer.last.1.1.1.1.1.1.0
 
   abbrev path : List Float
-  path = e.ensemble.last.1.1.1.1.1.1.1.0
+  path = e.ensemble-answer.last.1.1.1.1.1.1.1.0
 
   -- the call, as the definition has it
-  call : call_of e.ensemble.result mean deviation path ≡ called start.args.net (request (run_of start.args.asked)) tables
+  call : call_of e.ensemble-answer.result mean deviation path ≡ called start.args.net (request (run_of start.args.asked)) tables
   call =
-      as_lent start.args.net start.args.asked e.before.before.before.before.float_of.ensures e.before.before.before.before.before.before.before.before.before.table.ensures e.before.before.before.before.before.before.before.before.table2.ensures e.before.before.before.before.before.before.before.table3.ensures e.ensemble.ensures
+      as_lent start.args.net start.args.asked e.float_of-horizon.ensures e.table-mean.ensures e.table-deviation.ensures e.table-path.ensures e.ensemble-answer.ensures
 
-table-requires : tie.Need-table-requires
+table-requires : tie.Need-table-mean-requires
 table-requires c κs = search rules
 
-table-requires-2 : tie.Need-table-requires-2
+table-requires-2 : tie.Need-table-deviation-requires
 table-requires-2 c κs = search rules
 
-table-requires-3 : tie.Need-table-requires-3
+table-requires-3 : tie.Need-table-path-requires
 table-requires-3 c κs = search rules
 
-float-of-requires : tie.Need-float-of-requires
+float-of-requires : tie.Need-float_of-horizon-requires
 float-of-requires c κs = search rules
 
-slice-aggregate-ensemble : tie.Need-slice-aggregate-ensemble
+slice-aggregate-ensemble : tie.Need-slice_bounds-ensemble-end
 slice-aggregate-ensemble c = search rules
 
-slice-aggregate-ensemble-2 : tie.Need-slice-aggregate-ensemble-2
+slice-aggregate-ensemble-2 : tie.Need-slice_bounds-ensemble-end-2
 slice-aggregate-ensemble-2 c = search rules
 
-slice-aggregate-ensemble-3 : tie.Need-slice-aggregate-ensemble-3
+slice-aggregate-ensemble-3 : tie.Need-slice_bounds-ensemble-end-3
 slice-aggregate-ensemble-3 c = search rules
 
-ensemble-requires : tie.Need-ensemble-requires
+ensemble-requires : tie.Need-ensemble-answer-requires
 ensemble-requires c κs = search rules
 
-enum-known-answer : tie.Need-enum-known-answer
+enum-known-answer : tie.Need-enum_known-answer
 enum-known-answer c = search rules
 
 refused-requires : tie.Need-refused-requires
 refused-requires c κs = search rules
 
-enum-known-answer-2 : tie.Need-enum-known-answer-2
+enum-known-answer-2 : tie.Need-enum_known-answer-in-Stopped-1
 enum-known-answer-2 c = search rules
 
-refused-requires-2 : tie.Need-refused-requires-2
+refused-requires-2 : tie.Need-refused-requires-in-Stopped
 refused-requires-2 c κs = search rules
 
-enum_told : tie.Need-enum-told
+enum_told : tie.Need-enum_told-1
 enum_told c = search rules
 
-slice-aggregate-result : tie.Need-slice-aggregate-result
+slice-aggregate-result : tie.Need-slice_bounds-result-end
 slice-aggregate-result c = search rules
 
-slice-aggregate-result-2 : tie.Need-slice-aggregate-result-2
+slice-aggregate-result-2 : tie.Need-slice_bounds-result-end-in-Averaged
 slice-aggregate-result-2 c = search rules
 
 result-requires : tie.Need-result-requires
 result-requires c κs =
-    let e = c.before.before.before.before.before.before.before.before.before.before in
-    let fits = bounds (start e).args.net (start e).args.asked e.ensemble.result (mean e) (deviation e) (path e) (start e).requires.1 (call e) _ _ c.before.before.before.before.before.enum_told.given.1 in
+    let e = c.before.before.before.before.before.before.before.before.before in
+    let fits = bounds (start e).args.net (start e).args.asked e.ensemble-answer.result (mean e) (deviation e) (path e) (start e).requires.1 (call e) _ _ c.in-Averaged.is in
     (search rules, fits.0, fits.1, fits.2, search rules, search rules)
 
-same_length : tie.Need-same-length
+same_length : tie.Need-shape_of-out-in-TurnedDown
 same_length c = search rules
 
-returns : tie.Need-returns
+returns : tie.Need-returns-in-TurnedDown
 returns c =
-    let e = c.before.before.before.before.before.before.before.before.before.before in
-    turned_down (start e).args.net (start e).args.asked e.ensemble.result (mean e) (deviation e) (path e) (start e).requires.1 (call e) _ c.before.before.before.before.before.answer.given.1 (start e).args.out.now c.before.before.refused.ensures
+    let e = c.before.before.before.before.before.before.before.before in
+    turned_down (start e).args.net (start e).args.asked e.ensemble-answer.result (mean e) (deviation e) (path e) (start e).requires.1 (call e) _ c.in-TurnedDown.is (start e).args.out.now c.refused.ensures
 
-same-length-2 : tie.Need-same-length-2
+same-length-2 : tie.Need-shape_of-out-in-Stopped
 same-length-2 c = search rules
 
-returns-2 : tie.Need-returns-2
+returns-2 : tie.Need-returns-in-Stopped
 returns-2 c =
-    let e = c.before.before.before.before.before.before.before.before.before.before in
-    stopped_run (start e).args.net (start e).args.asked e.ensemble.result (mean e) (deviation e) (path e) (start e).requires.1 (call e) _ _ c.before.before.before.before.before.answer2.given.1 (start e).args.out.now c.before.before.refused2.ensures
+    let e = c.before.before.before.before.before.before.before.before in
+    stopped_run (start e).args.net (start e).args.asked e.ensemble-answer.result (mean e) (deviation e) (path e) (start e).requires.1 (call e) _ _ c.in-Stopped.is (start e).args.out.now c.refused-in-Stopped.ensures
 
-same-length-3 : tie.Need-same-length-3
+same-length-3 : tie.Need-shape_of-out-in-Averaged
 same-length-3 c = search rules
 
-returns-3 : tie.Need-returns-3
+returns-3 : tie.Need-returns-in-Averaged
 returns-3 c =
-    let e = c.before.before.before.before.before.before.before.before.before.before.before.before.before in
-    averaged_run (start e).args.net (start e).args.asked e.ensemble.result (mean e) (deviation e) (path e) (start e).requires.1 (call e) _ _ c.before.before.before.before.before.before.before.before.enum_told.given.1 (start e).args.out.now c.before.before.result.ensures
+    let e = c.before.before.before.before.before.before.before.before.before.before.before.before in
+    averaged_run (start e).args.net (start e).args.asked e.ensemble-answer.result (mean e) (deviation e) (path e) (start e).requires.1 (call e) _ _ c.in-Averaged.is (start e).args.out.now c.result.ensures
 
 pub run_spec : {M : Type 1} → statement M
 run_spec =

@@ -15,17 +15,23 @@ use Rattle.portable_log.proofs.difference.Tie as tie
 small : (c : tie.Start) → mag (to_z w32 c.args.a -ℤ to_z w32 c.args.b) < 2 ^ 31
 small c = rw (to_z_pos w32 {n = c.args.a} (omega arith), to_z_pos w32 {n = c.args.b} (omega arith)) (mag_diff c.args.a c.args.b (2 ^ 31) (omega arith) (omega arith))
 
-cast-result : tie.Need-overflow-cast-result
+cast-result : tie.Need-overflow_cast-result
 cast-result c = search rules
 
-cast-result-2 : tie.Need-overflow-cast-result-2
+cast-result-2 : tie.Need-overflow_cast-result-2
 cast-result-2 c = search rules
 
-sub-result : tie.Need-overflow-sub-result
+sub-result : tie.Need-overflow_sub-result
 sub-result c = record { sfits = small c }
 
 returns : tie.Need-returns
 returns c = to_z-of_z (sub-result c) ∙ (λ i. to_z_pos w32 {n = c.args.a} (omega arith) i -ℤ to_z_pos w32 {n = c.args.b} (omega arith) i)
 
-pub difference-spec : {M : Type 1} → statement M
-difference-spec = tie.close (tie.spec cast-result cast-result-2 sub-result returns)
+pub difference_spec : {M : Type 1} → statement M
+difference_spec =
+    tie.close
+    (tie.spec
+    cast-result
+    cast-result-2
+    sub-result
+    returns)

@@ -12,26 +12,26 @@ use borrow.Author.Rules.{rules}
 use Rattle.portable_log.proofs.scaled_log.Statement.{statement}
 use Rattle.portable_log.proofs.scaled_log.Tie as tie
 
-one-if-requires : tie.Need-one-if-requires
+one-if-requires : tie.Need-one_if-d-requires
 one-if-requires c κs = search rules
 
-is_twofold : (c : tie.After-one-if) → c.one_if.result ≡ twofold (c.before.args.b % 2 ^ 52)
-is_twofold c = c.one_if.ensures ∙ ap twofold (and_mask c.before.args.b 52)
+is_twofold : (c : tie.After-one_if-d) → c.one_if-d.result ≡ twofold (c.args.b % 2 ^ 52)
+is_twofold c = c.one_if-d.ensures ∙ ap twofold (and_mask c.args.b 52)
 
-small : (c : tie.After-one-if) → c.one_if.result < 2
-small c = rw (is_twofold c) (twofold_lt (c.before.args.b % 2 ^ 52))
+small : (c : tie.After-one_if-d) → c.one_if-d.result < 2
+small c = rw (is_twofold c) (twofold_lt (c.args.b % 2 ^ 52))
 
-add-f : tie.Need-overflow-add-f
+add-f : tie.Need-overflow_add-f
 add-f c = let d = small c in search rules
 
-float-from-bits-f : tie.Need-float-from-bits-f
+float-from-bits-f : tie.Need-float_from_bits-f
 float-from-bits-f c =
-    rw (put_under c.before.args.b c.one_if.result (small c)) (under_is_no_nan (c.before.args.b % 2 ^ 52) c.one_if.result (omega arith) (small c))
+    rw (put_under c.args.b c.one_if-d.result (small c)) (under_is_no_nan (c.args.b % 2 ^ 52) c.one_if-d.result (omega arith) (small c))
 
-add-difference : tie.Need-overflow-add-difference
+add-difference : tie.Need-overflow_add-scale
 add-difference c = let d = small c in search rules
 
-add-difference-2 : tie.Need-overflow-add-difference-2
+add-difference-2 : tie.Need-overflow_add-scale-2
 add-difference-2 c = let d = small c in search rules
 
 difference-requires : tie.Need-difference-requires
@@ -44,14 +44,14 @@ returns : tie.Need-returns
 returns c =
     let e = c.before in
     let o = e.before in
-    let b = o.before.args.b in
-    let k = o.before.args.scale in
-    let frac = put_under b o.one_if.result (small o) ∙ ap (λ (d : ℕ). (1022 + d) * 2 ^ 52 + b % 2 ^ 52) (is_twofold o) in
-    let exp = to_z-of_z {w = w32} (record { sfits = e.difference.type-inv }) ∙ rw (is_twofold o) at e.difference.ensures in
-    c.combine.ensures ∙ (λ i. combine (of_bits binary64 (frac i)) (exp i)) ∙ by_digits k b o.before.requires.0
+    let b = o.args.b in
+    let k = o.args.scale in
+    let frac = put_under b o.one_if-d.result (small o) ∙ ap (λ (d : ℕ). (1022 + d) * 2 ^ 52 + b % 2 ^ 52) (is_twofold o) in
+    let exp = to_z-of_z {w = w32} (record { sfits = e.difference.type_inv }) ∙ rw (is_twofold o) at e.difference.ensures in
+    c.combine.ensures ∙ (λ i. combine (of_bits binary64 (frac i)) (exp i)) ∙ by_digits k b o.requires.0
 
-pub scaled-log-spec : {M : Type 1} → statement M
-scaled-log-spec =
+pub scaled_log_spec : {M : Type 1} → statement M
+scaled_log_spec =
     tie.close
     (tie.spec
     one-if-requires

@@ -20,42 +20,42 @@ net_at s =
     s.args.rate.now s.args.delay.now s.args.arcs.now s.args.kind.now s.args.place.now s.args.weight.now
 
 -- what is known once the net has passed
-accepted : (c : tie.After-enum-told) → fault (net_at c.before.before.before.before) ≡ none
-accepted c = sym c.before.before.fields-fault.ensures ∙ ap meaning c.enum_told.given.1
+accepted : (c : tie.In_default) → fault (net_at c.before.before.before) ≡ none
+accepted c = sym c.fields_fault.ensures ∙ ap meaning c.in_default.is
 
-fields-fault-requires : tie.Need-fields-fault-requires
+fields-fault-requires : tie.Need-fields_fault-requires
 fields-fault-requires c κs = search rules
 
-enum-known-c : tie.Need-enum-known-c
+enum-known-c : tie.Need-enum_known-c
 enum-known-c c = search rules
 
-returns : tie.Need-returns
+returns : tie.Need-returns-in-Refused
 returns c =
-    let s = c.before.before.before.before.before in
-    by_fault (net_at s) s.args.out.now (sym c.before.before.before.fields-fault.ensures ∙ ap meaning c.before.c.given.1)
+    let s = c.before.before.before in
+    by_fault (net_at s) s.args.out.now (sym c.fields_fault.ensures ∙ ap meaning c.in-Refused.is)
 
-enum_told : tie.Need-enum-told
+enum_told : tie.Need-enum_told-1
 enum_told c = search rules
 
-gates-of-requires : tie.Need-gates-of-requires
-gates-of-requires c κs = unlabelled (net_at c.before.before.before.before) (sound (net_at c.before.before.before.before) (accepted c))
+gates-of-requires : tie.Need-gates_of-g-requires
+gates-of-requires c κs = unlabelled (net_at c.before.before.before) (sound (net_at c.before.before.before) (accepted c))
 
-write-reason-requires : tie.Need-write-reason-requires
+write-reason-requires : tie.Need-write_reason-requires
 write-reason-requires c κs = search rules
 
-same_length : tie.Need-same-length
+same_length : tie.Need-shape_of-out
 same_length c = search rules
 
-returns-2 : tie.Need-returns-2
+returns-2 : tie.Need-returns
 returns-2 c =
-    let s = c.before.before.before.before.before.before.before.before.before in
+    let s = c.before.before.before.before.before.before.before.before in
     let a = s.args in
     by_text (net_at s) a.out.now (accepted c.before.before.before.before.before)
-    (c.before.before.write-reason.ensures
-    ∙ ap (λ (g : Gates). answered a.out.now (reason_text (reasons (label_at a.label.now a.lengths.now) g))) c.before.before.before.before.gates-of.ensures)
+    (c.write_reason.ensures
+    ∙ ap (λ (g : Gates). answered a.out.now (reason_text (reasons (label_at a.label.now a.lengths.now) g))) c.gates_of-g.ensures)
 
-pub lent-reason-spec : {M : Type 1} → statement M
-lent-reason-spec =
+pub lent_reason_spec : {M : Type 1} → statement M
+lent_reason_spec =
     tie.close
     (tie.spec
     fields-fault-requires

@@ -16,83 +16,71 @@ use Rattle.result_text.proofs.result_line.Statement.{statement}
 use Rattle.result_text.proofs.result_line.Tie as tie
 
 -- each number has at most 20 digits
-short : (c : tie.After-decimal-length3) → (c.before.before.decimal_length.result ≤ 20) × (c.before.decimal-length2.result ≤ 20) × (c.decimal-length3.result ≤ 20)
+short : (c : tie.After-decimal_length-n) → (c.decimal_length-p.result ≤ 20) × (c.decimal_length-s.result ≤ 20) × (c.decimal_length-n.result ≤ 20)
 short c =
-    let a = c.before.before.before.before.args in
-    let r = c.before.before.before.before.ranges in (
-      omega (arith, c.before.before.decimal_length.ensures, decimal_short a.places r.places.fits),
-      omega (arith, c.before.decimal-length2.ensures, decimal_short a.samples r.samples.fits),
-      omega (arith, c.decimal-length3.ensures, decimal_short a.realizations r.realizations.fits),
+    let a = c.args in
+    let r = c.ranges in (
+      omega (arith, c.decimal_length-p.ensures, decimal_short a.places r.places.fits),
+      omega (arith, c.decimal_length-s.ensures, decimal_short a.samples r.samples.fits),
+      omega (arith, c.decimal_length-n.ensures, decimal_short a.realizations r.realizations.fits),
     )
 
 -- the test's number is the line's length
-long : (c : tie.After-decimal-length3)
-    → c.before.before.decimal_length.result + c.before.decimal-length2.result + c.decimal-length3.result + 12
-    ≡ length (result_line c.before.before.before.before.args.places c.before.before.before.before.args.samples c.before.before.before.before.args.realizations)
-long c = result_length c.before.before.before.before.args.places c.before.before.before.before.args.samples c.before.before.before.before.args.realizations
-    c.before.before.decimal_length.ensures c.before.decimal-length2.ensures c.decimal-length3.ensures
+long : (c : tie.After-decimal_length-n)
+    → c.decimal_length-p.result + c.decimal_length-s.result + c.decimal_length-n.result + 12
+    ≡ length (result_line c.args.places c.args.samples c.args.realizations)
+long c = result_length c.args.places c.args.samples c.args.realizations
+    c.decimal_length-p.ensures c.decimal_length-s.ensures c.decimal_length-n.ensures
 
-decimal-length-requires : tie.Need-decimal-length-requires
+decimal-length-requires : tie.Need-decimal_length-p-requires
 decimal-length-requires c κs = tt
 
-decimal-length-requires-2 : tie.Need-decimal-length-requires-2
+decimal-length-requires-2 : tie.Need-decimal_length-s-requires
 decimal-length-requires-2 c κs = tt
 
-decimal-length-requires-3 : tie.Need-decimal-length-requires-3
+decimal-length-requires-3 : tie.Need-decimal_length-n-requires
 decimal-length-requires-3 c κs = tt
 
-add-has-room : tie.Need-overflow-add-has-room
+add-has-room : tie.Need-overflow_add-p
 add-has-room c = omega (arith, short c)
 
-add-has-room-2 : tie.Need-overflow-add-has-room-2
+add-has-room-2 : tie.Need-overflow_add-p-2
 add-has-room-2 c = omega (arith, short c)
 
-add-has-room-3 : tie.Need-overflow-add-has-room-3
+add-has-room-3 : tie.Need-overflow_add-p-3
 add-has-room-3 c = omega (arith, short c)
 
-has-room-requires : tie.Need-has-room-requires
+has-room-requires : tie.Need-has_room-requires
 has-room-requires c κs = tt
 
-slice-aggregate-put-bytes : tie.Need-slice-aggregate-put-bytes
-slice-aggregate-put-bytes c = refl
-
-put-bytes-requires : tie.Need-put-bytes-requires
+put-bytes-requires : tie.Need-put_bytes-a-requires
 put-bytes-requires c κs = tt
 
-then-decimal-requires : tie.Need-then-decimal-requires
+then-decimal-requires : tie.Need-then_decimal-b-requires
 then-decimal-requires c κs = tt
 
-slice-aggregate-then-bytes : tie.Need-slice-aggregate-then-bytes
-slice-aggregate-then-bytes c = refl
-
-then-bytes-requires : tie.Need-then-bytes-requires
+then-bytes-requires : tie.Need-then_bytes-c-requires
 then-bytes-requires c κs = tt
 
-then-decimal-requires-2 : tie.Need-then-decimal-requires-2
+then-decimal-requires-2 : tie.Need-then_decimal-d-requires
 then-decimal-requires-2 c κs = tt
 
-slice-aggregate-then-bytes-2 : tie.Need-slice-aggregate-then-bytes-2
-slice-aggregate-then-bytes-2 c = refl
-
-then-bytes-requires-2 : tie.Need-then-bytes-requires-2
+then-bytes-requires-2 : tie.Need-then_bytes-e-requires
 then-bytes-requires-2 c κs = tt
 
-then-decimal-requires-3 : tie.Need-then-decimal-requires-3
+then-decimal-requires-3 : tie.Need-then_decimal-f-requires
 then-decimal-requires-3 c κs = tt
 
-slice-aggregate-then-bytes-3 : tie.Need-slice-aggregate-then-bytes-3
-slice-aggregate-then-bytes-3 c = refl
-
-then-bytes-requires-3 : tie.Need-then-bytes-requires-3
+then-bytes-requires-3 : tie.Need-then_bytes-requires
 then-bytes-requires-3 c κs = tt
 
-same_length : tie.Need-same-length
+same_length : tie.Need-shape_of-out-then-has_room
 same_length c = search rules
 
-returns : tie.Need-returns
+returns : tie.Need-returns-then-has_room
 returns c =
     let t = c.before.before.before.before.before.before.before.before.before.before.before.before.before.before.before.before.before.before.before.before.before.before.before.before.before.before.before.before.before.before.before.before in
-    let a = t.before.before.before.before.before.before.args in
+    let a = t.args in
     let out = a.out.now in
     let at = a.at in
     let w1 : Bytes = bytes "(result " in
@@ -102,29 +90,29 @@ returns c =
     let w5 : Bytes = w4 ++ bytes " " in
     let w6 : Bytes = w5 ++ decimal_text a.realizations in
     let n = t.before.before in
-    let room : at + (n.before.before.decimal_length.result + n.before.decimal-length2.result + n.decimal-length3.result + 12) ≤ length out =
-    within _ _ t.before.has_room.ensures t.if1.true in
-    let f7 : at + length (w6 ++ bytes ")\n") ≤ length out = rw (long n) at room in
+    let room : at + (n.decimal_length-p.result + n.decimal_length-s.result + n.decimal_length-n.result + 12) ≤ length out =
+    within _ _ t.has_room.ensures t.if-has_room.true in
+    let f7 : at + length (w6 ++ bytes ")\n") ≤ length out = rw (long n.before.before.before.before) at room in
     let f6 : at + length w6 ≤ length out = front_fits at w6 (bytes ")\n") f7 in
     let f5 : at + length w5 ≤ length out = front_fits at w5 (decimal_text a.realizations) f6 in
     let f4 : at + length w4 ≤ length out = front_fits at w4 (bytes " ") f5 in
     let f3 : at + length w3 ≤ length out = front_fits at w3 (decimal_text a.samples) f4 in
     let f2 : at + length w2 ≤ length out = front_fits at w2 (bytes " ") f3 in
-    let s2 = part out at w1 (decimal_text a.places) f2 c.before.before.before.before.before.before.before.before.before.before.before.before.before.before.before.before.before.before.before.before.before.before.before.before.before.before.before.before.before.put-bytes.ensures c.before.before.before.before.before.before.before.before.before.before.before.before.before.before.before.before.before.before.before.before.before.before.before.before.before.then-decimal.ensures in
-    let s3 = part out at w2 (bytes " ") f3 s2 c.before.before.before.before.before.before.before.before.before.before.before.before.before.before.before.before.before.before.before.before.then-bytes.ensures in
-    let s4 = part out at w3 (decimal_text a.samples) f4 s3 c.before.before.before.before.before.before.before.before.before.before.before.before.before.before.before.before.then-decimal2.ensures in
-    let s5 = part out at w4 (bytes " ") f5 s4 c.before.before.before.before.before.before.before.before.before.before.before.then-bytes2.ensures in
-    let s6 = part out at w5 (decimal_text a.realizations) f6 s5 c.before.before.before.before.before.before.before.then-decimal3.ensures in
-    part out at w6 (bytes ")\n") f7 s6 c.before.before.then-bytes3.ensures
+    let s2 = part out at w1 (decimal_text a.places) f2 c.put_bytes-a.ensures c.then_decimal-b.ensures in
+    let s3 = part out at w2 (bytes " ") f3 s2 c.then_bytes-c.ensures in
+    let s4 = part out at w3 (decimal_text a.samples) f4 s3 c.then_decimal-d.ensures in
+    let s5 = part out at w4 (bytes " ") f5 s4 c.then_bytes-e.ensures in
+    let s6 = part out at w5 (decimal_text a.realizations) f6 s5 c.then_decimal-f.ensures in
+    part out at w6 (bytes ")\n") f7 s6 c.then_bytes.ensures
 
-returns-2 : tie.Need-returns-2
+returns-2 : tie.Need-returns
 returns-2 c =
-    let a = c.before.before.before.before.before.before.args in
+    let a = c.args in
     unfitted a.out.now a.at _ (result_line a.places a.samples a.realizations) (long c.before.before)
-    (outside _ _ c.before.has_room.ensures c.if1.false)
+    (outside _ _ c.has_room.ensures c.if-has_room.false)
 
-pub result-line-spec : {M : Type 1} → statement M
-result-line-spec =
+pub result_line_spec : {M : Type 1} → statement M
+result_line_spec =
     tie.close
     (tie.spec
     decimal-length-requires
@@ -134,16 +122,12 @@ result-line-spec =
     add-has-room-2
     add-has-room-3
     has-room-requires
-    slice-aggregate-put-bytes
     put-bytes-requires
     then-decimal-requires
-    slice-aggregate-then-bytes
     then-bytes-requires
     then-decimal-requires-2
-    slice-aggregate-then-bytes-2
     then-bytes-requires-2
     then-decimal-requires-3
-    slice-aggregate-then-bytes-3
     then-bytes-requires-3
     same_length
     returns

@@ -6,41 +6,41 @@ use Rattle.root.proofs.Patterns.{Moved, moved, root_of_small, root_of_normal}
 use Rattle.root.proofs.slow_positive.Statement.{statement}
 use Rattle.root.proofs.slow_positive.Tie as tie
 
-mv : (c : tie.Then1) → Moved c.before.args.b c.before.requires.0 (omega arith)
-mv c = moved c.before.args.b c.before.requires.0 (omega arith)
+mv : (c : tie.Then-e-eq0) → Moved c.args.b c.requires.0 (omega arith)
+mv c = moved c.args.b c.requires.0 (omega arith)
 
-cast-s : tie.Need-overflow-cast-s
+cast-s : tie.Need-overflow_cast-s
 cast-s c = omega (arith, (mv c).few, (mv c).enough)
 
-sub-s : tie.Need-overflow-sub-s
+sub-s : tie.Need-overflow_sub-s
 sub-s c = omega (arith, (mv c).few, (mv c).enough)
 
-shl-slow-in : tie.Need-overflow-shl-slow-in
+shl-slow-in : tie.Need-overflow_shl-b
 shl-slow-in c = omega (arith, (mv c).few, (mv c).enough)
 
-sub-slow-in : tie.Need-overflow-sub-slow-in
+sub-slow-in : tie.Need-overflow_sub-s-then-e-eq0
 sub-slow-in c = omega (arith, (mv c).few, (mv c).enough)
 
-slow-in-requires : tie.Need-slow-in-requires
+slow-in-requires : tie.Need-slow_in-requires
 slow-in-requires c κs = ((mv c).long, (mv c).short, omega (arith, (mv c).few, (mv c).enough), omega (arith, (mv c).few, (mv c).enough))
 
-returns : tie.Need-returns
-returns c = c.slow-in.ensures ∙ ap root_in (mv c.before).same ∙ sym (root_of_small c.before.before.args.b c.before.before.requires.0 (omega arith))
+returns : tie.Need-returns-then-e-eq0
+returns c = c.slow_in.ensures ∙ ap root_in (mv c.before).same ∙ sym (root_of_small c.args.b c.requires.0 (omega arith))
 
-add-slow-in : tie.Need-overflow-add-slow-in
+add-slow-in : tie.Need-overflow_add-b
 add-slow-in c = search rules
 
-add-slow-in-2 : tie.Need-overflow-add-slow-in-2
+add-slow-in-2 : tie.Need-overflow_add-e
 add-slow-in-2 c = search rules
 
-slow-in-requires-2 : tie.Need-slow-in-requires-2
+slow-in-requires-2 : tie.Need-slow_in-requires-2
 slow-in-requires-2 c κs = search rules
 
-returns-2 : tie.Need-returns-2
-returns-2 c = c.slow-in2.ensures ∙ sym (root_of_normal c.before.before.args.b (omega arith) c.before.before.requires.1)
+returns-2 : tie.Need-returns
+returns-2 c = c.slow_in-2.ensures ∙ sym (root_of_normal c.args.b (omega arith) c.requires.1)
 
-pub slow-positive-spec : {M : Type 1} → statement M
-slow-positive-spec =
+pub slow_positive_spec : {M : Type 1} → statement M
+slow_positive_spec =
     tie.close
     (tie.spec
     cast-s

@@ -9,7 +9,7 @@ use Rattle.root.proofs.slow_sqrt.Statement.{statement}
 use Rattle.root.proofs.slow_sqrt.Tie as tie
 
 held : (c : tie.Start) → T (fits binary64 c.args.x)
-held c = subst T (sym c.well-formed.0.1) tt
+held c = subst T (sym c.well_formed.0.1) tt
 
 -- x is the value of its own pattern
 from_bits : (c : tie.Start) → of_bits binary64 (to_bits binary64 c.args.x) ≡ c.args.x
@@ -19,37 +19,37 @@ from_bits c = of_bits-to_bits binary64 c.args.x (held c)
 itself : (c : tie.Start) (b : ℕ) → to_bits binary64 c.args.x ≡ b → root_of (of_bits binary64 b) ≡ of_bits binary64 b → c.args.x ≡ root_of c.args.x
 itself c b h r = let k : c.args.x ≡ of_bits binary64 b = sym (from_bits c) ∙ ap (of_bits binary64) h in k ∙ sym r ∙ ap root_of (sym k)
 
-returns : tie.Need-returns
-returns c = root_of_nan c.before.args.x c.if1.true
+returns : tie.Need-returns-then-x
+returns c = root_of_nan c.args.x c.if-x.true
 
-float-to-bits-b : tie.Need-float-to-bits-b
-float-to-bits-b c = number_of_eq c.before.args.x c.if1.false
+float-to-bits-b : tie.Need-float_to_bits-b
+float-to-bits-b c = number_of_eq c.args.x c.if-x.false
 
-returns-2 : tie.Need-returns-2
-returns-2 c = itself c.before.before 0 c.if2.true root_of_zero
+returns-2 : tie.Need-returns-then-b-eq0
+returns-2 c = itself c.before.before 0 c.if-b-eq0.true root_of_zero
 
-slow-positive-requires : tie.Need-slow-positive-requires
+slow-positive-requires : tie.Need-slow_positive-requires
 slow-positive-requires c κs = search rules
 
-returns-3 : tie.Need-returns-3
-returns-3 c = c.slow-positive.ensures ∙ ap root_of (from_bits c.before.before.before.before)
+returns-3 : tie.Need-returns-then-b-lt9218868437227405312
+returns-3 c = c.slow_positive.ensures ∙ ap root_of (from_bits c.before.before.before.before)
 
-returns-4 : tie.Need-returns-4
-returns-4 c = itself c.before.before.before.before 0x7FF0_0000_0000_0000 c.if4.true root_of_infinity
+returns-4 : tie.Need-returns-then-b-eq9218868437227405312
+returns-4 c = itself c.before.before.before.before 0x7FF0_0000_0000_0000 c.if-b-eq9218868437227405312.true root_of_infinity
 
-returns-5 : tie.Need-returns-5
-returns-5 c = itself c.before.before.before.before.before 0x8000_0000_0000_0000 c.if5.true root_of_minus_zero
+returns-5 : tie.Need-returns-then-b
+returns-5 c = itself c.before.before.before.before.before 0x8000_0000_0000_0000 c.if-b.true root_of_minus_zero
 
-returns-6 : tie.Need-returns-6
+returns-6 : tie.Need-returns
 returns-6 c =
     let s = c.before.before.before.before.before in
     let b = to_bits binary64 s.args.x in
-    let low = c.before.before.if3.false in
-    let other = c.before.if4.false in
-    zero_over_zero ∙ sym (root_of_rest b (omega arith) c.if5.false (to_bits-lt binary64 s.args.x (held s))) ∙ ap root_of (from_bits s)
+    let low = c.if-b-lt9218868437227405312.false in
+    let other = c.if-b-eq9218868437227405312.false in
+    zero_over_zero ∙ sym (root_of_rest b (omega arith) c.if-b.false (to_bits-lt binary64 s.args.x (held s))) ∙ ap root_of (from_bits s)
 
-pub slow-sqrt-spec : {M : Type 1} → statement M
-slow-sqrt-spec =
+pub slow_sqrt_spec : {M : Type 1} → statement M
+slow_sqrt_spec =
     tie.close
     (tie.spec
     returns

@@ -11,7 +11,7 @@ use Rattle.root.proofs.sqrt.Statement.{statement}
 use Rattle.root.proofs.sqrt.Tie as tie
 
 held : (c : tie.Start) → T (fits binary64 c.args.x)
-held c = subst T (sym c.well-formed.0.1) tt
+held c = subst T (sym c.well_formed.0.1) tt
 
 -- what equals `root_of x` is nearest too
 both : (c : tie.Start) {r : Float} → r ≡ root_of c.args.x → SquareRoot c.args.x r × (r ≡ root_of c.args.x)
@@ -22,55 +22,55 @@ abbrev pattern : tie.Start → ℕ
 pattern c = to_bits binary64 c.args.x
 
 -- what is judged, as `placed` and `beside` name it
-judged_is : (c : tie.After-reduced)
-    → c.reduced.result / 2 ^ 10 ≡ (pattern c.before.before.before.before % 2 ^ 52 + 2 ^ 52) * 2 ^ ((pattern c.before.before.before.before / 2 ^ 52 + 1021) % 2)
-judged_is c = omega (arith, c.reduced.ensures)
+judged_is : (c : tie.After-reduced-y)
+    → c.reduced-y.result / 2 ^ 10 ≡ (pattern c.before.before.before.before % 2 ^ 52 + 2 ^ 52) * 2 ^ ((pattern c.before.before.before.before / 2 ^ 52 + 1021) % 2)
+judged_is c = omega (arith, c.reduced-y.ensures)
 
-returns : tie.Need-returns
-returns c = both c.before (root_of_nan c.before.args.x c.if1.true)
+returns : tie.Need-returns-then-x
+returns c = both c.before (root_of_nan c.args.x c.if-x.true)
 
-float-to-bits-b : tie.Need-float-to-bits-b
-float-to-bits-b c = number_of_eq c.before.args.x c.if1.false
+float-to-bits-b : tie.Need-float_to_bits-b
+float-to-bits-b c = number_of_eq c.args.x c.if-x.false
 
-reduced-requires : tie.Need-reduced-requires
+reduced-requires : tie.Need-reduced-y-requires
 reduced-requires c κs = search rules
 
-guess-requires : tie.Need-guess-requires
+guess-requires : tie.Need-guess-g-requires
 guess-requires c κs = search rules
 
 judged-requires : tie.Need-judged-requires
 judged-requires c κs = search rules
 
-add-placed : tie.Need-overflow-add-placed
+add-placed : tie.Need-overflow_add-b
 add-placed c = search rules
 
-add-placed-2 : tie.Need-overflow-add-placed-2
+add-placed-2 : tie.Need-overflow_add-e
 add-placed-2 c = search rules
 
 placed-requires : tie.Need-placed-requires
 placed-requires c κs =
     let g = c.before.before in
-    (omega arith, omega arith, omega arith, omega arith, subst (λ (x : ℕ). NearestWhole (x * 2 ^ 52) g.guess.result) (judged_is g.before) (c.before.judged.ensures c.if4.true))
+    (omega arith, omega arith, omega arith, omega arith, subst (λ (x : ℕ). NearestWhole (x * 2 ^ 52) g.guess-g.result) (judged_is g.before) (c.judged.ensures c.if-judged.true))
 
-returns-2 : tie.Need-returns-2
+returns-2 : tie.Need-returns-then-judged
 returns-2 c =
     let s = c.before.before.before.before.before.before.before.before in
     both s (c.placed.ensures ∙ root_of_own s.args.x (pattern s) (held s) refl (omega arith) (omega arith))
 
 beside-requires : tie.Need-beside-requires
-beside-requires c κs = (refl, omega arith, omega arith, judged_is c.before.before.before, c.before.before.guess.ensures)
+beside-requires c κs = (refl, omega arith, omega arith, judged_is c.before.before.before, c.guess-g.ensures)
 
-returns-3 : tie.Need-returns-3
+returns-3 : tie.Need-returns-then-e-lt2047
 returns-3 c = both c.before.before.before.before.before.before.before.before c.beside.ensures
 
-slow-sqrt-requires : tie.Need-slow-sqrt-requires
+slow-sqrt-requires : tie.Need-slow_sqrt-requires
 slow-sqrt-requires c κs = search rules
 
-returns-4 : tie.Need-returns-4
-returns-4 c = both c.before.before.before c.slow-sqrt.ensures
+returns-4 : tie.Need-returns
+returns-4 c = both c.before.before.before c.slow_sqrt.ensures
 
-pub sqrt-spec : {M : Type 1} → statement M
-sqrt-spec =
+pub sqrt_spec : {M : Type 1} → statement M
+sqrt_spec =
     tie.close
     (tie.spec
     returns

@@ -12,68 +12,68 @@ use Rattle.rows.proofs.part.Statement.{statement}
 use Rattle.rows.proofs.part.Tie as tie
 
 -- where there is no fault
-abbrev start : (c : tie.After-enum-told2) → tie.Start
-start c = c.before.before.before.before
+abbrev start : (c : tie.In_default) → tie.Start
+start c = c.before.before.before
 
-fine : (c : tie.After-enum-told2) → none ≡ row_fault (start c).args.place (start c).args.places (start c).args.samples (start c).args.table.now
-fine c = sym (ap meaning c.enum-told2.given.1) ∙ c.before.before.fault-of.ensures
+fine : (c : tie.In_default) → none ≡ row_fault (start c).args.place (start c).args.places (start c).args.samples (start c).args.table.now
+fine c = sym (ap meaning c.in_default.is) ∙ c.fault_of.ensures
 
-fits : (c : tie.After-enum-told2) → Inside (start c).args.place (start c).args.samples (length (start c).args.table.now)
+fits : (c : tie.In_default) → Inside (start c).args.place (start c).args.samples (length (start c).args.table.now)
 fits c =
     inside (start c).args.place (start c).args.places (start c).args.samples (length (start c).args.table.now) (fine c)
 
-fault-of-requires : tie.Need-fault-of-requires
+fault-of-requires : tie.Need-fault_of-requires
 fault-of-requires c κs = search rules
 
-enum_told : tie.Need-enum-told
+enum_told : tie.Need-enum_told-1
 enum_told c = search rules
 
-sub-result : tie.Need-overflow-sub-result
+sub-result : tie.Need-slice_bounds-result-count
 sub-result c = search rules
 
-part-result-start : tie.Need-slice-bounds-result-start
+part-result-start : tie.Need-slice_bounds-result-start
 part-result-start c = search rules
 
-part-result-end : tie.Need-slice-bounds-result-end
+part-result-end : tie.Need-slice_bounds-result-end
 part-result-end c = search rules
 
-returns : tie.Need-returns
+returns : tie.Need-returns-in-Refused
 returns c =
-    let v = c.before.before.before in
-    let a = v.before.before.args in
-    row_refused a.place a.places a.samples a.table.now (sym (ap meaning c.before.enum_told.given.1) ∙ v.fault-of.ensures)
+    let v = c.before.before in
+    let a = v.args in
+    row_refused a.place a.places a.samples a.table.now (sym (ap meaning c.in-Refused.is) ∙ v.fault_of.ensures)
 
-enum-told-2 : tie.Need-enum-told-2
+enum-told-2 : tie.Need-enum_told-in_default
 enum-told-2 c = search rules
 
-mul-from : tie.Need-overflow-mul-from
+mul-from : tie.Need-overflow_mul-from
 mul-from c = let k = fits c in search rules
 
-add-to : tie.Need-overflow-add-to
+add-to : tie.Need-overflow_add-to
 add-to c = let k = fits c in search rules
 
-mul-result : tie.Need-overflow-mul-result
+mul-result : tie.Need-offset_bounds-table-from
 mul-result c = let k = fits c in search rules
 
-sub-result-2 : tie.Need-overflow-sub-result-2
+sub-result-2 : tie.Need-slice_bounds-result-count-2
 sub-result-2 c = search rules
 
-part-result-start-2 : tie.Need-slice-bounds-result-start-2
+part-result-start-2 : tie.Need-slice_bounds-result-start-2
 part-result-start-2 c = search rules
 
-part-result-end-2 : tie.Need-slice-bounds-result-end-2
+part-result-end-2 : tie.Need-slice_bounds-result-end-2
 part-result-end-2 c = let k = fits c in search rules
 
-returns-2 : tie.Need-returns-2
+returns-2 : tie.Need-returns
 returns-2 c =
-    let v = c.before.before.before in
-    let a = v.before.before.args in
+    let v = c.before.before in
+    let a = v.args in
     let size : a.place * a.samples + a.samples - a.place * a.samples ≡ a.samples = omega arith in
     ap (λ (n : ℕ). take n (drop (a.place * a.samples) a.table.now)) size
     ∙ row_given a.place a.places a.samples a.table.now (fine c.before)
 
-pub part-spec : {M : Type 1} → statement M
-part-spec =
+pub part_spec : {M : Type 1} → statement M
+part_spec =
     tie.close
     (tie.spec
     fault-of-requires

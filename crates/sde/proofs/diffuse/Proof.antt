@@ -20,83 +20,83 @@ abbrev lent : tie.Start → Tables
 lent s = record { mean = s.args.mean.now; deviation = s.args.deviation.now; path = s.args.path.now }
 
 -- what is known once a test is passed
-sound_net : (c : tie.After-enum-told) → fault c.before.before.before.before.before.before.args.net ≡ none
-sound_net c = sym c.before.before.test-net.ensures ∙ ap meaning c.enum_told.given.1
+sound_net : (c : tie.In_default) → fault c.args.net ≡ none
+sound_net c = sym c.test_net.ensures ∙ ap meaning c.in_default.is
 
-passed : (c : tie.After-enum-told2) → request_fault (wanted c.before.before.before.before.before.before.before.before.before) ≡ none
-passed c = sym c.before.before.request-fault.ensures ∙ ap meaning c.enum-told2.given.1
+passed : (c : tie.In_default-request_fault) → request_fault (wanted c.before.before.before.before.before.before.before) ≡ none
+passed c = sym c.request_fault.ensures ∙ ap meaning c.in_default-request_fault.is
 
-test-net-requires : tie.Need-test-net-requires
+test-net-requires : tie.Need-test_net-requires
 test-net-requires c κs = search rules
 
-enum-known-c : tie.Need-enum-known-c
+enum-known-c : tie.Need-enum_known-c
 enum-known-c c = search rules
 
-returns : tie.Need-returns
+returns : tie.Need-returns-in-Refused
 returns c =
-    let s = c.before.before.before.before.before.before.before in
-    sym (by_tests s.args.net (wanted s) (lent s) (sym c.before.before.before.test-net.ensures ∙ ap meaning c.before.c.given.1) refl refl)
+    let s = c.before.before.before.before.before in
+    sym (by_tests s.args.net (wanted s) (lent s) (sym c.test_net.ensures ∙ ap meaning c.in-Refused.is) refl refl)
 
-enum_told : tie.Need-enum-told
+enum_told : tie.Need-enum_told-1
 enum_told c = search rules
 
-request-fault-requires : tie.Need-request-fault-requires
+request-fault-requires : tie.Need-request_fault-requires
 request-fault-requires c κs = search rules
 
-enum-known-c-2 : tie.Need-enum-known-c-2
+enum-known-c-2 : tie.Need-enum_known-c-in-Refused-request_fault
 enum-known-c-2 c = search rules
 
-returns-2 : tie.Need-returns-2
+returns-2 : tie.Need-returns-in-Refused-request_fault
 returns-2 c =
-    let s = c.before.before.before.before.before.before.before.before.before.before in
-    sym (by_tests s.args.net (wanted s) (lent s) (sound_net c.before.before.before.before) (sym c.before.before.before.request-fault.ensures ∙ ap meaning c.before.c2.given.1) refl)
+    let s = c.before.before.before.before.before.before.before in
+    sym (by_tests s.args.net (wanted s) (lent s) (sound_net c.before.before) (sym c.request_fault.ensures ∙ ap meaning c.in-Refused-request_fault.is) refl)
 
-enum-told-2 : tie.Need-enum-told-2
+enum-told-2 : tie.Need-enum_told-in_default-request_fault
 enum-told-2 c = search rules
 
-mul-cells : tie.Need-overflow-mul-cells
+mul-cells : tie.Need-overflow_mul-cells
 mul-cells c =
-    let s = c.before.before.before.before.before.before.before.before.before in
-    record { fits = cells_fit _ _ (sound s.args.net (sound_net c.before.before.before)).places (passing (wanted s) (passed c)).few }
+    let s = c.before.before.before.before.before.before.before in
+    record { fits = cells_fit _ _ (sound s.args.net (sound_net c.before.before)).places (passing (wanted s) (passed c)).few }
 
-tables-fault-requires : tie.Need-tables-fault-requires
+tables-fault-requires : tie.Need-tables_fault-requires
 tables-fault-requires c κs = search rules
 
-enum-known-c-3 : tie.Need-enum-known-c-3
+enum-known-c-3 : tie.Need-enum_known-c-in-Refused-tables_fault
 enum-known-c-3 c = search rules
 
-returns-3 : tie.Need-returns-3
+returns-3 : tie.Need-returns-in-Refused-tables_fault
 returns-3 c =
-    let s = c.before.before.before.before.before.before.before.before.before.before.before.before.before in
-    sym (by_tests s.args.net (wanted s) (lent s) (sound_net c.before.before.before.before.before.before.before) (passed c.before.before.before.before) (sym c.before.before.before.tables-fault.ensures ∙ ap meaning c.before.c3.given.1))
+    let s = c.before.before.before.before.before.before.before.before.before in
+    sym (by_tests s.args.net (wanted s) (lent s) (sound_net c.before.before.before.before) (passed c.before.before) (sym c.tables_fault.ensures ∙ ap meaning c.in-Refused-tables_fault.is))
 
-enum-told-3 : tie.Need-enum-told-3
+enum-told-3 : tie.Need-enum_told-in_default-tables_fault
 enum-told-3 c = search rules
 
 accepted-requires : tie.Need-accepted-requires
 accepted-requires c κs =
-    let r = room _ _ _ _ (sym c.before.before.before.before.before.tables-fault.ensures ∙ ap meaning c.before.before.before.enum-told3.given.1) in
-    let p = passing (wanted c.before.before.before.before.before.before.before.before.before.before.before.before.before.before.before) (passed c.before.before.before.before.before.before) in
-    (sound_net c.before.before.before.before.before.before.before.before.before, p.two, p.few, p.one, p.repeated, r.in_mean, r.in_deviation, r.in_path)
+    let r = room _ _ _ _ (sym c.tables_fault.ensures ∙ ap meaning c.in_default-tables_fault.is) in
+    let p = passing (wanted c.before.before.before.before.before.before.before.before.before.before.before.before) (passed c.before.before.before.before.before) in
+    (sound_net c.before.before.before.before.before.before.before, p.two, p.few, p.one, p.repeated, r.in_mean, r.in_deviation, r.in_path)
 
-same_length : tie.Need-same-length
+same_length : tie.Need-shape_of-mean
 same_length c = search rules
 
-same-length-2 : tie.Need-same-length-2
+same-length-2 : tie.Need-shape_of-deviation
 same-length-2 c = search rules
 
-same-length-3 : tie.Need-same-length-3
+same-length-3 : tie.Need-shape_of-path
 same-length-3 c = search rules
 
-returns-4 : tie.Need-returns-4
+returns-4 : tie.Need-returns
 returns-4 c =
-    let s = c.before.before.before.before.before.before.before.before.before.before.before.before.before.before.before.before.before.before.before.before.before.before in
-    c.before.before.before.before.before.before.accepted.ensures
+    let s = c.before.before.before.before.before.before.before.before.before.before.before.before.before.before.before.before.before.before.before in
+    c.accepted.ensures
     ∙ sym
-    (by_tests s.args.net (wanted s) (lent s) (sound_net c.before.before.before.before.before.before.before.before.before.before.before.before.before.before.before.before) (passed c.before.before.before.before.before.before.before.before.before.before.before.before.before) (sym c.before.before.before.before.before.before.before.before.before.before.before.before.tables-fault.ensures ∙ ap meaning c.before.before.before.before.before.before.before.before.before.before.enum-told3.given.1))
+    (by_tests s.args.net (wanted s) (lent s) (sound_net c.before.before.before.before.before.before.before.before.before.before.before.before.before.before) (passed c.before.before.before.before.before.before.before.before.before.before.before.before) (sym c.tables_fault.ensures ∙ ap meaning c.in_default-tables_fault.is))
 
-pub diffuse-spec : {M : Type 1} → statement M
-diffuse-spec =
+pub diffuse_spec : {M : Type 1} → statement M
+diffuse_spec =
     tie.close
     (tie.spec
     test-net-requires

@@ -60,122 +60,122 @@ abbrev list_fault : tie.Start → Option ℕ
 list_fault s = first_of (renaming_tests (readable (old_at s)) (readable (new_at s)) (path_at s) (pairs_at s))
 
 -- the start, from each test that is passed
-abbrev start1 : tie.After-enum-told → tie.Start
-start1 c = c.before.before.before.before.before.before
+abbrev start1 : tie.In_default → tie.Start
+start1 c = c.before.before.before.before.before
 
-abbrev start2 : tie.After-enum-told2 → tie.Start
-start2 c = start1 c.before.before.before
+abbrev start2 : tie.In_default-fields_fault → tie.Start
+start2 c = start1 c.before.before
 
 -- behind the tests of the state stands that of the new net, and behind those of the list that of the state
-abbrev new-passed : tie.After-state-fault → tie.After-enum-told2
-new-passed c = c.before.before.before.before.before.before.before.before
+abbrev new-passed : tie.After-state_fault → tie.In_default-fields_fault
+new-passed c = c.before.before.before.before.before.before.before
 
-abbrev state-passed : tie.After-list-fault → tie.After-enum-told3
-state-passed c = c.before.before.before
+abbrev state-passed : tie.After-list_fault → tie.In_default-state_fault
+state-passed c = c.before.before
 
-abbrev start3 : tie.After-enum-told3 → tie.Start
-start3 c = start2 (new-passed c.before.before)
+abbrev start3 : tie.In_default-state_fault → tie.Start
+start3 c = start2 (new-passed c.before)
 
-abbrev start4 : tie.After-enum-told4 → tie.Start
-start4 c = start3 (state-passed c.before.before)
+abbrev start4 : tie.In_default-list_fault → tie.Start
+start4 c = start3 (state-passed c.before)
 
 -- what the functions say of the state and of the list
-by_state_of : (c : tie.After-state-fault) → meaning c.state-fault.result ≡ stateFault (start2 (new-passed c))
-by_state_of c = let h = handed_at (start2 (new-passed c)) in c.state-fault.ensures h.timers.whos (words h.generator.s) h.peak
+by_state_of : (c : tie.After-state_fault) → meaning c.state_fault.result ≡ stateFault (start2 (new-passed c))
+by_state_of c = let h = handed_at (start2 (new-passed c)) in c.state_fault.ensures h.timers.whos (words h.generator.s) h.peak
 
-by_words : (c : tie.After-list-fault) → meaning c.list-fault.result ≡ list_fault (start3 (state-passed c))
+by_words : (c : tie.After-list_fault) → meaning c.list_fault.result ≡ list_fault (start3 (state-passed c))
 by_words c =
     let s = start3 (state-passed c) in
     let q = (handed_at s).timers in
-    c.list-fault.ensures (readable (old_at s)) (path_at s) q.ats q.takens (places_length (old_at s)) (transitions_length (old_at s)) refl
+    c.list_fault.ensures (readable (old_at s)) (path_at s) q.ats q.takens (places_length (old_at s)) (transitions_length (old_at s)) refl
 
 -- what is known once a test is passed
-accepted : (c : tie.After-enum-told) → fault (old_at (start1 c)) ≡ none
-accepted c = sym c.before.before.fields-fault.ensures ∙ ap meaning c.enum_told.given.1
+accepted : (c : tie.In_default) → fault (old_at (start1 c)) ≡ none
+accepted c = sym c.fields_fault.ensures ∙ ap meaning c.in_default.is
 
-accepted_new : (c : tie.After-enum-told2) → fault (new_at (start2 c)) ≡ none
-accepted_new c = sym c.before.before.fields-fault2.ensures ∙ ap meaning c.enum-told2.given.1
+accepted_new : (c : tie.In_default-fields_fault) → fault (new_at (start2 c)) ≡ none
+accepted_new c = sym c.fields_fault-2.ensures ∙ ap meaning c.in_default-fields_fault.is
 
-plain : (c : tie.After-enum-told3) → stateFault (start3 c) ≡ none
-plain c = sym (by_state_of c.before.before) ∙ ap meaning c.enum-told3.given.1
+plain : (c : tie.In_default-state_fault) → stateFault (start3 c) ≡ none
+plain c = sym (by_state_of c.before) ∙ ap meaning c.in_default-state_fault.is
 
-listed : (c : tie.After-enum-told4) → list_fault (start4 c) ≡ none
-listed c = sym (by_words c.before.before) ∙ ap meaning c.enum-told4.given.1
+listed : (c : tie.In_default-list_fault) → list_fault (start4 c) ≡ none
+listed c = sym (by_words c.before) ∙ ap meaning c.in_default-list_fault.is
 
-as_many : (c : tie.After-enum-told4) → (start4 c).args.old-places ≡ (start4 c).args.places
+as_many : (c : tie.In_default-list_fault) → (start4 c).args.old-places ≡ (start4 c).args.places
 as_many c = let s = start4 c in same_places (old_at s) (new_at s) (path_at s) (pairs_at s) (listed c)
 
-fields-fault-requires : tie.Need-fields-fault-requires
+fields-fault-requires : tie.Need-fields_fault-requires
 fields-fault-requires c κs = search rules
 
-enum-known-c : tie.Need-enum-known-c
+enum-known-c : tie.Need-enum_known-c
 enum-known-c c = search rules
 
-turned-down-requires : tie.Need-turned-down-requires
+turned-down-requires : tie.Need-turned_down-requires
 turned-down-requires c κs = search rules
 
-returns : tie.Need-returns
+returns : tie.Need-returns-in-Refused
 returns c =
-    let f = c.before.before.before.before in
+    let f = c.before.before in
     let s = f.before.before.before.before in
     let a = s.args in
     c.turned_down.ensures a.old-places a.table.now
     ∙ by_old (old_at s) (new_at s) (pairs_at s) (standing_of a.old-places (handed_at s)) a.instants.now a.named a.table.now
-    (sym f.fields-fault.ensures ∙ ap meaning c.before.before.c.given.1)
+    (sym f.fields_fault.ensures ∙ ap meaning c.in-Refused.is)
 
-enum_told : tie.Need-enum-told
+enum_told : tie.Need-enum_told-1
 enum_told c = search rules
 
-fields-fault-requires-2 : tie.Need-fields-fault-requires-2
+fields-fault-requires-2 : tie.Need-fields_fault-requires-2
 fields-fault-requires-2 c κs = search rules
 
-enum-known-c-2 : tie.Need-enum-known-c-2
+enum-known-c-2 : tie.Need-enum_known-c-in-Refused-fields_fault-2
 enum-known-c-2 c = search rules
 
-turned-down-requires-2 : tie.Need-turned-down-requires-2
+turned-down-requires-2 : tie.Need-turned_down-requires-in-Refused-fields_fault
 turned-down-requires-2 c κs = search rules
 
-returns-2 : tie.Need-returns-2
+returns-2 : tie.Need-returns-in-Refused-fields_fault
 returns-2 c =
-    let f = c.before.before.before.before in
+    let f = c.before.before in
     let s = start1 f.before in
     let a = s.args in
-    c.turned-down2.ensures a.old-places a.table.now
+    c.turned_down-in-Refused-fields_fault.ensures a.old-places a.table.now
     ∙ by_new (old_at s) (new_at s) (pairs_at s) (standing_of a.old-places (handed_at s)) a.instants.now a.named a.table.now
-    (accepted f.before) (sym f.fields-fault2.ensures ∙ ap meaning c.before.before.c2.given.1)
+    (accepted f.before) (sym f.fields_fault-2.ensures ∙ ap meaning c.in-Refused-fields_fault.is)
 
-enum-told-2 : tie.Need-enum-told-2
+enum-told-2 : tie.Need-enum_told-in_default-fields_fault
 enum-told-2 c = search rules
 
-state-fault-requires : tie.Need-state-fault-requires
-state-fault-requires c κs = let o = c.before.before.before.before.before.before.before.before.before.before in (sound (old_at (start1 o)) (accepted o)).places
+state-fault-requires : tie.Need-state_fault-requires
+state-fault-requires c κs = let o = c.before.before.before.before.before.before.before.before in (sound (old_at (start1 o)) (accepted o)).places
 
-enum-known-c-3 : tie.Need-enum-known-c-3
+enum-known-c-3 : tie.Need-enum_known-c-in-Refused-state_fault
 enum-known-c-3 c = search rules
 
-turned-down-requires-3 : tie.Need-turned-down-requires-3
+turned-down-requires-3 : tie.Need-turned_down-requires-in-Refused-state_fault
 turned-down-requires-3 c κs = search rules
 
-same_length : tie.Need-same-length
+same_length : tie.Need-shape_of-table-in-Refused-state_fault
 same_length c = search rules
 
-returns-3 : tie.Need-returns-3
+returns-3 : tie.Need-returns-in-Refused-state_fault
 returns-3 c =
-    let f = c.before.before.before.before in
+    let f = c.before.before in
     let n = new-passed f in
     let s = start2 n in
     let a = s.args in
-    c.turned-down3.ensures a.old-places a.table.now
+    c.turned_down-in-Refused-state_fault.ensures a.old-places a.table.now
     ∙ by_state (old_at s) (new_at s) (pairs_at s) (standing_of a.old-places (handed_at s)) a.instants.now a.named a.table.now
-    (accepted n.before.before.before) (accepted_new n) (sym (by_state_of f) ∙ ap meaning c.before.before.c3.given.1)
+    (accepted n.before.before.before) (accepted_new n) (sym (by_state_of f) ∙ ap meaning c.in-Refused-state_fault.is)
 
-enum-told-3 : tie.Need-enum-told-3
+enum-told-3 : tie.Need-enum_told-in_default-state_fault
 enum-told-3 c = search rules
 
-list-fault-requires : tie.Need-list-fault-requires
+list-fault-requires : tie.Need-list_fault-requires
 list-fault-requires c κs =
-    let p = c.before.before in
-    let n = new-passed p.before.before in
+    let p = c.before in
+    let n = new-passed p.before in
     let s = start2 n in
     let a = s.args in (
       accepted_new n,
@@ -183,33 +183,33 @@ list-fault-requires c κs =
       (carries a.old-places (handed_at s) a.instants.now a.table.now (plain p)).few,
     )
 
-enum-known-c-4 : tie.Need-enum-known-c-4
+enum-known-c-4 : tie.Need-enum_known-c-in-Refused-list_fault
 enum-known-c-4 c = search rules
 
-turned-down-requires-4 : tie.Need-turned-down-requires-4
+turned-down-requires-4 : tie.Need-turned_down-requires-in-Refused-list_fault
 turned-down-requires-4 c κs = search rules
 
-same-length-2 : tie.Need-same-length-2
+same-length-2 : tie.Need-shape_of-table-in-Refused-list_fault
 same-length-2 c = search rules
 
-returns-4 : tie.Need-returns-4
+returns-4 : tie.Need-returns-in-Refused-list_fault
 returns-4 c =
-    let f = c.before.before.before.before in
+    let f = c.before.before in
     let p = state-passed f in
     let n = new-passed p.before.before in
     let s = start2 n in
     let a = s.args in
-    c.turned-down4.ensures a.old-places a.table.now
+    c.turned_down-in-Refused-list_fault.ensures a.old-places a.table.now
     ∙ by_list (old_at s) (new_at s) (pairs_at s) (standing_of a.old-places (handed_at s)) a.instants.now a.named a.table.now
-    (accepted n.before.before.before) (accepted_new n) (plain p) (sym (by_words f) ∙ ap meaning c.before.before.c4.given.1)
+    (accepted n.before.before.before) (accepted_new n) (plain p) (sym (by_words f) ∙ ap meaning c.in-Refused-list_fault.is)
 
-enum-told-4 : tie.Need-enum-told-4
+enum-told-4 : tie.Need-enum_told-in_default-list_fault
 enum-told-4 c = search rules
 
-accepted-carry-requires : tie.Need-accepted-carry-requires
+accepted-carry-requires : tie.Need-accepted_carry-requires
 accepted-carry-requires c κs =
     let l = c.before in
-    let p = state-passed l.before.before in
+    let p = state-passed l.before in
     let n = new-passed p.before.before in
     let s = start2 n in
     let a = s.args in
@@ -219,24 +219,24 @@ accepted-carry-requires c κs =
           (plain p, (readable (old_at s), places_length (old_at s), omega (arith, few, transitions_length (old_at s)), listed l)),
     )
 
-same-length-3 : tie.Need-same-length-3
+same-length-3 : tie.Need-shape_of-table
 same-length-3 c = search rules
 
-returns-5 : tie.Need-returns-5
+returns-5 : tie.Need-returns
 returns-5 c =
     let r = c.before.before in
     let l = r.before.before in
-    let p = state-passed l.before.before in
+    let p = state-passed l.before in
     let n = new-passed p.before.before in
     let s = start2 n in
     let a = s.args in
-    answers_same (readable (new_at s)) (pairs_at s) (handed_at s) a.instants.now a.table.now a.named r.accepted-carry.result (as_many l)
-    r.accepted-carry.ensures
+    answers_same (readable (new_at s)) (pairs_at s) (handed_at s) a.instants.now a.table.now a.named r.accepted_carry.result (as_many l)
+    r.accepted_carry.ensures
     ∙ by_run (old_at s) (new_at s) (pairs_at s) (standing_of a.old-places (handed_at s)) a.instants.now a.named a.table.now
     (accepted n.before.before.before) (accepted_new n) (plain p) (listed l)
 
-pub fields-carry-spec : {M : Type 1} → statement M
-fields-carry-spec =
+pub fields_carry_spec : {M : Type 1} → statement M
+fields_carry_spec =
     tie.close
     (tie.spec
     fields-fault-requires

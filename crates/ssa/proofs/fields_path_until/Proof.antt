@@ -22,107 +22,107 @@ net_at s =
     s.args.rate.now s.args.delay.now s.args.arcs.now s.args.kind.now s.args.place.now s.args.weight.now
 
 -- what is known once a test is passed
-accepted : (c : tie.After-enum-told) → fault (net_at c.before.before.before.before.before) ≡ none
-accepted c = sym c.before.before.fields-fault.ensures ∙ ap meaning c.enum_told.given.1
+accepted : (c : tie.In_default) → fault (net_at c.before.before.before.before) ≡ none
+accepted c = sym c.fields_fault.ensures ∙ ap meaning c.in_default.is
 
-timely : (c : tie.Else1) → instants_fit c.before.before.before.before.before.before.before.args.instants.now ≡ true
-timely c = sym c.before.instants_fit.ensures ∙ not-false _ c.if1.false
+timely : (c : tie.Else-not-instants_fit) → instants_fit c.args.instants.now ≡ true
+timely c = sym c.instants_fit.ensures ∙ not-false _ c.if-not-instants_fit.false
 
-limited : (c : tie.Else2) → limit_fits c.before.before.before.before.before.before.before.before.before.args.limit ≡ true
-limited c = sym c.before.limit_fits.ensures ∙ not-false _ c.if2.false
+limited : (c : tie.Else-not-limit_fits) → limit_fits c.args.limit ≡ true
+limited c = sym c.limit_fits.ensures ∙ not-false _ c.if-not-limit_fits.false
 
-fields-fault-requires : tie.Need-fields-fault-requires
+fields-fault-requires : tie.Need-fields_fault-requires
 fields-fault-requires c κs = search rules
 
-enum-known-c : tie.Need-enum-known-c
+enum-known-c : tie.Need-enum_known-c
 enum-known-c c = search rules
 
 refused-requires : tie.Need-refused-requires
 refused-requires c κs = search rules
 
-returns : tie.Need-returns
+returns : tie.Need-returns-in-Refused
 returns c =
-    let t = c.before.before.before.before in
+    let t = c.before.before in
     let s = t.before.before.before in
     let a = s.args in
     let tests = naming_tests (net_at s) (words a.generator.s) a.instants.now a.limit a.named a.table.now in
     c.refused.ensures a.places a.table.now
-    ∙ sym (tests.by_net (sym t.fields-fault.ensures ∙ ap meaning c.before.before.c.given.1))
+    ∙ sym (tests.by_net (sym t.fields_fault.ensures ∙ ap meaning c.in-Refused.is))
 
-enum_told : tie.Need-enum-told
+enum_told : tie.Need-enum_told-1
 enum_told c = search rules
 
-instants-fit-requires : tie.Need-instants-fit-requires
+instants-fit-requires : tie.Need-instants_fit-requires
 instants-fit-requires c κs = search rules
 
-refused-requires-2 : tie.Need-refused-requires-2
+refused-requires-2 : tie.Need-refused-requires-then-not-instants_fit
 refused-requires-2 c κs = search rules
 
-returns-2 : tie.Need-returns-2
+returns-2 : tie.Need-returns-then-not-instants_fit
 returns-2 c =
     let i = c.before.before in
-    let s = i.before.before.before.before.before.before in
+    let s = i.before.before.before.before.before in
     let a = s.args in
     let tests = naming_tests (net_at s) (words a.generator.s) a.instants.now a.limit a.named a.table.now in
-    c.refused2.ensures a.places a.table.now
-    ∙ sym (tests.by_instants (accepted i.before) (sym i.instants_fit.ensures ∙ not-true _ c.before.if1.true))
+    c.refused-then-not-instants_fit.ensures a.places a.table.now
+    ∙ sym (tests.by_instants (accepted i.before) (sym i.instants_fit.ensures ∙ not-true _ c.if-not-instants_fit.true))
 
-limit-fits-requires : tie.Need-limit-fits-requires
+limit-fits-requires : tie.Need-limit_fits-requires
 limit-fits-requires c κs = search rules
 
-refused-requires-3 : tie.Need-refused-requires-3
+refused-requires-3 : tie.Need-refused-requires-then-not-limit_fits
 refused-requires-3 c κs = search rules
 
-returns-3 : tie.Need-returns-3
+returns-3 : tie.Need-returns-then-not-limit_fits
 returns-3 c =
     let l = c.before.before in
     let e = l.before in
-    let s = e.before.before.before.before.before.before.before in
+    let s = e.before.before.before.before.before.before in
     let a = s.args in
     let tests = naming_tests (net_at s) (words a.generator.s) a.instants.now a.limit a.named a.table.now in
-    c.refused3.ensures a.places a.table.now
-    ∙ sym (tests.by_limit (accepted e.before.before) (timely e) (sym l.limit_fits.ensures ∙ not-true _ c.before.if2.true))
+    c.refused-then-not-limit_fits.ensures a.places a.table.now
+    ∙ sym (tests.by_limit (accepted e.before.before) (timely e) (sym l.limit_fits.ensures ∙ not-true _ c.if-not-limit_fits.true))
 
-mul-if3 : tie.Need-overflow-mul-if3
+mul-if3 : tie.Need-overflow_mul-places
 mul-if3 c =
     let e = c.before.before in
-    let s = e.before.before.before.before.before.before.before in
+    let s = e.before.before.before.before.before.before in
     let a = s.args in
     record { fits = cells_fit _ _ (sound (net_at s) (accepted e.before.before)).places (fitting a.instants.now (timely e)).few }
 
-refused-requires-4 : tie.Need-refused-requires-4
+refused-requires-4 : tie.Need-refused-requires-then-table-places
 refused-requires-4 c κs = search rules
 
-returns-4 : tie.Need-returns-4
+returns-4 : tie.Need-returns-then-table-places
 returns-4 c =
     let l = c.before.before in
     let e = l.before.before in
-    let s = e.before.before.before.before.before.before.before in
+    let s = e.before.before.before.before.before.before in
     let a = s.args in
     let tests = naming_tests (net_at s) (words a.generator.s) a.instants.now a.limit a.named a.table.now in
-    c.refused4.ensures a.places a.table.now
-    ∙ sym (tests.by_table (accepted e.before.before) (timely e) (limited l) c.before.if3.true)
+    c.refused-then-table-places.ensures a.places a.table.now
+    ∙ sym (tests.by_table (accepted e.before.before) (timely e) (limited l) c.if-table-places.true)
 
-accepted-until-requires : tie.Need-accepted-until-requires
+accepted-until-requires : tie.Need-accepted_until-requires
 accepted-until-requires c κs =
     let e = c.before.before.before.before in
-    (accepted e.before.before, timely e, limited c.before.before, c.before.if3.false)
+    (accepted e.before.before, timely e, limited c.before.before, c.if-table-places.false)
 
-same_length : tie.Need-same-length
+same_length : tie.Need-shape_of-table
 same_length c = search rules
 
-returns-5 : tie.Need-returns-5
+returns-5 : tie.Need-returns
 returns-5 c =
     let l = c.before.before.before.before.before in
     let e = l.before.before in
-    let s = e.before.before.before.before.before.before.before in
+    let s = e.before.before.before.before.before.before in
     let a = s.args in
     let tests = naming_tests (net_at s) (words a.generator.s) a.instants.now a.limit a.named a.table.now in
-    c.before.before.accepted-until.ensures
-    ∙ sym (tests.by_run (accepted e.before.before) (timely e) (limited l) c.before.before.before.before.if3.false)
+    c.accepted_until.ensures
+    ∙ sym (tests.by_run (accepted e.before.before) (timely e) (limited l) c.if-table-places.false)
 
-pub fields-path-until-spec : {M : Type 1} → statement M
-fields-path-until-spec =
+pub fields_path_until_spec : {M : Type 1} → statement M
+fields_path_until_spec =
     tie.close
     (tie.spec
     fields-fault-requires

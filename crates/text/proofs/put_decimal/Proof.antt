@@ -11,41 +11,41 @@ use Rattle.text.proofs.put_decimal.Statement.{statement}
 use Rattle.text.proofs.put_decimal.Tie as tie
 
 -- past the test the digits fit
-room : (c : tie.Then1) → c.before.before.before.before.args.at + c.before.before.decimal_length.result ≤ length c.before.before.before.before.args.out.now
-room c = within _ _ c.before.has_room.ensures c.if1.true
+room : (c : tie.Then-has_room) → c.args.at + c.decimal_length-count.result ≤ length c.args.out.now
+room c = within _ _ c.has_room.ensures c.if-has_room.true
 
-decimal-length-requires : tie.Need-decimal-length-requires
+decimal-length-requires : tie.Need-decimal_length-count-requires
 decimal-length-requires c κs = search rules
 
-has-room-requires : tie.Need-has-room-requires
+has-room-requires : tie.Need-has_room-requires
 has-room-requires c κs = search rules
 
 fill-requires : tie.Need-fill-requires
 fill-requires c κs = omega (arith, room c.before)
 
-add-t10 : tie.Need-overflow-add-t10
+add-t10 : tie.Need-overflow_add-result
 add-t10 c = omega (arith, room c.before.before.before.before)
 
-same_length : tie.Need-same-length
+same_length : tie.Need-shape_of-out-then-has_room
 same_length c = search rules
 
-returns : tie.Need-returns
+returns : tie.Need-returns-then-has_room
 returns c =
     let d = c.before.before.before.before.before.before in
-    let w = decimal_text d.before.before.args.n in
-    let long : d.decimal_length.result ≡ length w = d.decimal_length.ensures in
-    let digits : low_digits 10 d.decimal_length.result d.before.before.args.n ≡ w = rw long (sym (decimal_low d.before.before.args.n)) in
-    fitted d.before.before.args.out.now d.before.before.args.at _ w _ long (room c.before.before.before.before)
-    (rw digits at c.before.before.fill.ensures)
+    let w = decimal_text d.args.n in
+    let long : d.decimal_length-count.result ≡ length w = d.decimal_length-count.ensures in
+    let digits : low_digits 10 d.decimal_length-count.result d.args.n ≡ w = rw long (sym (decimal_low d.args.n)) in
+    fitted d.args.out.now d.args.at _ w _ long (room c.before.before.before.before)
+    (rw digits at c.fill.ensures)
 
-returns-2 : tie.Need-returns-2
+returns-2 : tie.Need-returns
 returns-2 c =
-    let a = c.before.before.before.before.args in
-    unfitted a.out.now a.at _ (decimal_text a.n) c.before.before.decimal_length.ensures
-    (outside _ _ c.before.has_room.ensures c.if1.false)
+    let a = c.args in
+    unfitted a.out.now a.at _ (decimal_text a.n) c.decimal_length-count.ensures
+    (outside _ _ c.has_room.ensures c.if-has_room.false)
 
-pub put-decimal-spec : {M : Type 1} → statement M
-put-decimal-spec =
+pub put_decimal_spec : {M : Type 1} → statement M
+put_decimal_spec =
     tie.close
     (tie.spec
     decimal-length-requires

@@ -25,62 +25,62 @@ carried s whos g peak xs shown =
       recorded = shown;
     }
 
-returns : tie.Need-returns
-returns c = λ whos g peak xs shown. by_room (carried c.before whos g peak xs shown) (rw length_from c.if1.true)
+returns : tie.Need-returns-then-n-gt256
+returns c = λ whos g peak xs shown. by_room (carried c.before whos g peak xs shown) (rw length_from c.if-n-gt256.true)
 
-counts-fit-requires : tie.Need-counts-fit-requires
+counts-fit-requires : tie.Need-counts_fit-requires
 counts-fit-requires c κs = search rules
 
-returns-2 : tie.Need-returns-2
+returns-2 : tie.Need-returns-then-not-counts_fit
 returns-2 c =
     let s = c.before.before.before in
-    λ whos g peak xs shown. by_counts (carried s whos g peak xs shown) (sym c.before.counts_fit.ensures ∙ not-true _ c.if2.true)
+    λ whos g peak xs shown. by_counts (carried s whos g peak xs shown) (sym c.counts_fit.ensures ∙ not-true _ c.if-not-counts_fit.true)
 
-returns-3 : tie.Need-returns-3
-returns-3 c = λ whos g peak xs shown. by_limit (carried c.before.before.before.before whos g peak xs shown) c.if3.true
+returns-3 : tie.Need-returns-then-limit-steps
+returns-3 c = λ whos g peak xs shown. by_limit (carried c.before.before.before.before whos g peak xs shown) c.if-limit-steps.true
 
-returns-4 : tie.Need-returns-4
-returns-4 c = λ whos g peak xs shown. by_rounded (carried c.before.before.before.before.before whos g peak xs shown) c.if4.true
+returns-4 : tie.Need-returns-then-steps-rounded
+returns-4 c = λ whos g peak xs shown. by_rounded (carried c.before.before.before.before.before whos g peak xs shown) c.if-steps-rounded.true
 
-time-fits-requires : tie.Need-time-fits-requires
+time-fits-requires : tie.Need-time_fits-requires
 time-fits-requires c κs = search rules
 
-returns-5 : tie.Need-returns-5
+returns-5 : tie.Need-returns-then-not-time_fits
 returns-5 c =
     let s = c.before.before.before.before.before.before.before in
-    λ whos g peak xs shown. by_clock (carried s whos g peak xs shown) (sym c.before.time-fits.ensures ∙ not-true _ c.if5.true)
+    λ whos g peak xs shown. by_clock (carried s whos g peak xs shown) (sym c.time_fits.ensures ∙ not-true _ c.if-not-time_fits.true)
 
-completions-fit-requires : tie.Need-completions-fit-requires
+completions-fit-requires : tie.Need-completions_fit-requires
 completions-fit-requires c κs = search rules
 
-returns-6 : tie.Need-returns-6
+returns-6 : tie.Need-returns-then-not-completions_fit
 returns-6 c =
     let s = c.before.before.before.before.before.before.before.before.before in
     λ whos g peak xs shown.
     by_times (carried s whos g peak xs shown)
-    (sym (c.before.completions-fit.ensures whos s.args.takens.now) ∙ not-true _ c.if6.true)
+    (sym (c.completions_fit.ensures whos s.args.takens.now) ∙ not-true _ c.if-not-completions_fit.true)
 
-weights-fit-requires : tie.Need-weights-fit-requires
+weights-fit-requires : tie.Need-weights_fit-requires
 weights-fit-requires c κs = search rules
 
-returns-7 : tie.Need-returns-7
+returns-7 : tie.Need-returns
 returns-7 c =
     let i = c.before in
     let k = i.before.before in
     let j = k.before.before.before.before in
     let s = j.before.before.before in
     λ whos g peak xs shown.
-    c.weights-fit.ensures s.args.ats.now whos
+    c.weights_fit.ensures s.args.ats.now whos
     ∙ by_weights (carried s whos g peak xs shown)
     (rw length_from (omega arith))
-    (sym j.before.counts_fit.ensures ∙ not-false _ j.if2.false)
+    (sym j.counts_fit.ensures ∙ not-false _ j.if-not-counts_fit.false)
     (omega arith)
     (omega arith)
-    (sym k.before.time-fits.ensures ∙ not-false _ k.if5.false)
-    (sym (i.before.completions-fit.ensures whos s.args.takens.now) ∙ not-false _ i.if6.false)
+    (sym k.time_fits.ensures ∙ not-false _ k.if-not-time_fits.false)
+    (sym (i.completions_fit.ensures whos s.args.takens.now) ∙ not-false _ i.if-not-completions_fit.false)
 
-pub state-fits-spec : {M : Type 1} → statement M
-state-fits-spec =
+pub state_fits_spec : {M : Type 1} → statement M
+state_fits_spec =
     tie.close
     (tie.spec
     returns

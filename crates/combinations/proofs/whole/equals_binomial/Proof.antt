@@ -14,7 +14,7 @@ use Rattle.combinations.proofs.whole.equals_binomial.Statement.{statement}
 use Rattle.combinations.proofs.whole.equals_binomial.Tie as tie
 
 held : (c : tie.Start) → T (fits binary64 c.args.x)
-held c = subst T (sym c.well-formed.0.1) tt
+held c = subst T (sym c.well_formed.0.1) tt
 
 -- x is the value of its own pattern
 from_bits : (c : tie.Start) → of_bits binary64 (to_bits binary64 c.args.x) ≡ c.args.x
@@ -27,29 +27,35 @@ some c = binomial_pos c.args.m c.args.w c.requires.1
 none : (c : tie.Start) → eq (of_bits binary64 (to_bits binary64 c.args.x)) (whole (binomial c.args.m c.args.w)) ≡ false → false ≡ exact c.args.x c.args.m c.args.w
 none c e = sym e ∙ ap (λ (v : Float). exact v c.args.m c.args.w) (from_bits c)
 
-returns : tie.Need-returns
-returns c = sym (nan_none c.before.args.x (binomial c.before.args.m c.before.args.w) c.if1.true)
+returns : tie.Need-returns-then-x
+returns c = sym (nan_none c.args.x (binomial c.args.m c.args.w) c.if-x.true)
 
-float-to-bits-b : tie.Need-float-to-bits-b
-float-to-bits-b c = number_of_eq c.before.args.x c.if1.false
+float-to-bits-b : tie.Need-float_to_bits-b
+float-to-bits-b c = number_of_eq c.args.x c.if-x.false
 
-returns-2 : tie.Need-returns-2
-returns-2 c = let s = c.before.before in none s (small_none (to_bits binary64 s.args.x) (binomial s.args.m s.args.w) c.if2.true (some s))
+returns-2 : tie.Need-returns-then-b-lt4503599627370496
+returns-2 c = let s = c.before.before in none s (small_none (to_bits binary64 s.args.x) (binomial s.args.m s.args.w) c.if-b-lt4503599627370496.true (some s))
 
-returns-3 : tie.Need-returns-3
+returns-3 : tie.Need-returns-then-b-ge9218868437227405312
 returns-3 c =
     let s = c.before.before.before in
-    none s (rest_none (to_bits binary64 s.args.x) (binomial s.args.m s.args.w) c.if3.true (to_bits-lt binary64 s.args.x (held s)) (some s))
+    none s (rest_none (to_bits binary64 s.args.x) (binomial s.args.m s.args.w) c.if-b-ge9218868437227405312.true (to_bits-lt binary64 s.args.x (held s)) (some s))
 
-normal-equals-binomial-requires : tie.Need-normal-equals-binomial-requires
+normal-equals-binomial-requires : tie.Need-normal_equals_binomial-requires
 normal-equals-binomial-requires c κs = search rules
 
-returns-4 : tie.Need-returns-4
+returns-4 : tie.Need-returns
 returns-4 c =
     let s = c.before.before.before.before in
-    c.normal-equals-binomial.ensures ∙ ap (λ (v : Float). exact v s.args.m s.args.w) (from_bits s)
+    c.normal_equals_binomial.ensures ∙ ap (λ (v : Float). exact v s.args.m s.args.w) (from_bits s)
 
-pub equals-binomial-spec : {M : Type 1} → statement M
-equals-binomial-spec =
+pub equals_binomial_spec : {M : Type 1} → statement M
+equals_binomial_spec =
     tie.close
-    (tie.spec returns float-to-bits-b returns-2 returns-3 normal-equals-binomial-requires returns-4)
+    (tie.spec
+    returns
+    float-to-bits-b
+    returns-2
+    returns-3
+    normal-equals-binomial-requires
+    returns-4)

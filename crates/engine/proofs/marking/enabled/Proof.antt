@@ -14,96 +14,96 @@ use Prim.Native.Nat.{◌+◌, ◌-◌, ◌*◌, ◌≤◌, ◌<◌}
 use Rattle.engine.proofs.marking.enabled.Statement.{statement}
 use Rattle.engine.proofs.marking.enabled.Tie as tie
 
-abbrev invariant-loop : tie.invariant-loop
+abbrev invariant-loop : tie.invariant-loop-a
 invariant-loop places transitions initial capacity rate delay arcs kind place weight limit counts j from end a₀ a =
     let n = lent places transitions initial capacity rate delay arcs kind place weight in
     (from ≤ a) × (open_from (limit_at n) place counts a (end - a) ≡ enabled (readable n) (marking places counts) (transition n j))
 
-abbrev decreases-loop : tie.decreases-loop
+abbrev decreases-loop : tie.decreases-loop-a
 decreases-loop places transitions initial capacity rate delay arcs kind place weight limit counts j from end a₀ a = end - a
 
 -- the slot is one of the table
-in_table : (c : tie.In-loop invariant-loop decreases-loop) → c.before.loop.a < 1024
+in_table : (c : tie.In-loop-a invariant-loop decreases-loop) → c.loop-a.a < 1024
 in_table c =
     let s = c.before.before.before in
-    omega (arith, c.loop-test.true, s.requires.0, s.requires.1.transitions, s.requires.1.arcs s.args.j)
+    omega (arith, c.loop-a-test.true, s.requires.0, s.requires.1.transitions, s.requires.1.arcs s.args.j)
 
-mul-from : tie.Need-overflow-mul-from invariant-loop decreases-loop
+mul-from : tie.Need-overflow_mul-from invariant-loop decreases-loop
 mul-from c = omega (arith, c.requires.0, c.requires.1.transitions)
 
-mul-end : tie.Need-overflow-mul-end invariant-loop decreases-loop
+mul-end : tie.Need-offset_bounds-arcs-j invariant-loop decreases-loop
 mul-end c = omega (arith, c.requires.0, c.requires.1.transitions)
 
-element-copy-out-end : tie.Need-element-copy-out-end invariant-loop decreases-loop
+element-copy-out-end : tie.Need-bounds-arcs-j invariant-loop decreases-loop
 element-copy-out-end c = omega (arith, c.requires.0, c.requires.1.transitions)
 
-add-end : tie.Need-overflow-add-end invariant-loop decreases-loop
-add-end c = omega (arith, c.before.requires.0, c.before.requires.1.transitions, c.before.requires.1.arcs c.before.args.j)
+add-end : tie.Need-overflow_add-end invariant-loop decreases-loop
+add-end c = omega (arith, c.requires.0, c.requires.1.transitions, c.requires.1.arcs c.args.j)
 
-loop-holds : tie.Need-loop-init invariant-loop decreases-loop
+loop-holds : tie.Need-loop-a-init invariant-loop decreases-loop
 loop-holds c =
-    let s = c.before.args in
-    (omega arith, open_all (lent s.places s.transitions s.initial.now s.capacity.now s.rate.now s.delay.now s.arcs.now s.kind.now s.place.now s.weight.now) s.counts.now s.j c.before.requires.1 c.before.requires.3.small)
+    let s = c.args in
+    (omega arith, open_all (lent s.places s.transitions s.initial.now s.capacity.now s.rate.now s.delay.now s.arcs.now s.kind.now s.place.now s.weight.now) s.counts.now s.j c.requires.1 c.requires.3.small)
 
-mul-p : tie.Need-overflow-mul-p invariant-loop decreases-loop
+mul-p : tie.Need-offset_bounds-place-a invariant-loop decreases-loop
 mul-p c = omega (arith, in_table c)
 
-element-copy-out-p : tie.Need-element-copy-out-p invariant-loop decreases-loop
-element-copy-out-p c = omega (arith, in_table c)
+element-copy-out-p : tie.Need-bounds-place-a invariant-loop decreases-loop
+element-copy-out-p c = omega (arith, in_table c.before)
 
-mul-l : tie.Need-overflow-mul-l invariant-loop decreases-loop
-mul-l c = omega (arith, in_table c.before)
+mul-l : tie.Need-offset_bounds-limit-a invariant-loop decreases-loop
+mul-l c = omega (arith, in_table c.before.before)
 
-element-copy-out-l : tie.Need-element-copy-out-l invariant-loop decreases-loop
-element-copy-out-l c = omega (arith, in_table c.before)
+element-copy-out-l : tie.Need-bounds-limit-a invariant-loop decreases-loop
+element-copy-out-l c = omega (arith, in_table c.before.before.before)
 
-mul-slot-open : tie.Need-overflow-mul-slot-open invariant-loop decreases-loop
+mul-slot-open : tie.Need-offset_bounds-counts-p invariant-loop decreases-loop
 mul-slot-open c =
     let l = c.before.before.before in
     let s = l.before.before in
-    omega (arith, s.requires.1.place l.loop.a, s.requires.1.places)
+    omega (arith, s.requires.1.place l.loop-a.a, s.requires.1.places)
 
-element-copy-out-slot-open : tie.Need-element-copy-out-slot-open invariant-loop decreases-loop
+element-copy-out-slot-open : tie.Need-bounds-counts-p invariant-loop decreases-loop
 element-copy-out-slot-open c =
     let l = c.before.before.before in
     let s = l.before.before in
-    omega (arith, s.requires.1.place l.loop.a, s.requires.1.places)
+    omega (arith, s.requires.1.place l.loop-a.a, s.requires.1.places)
 
-slot-open-requires : tie.Need-slot-open-requires invariant-loop decreases-loop
+slot-open-requires : tie.Need-slot_open-requires invariant-loop decreases-loop
 slot-open-requires c κs = search rules
 
-returns : tie.Need-returns invariant-loop decreases-loop
+returns : tie.Need-returns-then-not-slot_open invariant-loop decreases-loop
 returns c =
     let l = c.before.before.before.before.before in
     let r = l.before.before.before in
     let s = r.args in
-    from_last (lent s.places s.transitions s.initial.now s.capacity.now s.rate.now s.delay.now s.arcs.now s.kind.now s.place.now s.weight.now) r.requires.1 s.counts.now r.requires.3.small s.j l.before.loop.a (get_or s.limit.now l.before.loop.a 0) l.before.loop.invariant.0 l.loop-test.true
-    (r.requires.2 l.before.loop.a (omega (arith, l.loop-test.true, r.requires.0, r.requires.1.arcs s.j))) l.before.loop.invariant.1 (sym c.before.slot-open.ensures ∙ not-true _ c.if1.true)
+    from_last (lent s.places s.transitions s.initial.now s.capacity.now s.rate.now s.delay.now s.arcs.now s.kind.now s.place.now s.weight.now) r.requires.1 s.counts.now r.requires.3.small s.j l.loop-a.a (get_or s.limit.now l.loop-a.a 0) l.loop-a.invariant.0 l.loop-a-test.true
+    (r.requires.2 l.loop-a.a (omega (arith, l.loop-a-test.true, r.requires.0, r.requires.1.arcs s.j))) l.loop-a.invariant.1 (sym c.slot_open.ensures ∙ not-true _ c.if-not-slot_open.true)
 
-add_a : tie.Need-overflow-add-a invariant-loop decreases-loop
-add_a c = omega (arith, in_table c.before.before.before.before.before)
+add_a : tie.Need-overflow_add-a invariant-loop decreases-loop
+add_a c = omega (arith, in_table c.before.before.before.before.before.before.before.before)
 
-loop-less : tie.Need-loop-smaller invariant-loop decreases-loop
+loop-less : tie.Need-loop-a-smaller invariant-loop decreases-loop
 loop-less c = search rules
 
-loop-again : tie.Need-loop-preserved invariant-loop decreases-loop
+loop-again : tie.Need-loop-a-preserved invariant-loop decreases-loop
 loop-again c =
     let l = c.before.before.before.before.before in
     let r = l.before.before.before in
     let s = r.args in (
-      omega (arith, l.before.loop.invariant.0),
-      from_open (lent s.places s.transitions s.initial.now s.capacity.now s.rate.now s.delay.now s.arcs.now s.kind.now s.place.now s.weight.now) r.requires.1 s.counts.now r.requires.3.small s.j l.before.loop.a (get_or s.limit.now l.before.loop.a 0) l.before.loop.invariant.0 l.loop-test.true
-          (r.requires.2 l.before.loop.a (omega (arith, l.loop-test.true, r.requires.0, r.requires.1.arcs s.j))) l.before.loop.invariant.1 (sym c.before.slot-open.ensures ∙ not-false _ c.if1.false),
+      omega (arith, l.loop-a.invariant.0),
+      from_open (lent s.places s.transitions s.initial.now s.capacity.now s.rate.now s.delay.now s.arcs.now s.kind.now s.place.now s.weight.now) r.requires.1 s.counts.now r.requires.3.small s.j l.loop-a.a (get_or s.limit.now l.loop-a.a 0) l.loop-a.invariant.0 l.loop-a-test.true
+          (r.requires.2 l.loop-a.a (omega (arith, l.loop-a-test.true, r.requires.0, r.requires.1.arcs s.j))) l.loop-a.invariant.1 (sym c.slot_open.ensures ∙ not-false _ c.if-not-slot_open.false),
     )
 
-returns-2 : tie.Need-returns-2 invariant-loop decreases-loop
+returns-2 : tie.Need-returns invariant-loop decreases-loop
 returns-2 c =
     let l = c.before in
-    let s = l.before.before.args in
-    from_end (limit_at (lent s.places s.transitions s.initial.now s.capacity.now s.rate.now s.delay.now s.arcs.now s.kind.now s.place.now s.weight.now)) s.place.now s.counts.now l.loop.a (16 * s.j + get_or s.arcs.now s.j 0) c.loop-test.false l.loop.invariant.1
+    let s = l.args in
+    from_end (limit_at (lent s.places s.transitions s.initial.now s.capacity.now s.rate.now s.delay.now s.arcs.now s.kind.now s.place.now s.weight.now)) s.place.now s.counts.now l.loop-a.a (16 * s.j + get_or s.arcs.now s.j 0) c.loop-a-test.false l.loop-a.invariant.1
 
-pub enabled-spec : {M : Type 1} → statement M
-enabled-spec =
+pub enabled_spec : {M : Type 1} → statement M
+enabled_spec =
     tie.close
     (tie.spec
     invariant-loop

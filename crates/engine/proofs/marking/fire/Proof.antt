@@ -17,200 +17,200 @@ use Rattle.engine.proofs.Touching.{fire_takes, fire_puts, told_none, told_same, 
 use Rattle.engine.proofs.marking.fire.Statement.{statement}
 use Rattle.engine.proofs.marking.fire.Tie as tie
 
-abbrev invariant-loop : tie.invariant-loop
+abbrev invariant-loop : tie.invariant-loop-a
 invariant-loop places arcs kind place weight guards counts₀ j from end less₀ more₀ moved₀ crossed₀ a₀ counts less more moved crossed a =
     Firing places kind place weight end (marking places counts₀) (firing_of (marking places counts₀) (slots kind place weight (16 * j) (get_or arcs j 0))) counts less more a
     × Told moves_on j places arcs kind place weight guards counts₀ counts moved crossed
     × (16 * j ≤ a)
 
-abbrev decreases-loop : tie.decreases-loop
+abbrev decreases-loop : tie.decreases-loop-a
 decreases-loop places arcs kind place weight guards counts₀ j from end less₀ more₀ moved₀ crossed₀ a₀ counts less more moved crossed a = end - a
 
 -- the slot is one of the table, and its place one of the counts
-in_table : (c : tie.In-loop invariant-loop decreases-loop) → c.before.loop.a < 1024
+in_table : (c : tie.In-loop-a invariant-loop decreases-loop) → c.loop-a.a < 1024
 in_table c =
     let s = c.before.before.before in
-    omega (arith, c.loop-test.true, s.requires.0, s.requires.2 s.args.j)
+    omega (arith, c.loop-a-test.true, s.requires.0, s.requires.2 s.args.j)
 
-at_place : (c : tie.In-loop invariant-loop decreases-loop) → get_or c.before.before.before.args.place.now c.before.loop.a 0 < 32
+at_place : (c : tie.In-loop-a invariant-loop decreases-loop) → get_or c.args.place.now c.loop-a.a 0 < 32
 at_place c =
     let s = c.before.before.before in
-    omega (arith, s.requires.1, s.requires.3 c.before.loop.a)
+    omega (arith, s.requires.1, s.requires.3 c.loop-a.a)
 
-mul-from : tie.Need-overflow-mul-from invariant-loop decreases-loop
+mul-from : tie.Need-overflow_mul-from invariant-loop decreases-loop
 mul-from c = search rules
 
-mul-end : tie.Need-overflow-mul-end invariant-loop decreases-loop
+mul-end : tie.Need-offset_bounds-arcs-j invariant-loop decreases-loop
 mul-end c = search rules
 
-element-copy-out-end : tie.Need-element-copy-out-end invariant-loop decreases-loop
+element-copy-out-end : tie.Need-bounds-arcs-j invariant-loop decreases-loop
 element-copy-out-end c = search rules
 
-add-end : tie.Need-overflow-add-end invariant-loop decreases-loop
-add-end c = omega (arith, c.before.requires.2 c.before.args.j)
+add-end : tie.Need-overflow_add-end invariant-loop decreases-loop
+add-end c = omega (arith, c.requires.2 c.args.j)
 
-loop-holds : tie.Need-loop-init invariant-loop decreases-loop
+loop-holds : tie.Need-loop-a-init invariant-loop decreases-loop
 loop-holds c =
-    let s = c.before.args in
-    let pre = c.before.requires in (
+    let s = c.args in
+    let pre = c.requires in (
       firing_none s.places s.kind.now s.place.now s.weight.now s.counts.now (16 * s.j) (get_or s.arcs.now s.j 0) pre.5 pre.6 (pre.2 s.j),
       told_none moves_on s.j s.places s.arcs.now s.kind.now s.place.now s.weight.now s.guards.now s.counts.now,
       omega arith,
     )
 
-mul-p : tie.Need-overflow-mul-p invariant-loop decreases-loop
+mul-p : tie.Need-offset_bounds-place-a invariant-loop decreases-loop
 mul-p c = omega (arith, in_table c)
 
-element-copy-out-p : tie.Need-element-copy-out-p invariant-loop decreases-loop
-element-copy-out-p c = omega (arith, in_table c)
+element-copy-out-p : tie.Need-bounds-place-a invariant-loop decreases-loop
+element-copy-out-p c = omega (arith, in_table c.before)
 
-mul-k : tie.Need-overflow-mul-k invariant-loop decreases-loop
-mul-k c = omega (arith, in_table c.before)
+mul-k : tie.Need-offset_bounds-kind-a invariant-loop decreases-loop
+mul-k c = omega (arith, in_table c.before.before)
 
-element-copy-out-k : tie.Need-element-copy-out-k invariant-loop decreases-loop
-element-copy-out-k c = omega (arith, in_table c.before)
+element-copy-out-k : tie.Need-bounds-kind-a invariant-loop decreases-loop
+element-copy-out-k c = omega (arith, in_table c.before.before.before)
 
-mul-c : tie.Need-overflow-mul-c invariant-loop decreases-loop
-mul-c c = omega (arith, at_place c.before.before)
+mul-c : tie.Need-offset_bounds-counts-p invariant-loop decreases-loop
+mul-c c = omega (arith, at_place c.before.before.before.before)
 
-element-copy-out-c : tie.Need-element-copy-out-c invariant-loop decreases-loop
-element-copy-out-c c = omega (arith, at_place c.before.before)
+element-copy-out-c : tie.Need-bounds-counts-p invariant-loop decreases-loop
+element-copy-out-c c = omega (arith, at_place c.before.before.before.before.before)
 
-mul-amount : tie.Need-overflow-mul-amount invariant-loop decreases-loop
-mul-amount c = omega (arith, in_table c.before.before.before.before)
+mul-amount : tie.Need-offset_bounds-weight-a invariant-loop decreases-loop
+mul-amount c = omega (arith, in_table c.before.before.before.before.before.before.before)
 
-element-copy-out-amount : tie.Need-element-copy-out-amount invariant-loop decreases-loop
-element-copy-out-amount c = omega (arith, in_table c.before.before.before.before)
+element-copy-out-amount : tie.Need-bounds-weight-a invariant-loop decreases-loop
+element-copy-out-amount c = omega (arith, in_table c.before.before.before.before.before.before.before.before)
 
-amount-requires : tie.Need-amount-requires invariant-loop decreases-loop
+amount-requires : tie.Need-amount-x-requires invariant-loop decreases-loop
 amount-requires c κs = search rules
 
-add-d : tie.Need-overflow-add-d invariant-loop decreases-loop
+add-d : tie.Need-overflow_add-d invariant-loop decreases-loop
 add-d c =
     let l = c.before.before.before.before.before.before.before in
     let s = l.before.before in
-    let small = l.loop.invariant.0.good.small (get_or s.args.place.now l.loop.a 0) in
-    omega (arith, c.amount.ensures, amount_most (get_or s.args.weight.now l.loop.a 0) (s.requires.4 l.loop.a))
+    let small = l.loop-a.invariant.0.good.small (get_or s.args.place.now l.loop-a.a 0) in
+    omega (arith, c.amount-x.ensures, amount_most (get_or s.args.weight.now l.loop-a.a 0) (s.requires.4 l.loop-a.a))
 
-returns : tie.Need-returns invariant-loop decreases-loop
+returns : tie.Need-returns-then-d-gt9007199254740992 invariant-loop decreases-loop
 returns c =
     let i = c.before.before.before.before.before.before.before in
     let l = i.before in
-    let pre = l.before.before.requires in
-    let x = c.before.amount in (
-      firing_stop _ _ _ _ _ _ _ _ _ _ _ l.loop.invariant.0 i.loop-test.true pre.1 (pre.3 l.loop.a) (pre.4 l.loop.a)
-          (eq-eqb _ 2 c.before.before.before.if1.true) x.result x.ensures c.if2.true _,
-      l.loop.invariant.0.good,
+    let pre = l.requires in
+    let x = c.amount-x in (
+      firing_stop _ _ _ _ _ _ _ _ _ _ _ l.loop-a.invariant.0 i.loop-a-test.true pre.1 (pre.3 l.loop-a.a) (pre.4 l.loop-a.a)
+          (eq-eqb _ 2 c.if-k-eq2.true) x.result x.ensures c.if-d-gt9007199254740992.true _,
+      l.loop-a.invariant.0.good,
       λ t. absurd (false≢true t),
       omega arith,
       λ t. absurd (false≢true t),
     )
 
-mul-counts : tie.Need-overflow-mul-counts invariant-loop decreases-loop
-mul-counts c = omega (arith, at_place c.before.before.before.before.before.before.before)
+mul-counts : tie.Need-offset_bounds-counts-p-then-k-eq2 invariant-loop decreases-loop
+mul-counts c = omega (arith, at_place c.before.before.before.before.before.before.before.before.before.before.before)
 
-element-write-counts : tie.Need-element-write-counts invariant-loop decreases-loop
-element-write-counts c = omega (arith, at_place c.before.before.before.before.before.before.before)
+element-write-counts : tie.Need-bounds-counts-p-then-k-eq2 invariant-loop decreases-loop
+element-write-counts c = omega (arith, at_place c.before.before.before.before.before.before.before.before.before.before.before)
 
-add-more : tie.Need-overflow-add-more invariant-loop decreases-loop
+add-more : tie.Need-overflow_add-more invariant-loop decreases-loop
 add-more c =
     let l = c.before.before.before.before.before.before.before.before in
-    omega (arith, c.if2.false, l.loop.invariant.0.few)
+    omega (arith, c.if-d-gt9007199254740992.false, l.loop-a.invariant.0.few)
 
-mul-moved : tie.Need-overflow-mul-moved invariant-loop decreases-loop
-mul-moved c = omega (arith, at_place c.before.before.before.before.before.before.before)
+mul-moved : tie.Need-offset_bounds-guards-p invariant-loop decreases-loop
+mul-moved c = omega (arith, at_place c.before.before.before.before.before.before.before.before.before.before.before)
 
-element-copy-out-moved : tie.Need-element-copy-out-moved invariant-loop decreases-loop
-element-copy-out-moved c = omega (arith, at_place c.before.before.before.before.before.before.before)
+element-copy-out-moved : tie.Need-bounds-guards-p invariant-loop decreases-loop
+element-copy-out-moved c = omega (arith, at_place c.before.before.before.before.before.before.before.before.before.before.before.before)
 
-crossed-requires : tie.Need-crossed-requires invariant-loop decreases-loop
-crossed-requires c κs = at_place c.before.before.before.before.before.before.before.before
+crossed-requires : tie.Need-crossed-crossed-requires invariant-loop decreases-loop
+crossed-requires c κs = at_place c.before.before.before.before.before.before.before.before.before.before.before.before.before
 
-mul-taken-from : tie.Need-overflow-mul-taken-from invariant-loop decreases-loop
-mul-taken-from c = omega (arith, in_table c.before.before.before.before)
+mul-taken-from : tie.Need-offset_bounds-weight-a-else-k-eq2 invariant-loop decreases-loop
+mul-taken-from c = omega (arith, in_table c.before.before.before.before.before.before.before)
 
-element-copy-out-taken-from : tie.Need-element-copy-out-taken-from invariant-loop decreases-loop
-element-copy-out-taken-from c = omega (arith, in_table c.before.before.before.before)
+element-copy-out-taken-from : tie.Need-bounds-weight-a-else-k-eq2 invariant-loop decreases-loop
+element-copy-out-taken-from c = omega (arith, in_table c.before.before.before.before.before.before.before.before)
 
-taken-from-requires : tie.Need-taken-from-requires invariant-loop decreases-loop
+taken-from-requires : tie.Need-taken_from-y-requires invariant-loop decreases-loop
 taken-from-requires c κs = search rules
 
-sub_low : tie.Need-overflow-sub-low invariant-loop decreases-loop
-sub_low c = omega (arith, c.before.taken-from.ensures)
+sub_low : tie.Need-overflow_sub-low invariant-loop decreases-loop
+sub_low c = omega (arith, c.taken_from-y.ensures)
 
-mul-counts-2 : tie.Need-overflow-mul-counts-2 invariant-loop decreases-loop
-mul-counts-2 c = omega (arith, at_place c.before.before.before.before.before.before.before)
+mul-counts-2 : tie.Need-offset_bounds-counts-p-then-y-gt0 invariant-loop decreases-loop
+mul-counts-2 c = omega (arith, at_place c.before.before.before.before.before.before.before.before.before.before.before)
 
-element-write-counts-2 : tie.Need-element-write-counts-2 invariant-loop decreases-loop
-element-write-counts-2 c = omega (arith, at_place c.before.before.before.before.before.before.before)
+element-write-counts-2 : tie.Need-bounds-counts-p-then-y-gt0 invariant-loop decreases-loop
+element-write-counts-2 c = omega (arith, at_place c.before.before.before.before.before.before.before.before.before.before.before)
 
-add-less : tie.Need-overflow-add-less invariant-loop decreases-loop
+add-less : tie.Need-overflow_add-less invariant-loop decreases-loop
 add-less c =
     let l = c.before.before.before.before.before.before.before.before in
     let s = l.before.before in
-    omega (arith, c.before.taken-from.ensures, takes_most (get_or s.args.kind.now l.loop.a 0) (get_or s.args.weight.now l.loop.a 0) (s.requires.4 l.loop.a), l.loop.invariant.0.few)
+    omega (arith, c.taken_from-y.ensures, takes_most (get_or s.args.kind.now l.loop-a.a 0) (get_or s.args.weight.now l.loop-a.a 0) (s.requires.4 l.loop-a.a), l.loop-a.invariant.0.few)
 
-mul-moved-2 : tie.Need-overflow-mul-moved-2 invariant-loop decreases-loop
-mul-moved-2 c = omega (arith, at_place c.before.before.before.before.before.before.before)
+mul-moved-2 : tie.Need-offset_bounds-guards-p-then-y-gt0 invariant-loop decreases-loop
+mul-moved-2 c = omega (arith, at_place c.before.before.before.before.before.before.before.before.before.before.before)
 
-element-copy-out-moved-2 : tie.Need-element-copy-out-moved-2 invariant-loop decreases-loop
-element-copy-out-moved-2 c = omega (arith, at_place c.before.before.before.before.before.before.before)
+element-copy-out-moved-2 : tie.Need-bounds-guards-p-then-y-gt0 invariant-loop decreases-loop
+element-copy-out-moved-2 c = omega (arith, at_place c.before.before.before.before.before.before.before.before.before.before.before.before)
 
-crossed-requires-2 : tie.Need-crossed-requires-2 invariant-loop decreases-loop
-crossed-requires-2 c κs = at_place c.before.before.before.before.before.before.before.before
+crossed-requires-2 : tie.Need-crossed-crossed-requires-then-y-gt0 invariant-loop decreases-loop
+crossed-requires-2 c κs = at_place c.before.before.before.before.before.before.before.before.before.before.before.before.before
 
-add_a : tie.Need-overflow-add-a invariant-loop decreases-loop
-add_a c = omega (arith, in_table c.before.before.before.before)
+add_a : tie.Need-overflow_add-a invariant-loop decreases-loop
+add_a c = omega (arith, in_table c.before.before.before.before.before.before.before)
 
-loop-less : tie.Need-loop-smaller invariant-loop decreases-loop
+loop-less : tie.Need-loop-a-smaller invariant-loop decreases-loop
 loop-less c = search rules
 
-loop-again : tie.Need-loop-preserved invariant-loop decreases-loop
+loop-again : tie.Need-loop-a-preserved invariant-loop decreases-loop
 loop-again c =
     let i = c.before.before.before.before in
     let l = i.before in
     let s = l.before.before in
-    let p = get_or s.args.place.now l.loop.a 0 in
-    let count = get_or l.loop.counts p 0 in
-    let small = l.loop.invariant.0.good.small p in
+    let p = get_or s.args.place.now l.loop-a.a 0 in
+    let count = get_or l.loop-a.counts p 0 in
+    let small = l.loop-a.invariant.0.good.small p in
     ⊎_elim
     (λ w. (
-      firing_put _ _ _ _ _ _ _ _ _ _ _ l.loop.invariant.0 i.loop-test.true s.requires.1 (s.requires.3 l.loop.a) (s.requires.4 l.loop.a)
+      firing_put _ _ _ _ _ _ _ _ _ _ _ l.loop-a.invariant.0 i.loop-a-test.true s.requires.1 (s.requires.3 l.loop-a.a) (s.requires.4 l.loop-a.a)
           (eq-eqb _ 2 w.0.taken) w.2.result w.2.ensures w.3.left _ _ _ w.6 w.7 w.8,
-      told_more moves_on _ _ _ _ _ _ _ _ _ _ _ l.loop.invariant.1 l.loop.invariant.0.good p (count + w.2.result) count (count + w.2.result) w.5.result
+      told_more moves_on _ _ _ _ _ _ _ _ _ _ _ l.loop-a.invariant.1 l.loop-a.invariant.0.good p (count + w.2.result) count (count + w.2.result) w.5.result
           (λ transitions initial capacity rate delay. fire_puts s.args.arcs.now s.args.kind.now s.args.place.now s.args.weight.now
-          s.args.j l.loop.a l.loop.invariant.2 i.loop-test.true (eq-eqb _ 2 w.0.taken))
-          (s.requires.3 l.loop.a) (omega arith) (omega arith) (omega arith) (omega arith) w.3.left w.5.ensures _ _ _ w.6 w.9 w.10,
-      omega (arith, l.loop.invariant.2),
+          s.args.j l.loop-a.a l.loop-a.invariant.2 i.loop-a-test.true (eq-eqb _ 2 w.0.taken))
+          (s.requires.3 l.loop-a.a) (omega arith) (omega arith) (omega arith) (omega arith) w.3.left w.5.ensures _ _ _ w.6 w.9 w.10,
+      omega (arith, l.loop-a.invariant.2),
     ))
     (⊎_elim
     (λ w. (
-      firing_take _ _ _ _ _ _ _ _ _ _ _ l.loop.invariant.0 i.loop-test.true s.requires.1 (s.requires.3 l.loop.a) (s.requires.4 l.loop.a)
+      firing_take _ _ _ _ _ _ _ _ _ _ _ l.loop-a.invariant.0 i.loop-a-test.true s.requires.1 (s.requires.3 l.loop-a.a) (s.requires.4 l.loop-a.a)
           (ne_eqb _ 2 w.0.left) w.2.result w.2.ensures _ _ _ w.6 w.7 w.8,
-      told_more moves_on _ _ _ _ _ _ _ _ _ _ _ l.loop.invariant.1 l.loop.invariant.0.good p (count - w.2.result) (count - w.2.result) count w.5.result
+      told_more moves_on _ _ _ _ _ _ _ _ _ _ _ l.loop-a.invariant.1 l.loop-a.invariant.0.good p (count - w.2.result) (count - w.2.result) count w.5.result
           (λ transitions initial capacity rate delay. fire_takes s.args.arcs.now s.args.kind.now s.args.place.now s.args.weight.now
-          s.args.j l.loop.a l.loop.invariant.2 i.loop-test.true count w.2.result w.3.taken w.2.ensures)
-          (s.requires.3 l.loop.a) (omega arith) (omega arith) (omega arith) (omega arith) small w.5.ensures _ _ _ w.6 w.9 w.10,
-      omega (arith, l.loop.invariant.2),
+          s.args.j l.loop-a.a l.loop-a.invariant.2 i.loop-a-test.true count w.2.result w.3.taken w.2.ensures)
+          (s.requires.3 l.loop-a.a) (omega arith) (omega arith) (omega arith) (omega arith) small w.5.ensures _ _ _ w.6 w.9 w.10,
+      omega (arith, l.loop-a.invariant.2),
     ))
     (λ w.
     let none : count - w.2.result ≡ count = omega (arith, w.3.left) in (
-      firing_take _ _ _ _ _ _ _ _ _ _ _ l.loop.invariant.0 i.loop-test.true s.requires.1 (s.requires.3 l.loop.a) (s.requires.4 l.loop.a)
-          (ne_eqb _ 2 w.0.left) w.2.result w.2.ensures _ _ _ (w.4 ∙ sym (set_same l.loop.counts p (count - w.2.result) none))
+      firing_take _ _ _ _ _ _ _ _ _ _ _ l.loop-a.invariant.0 i.loop-a-test.true s.requires.1 (s.requires.3 l.loop-a.a) (s.requires.4 l.loop-a.a)
+          (ne_eqb _ 2 w.0.left) w.2.result w.2.ensures _ _ _ (w.4 ∙ sym (set_same l.loop-a.counts p (count - w.2.result) none))
           (omega (arith, w.3.left, w.5)) w.6,
-      told_same moves_on _ _ _ _ _ _ _ _ _ _ _ l.loop.invariant.1 _ _ _ w.4 w.7 w.8,
-      omega (arith, l.loop.invariant.2),
+      told_same moves_on _ _ _ _ _ _ _ _ _ _ _ l.loop-a.invariant.1 _ _ _ w.4 w.7 w.8,
+      omega (arith, l.loop-a.invariant.2),
     )))
-    c.if1.branch
+    c.if-k-eq2.branch
 
-returns-2 : tie.Need-returns-2 invariant-loop decreases-loop
+returns-2 : tie.Need-returns invariant-loop decreases-loop
 returns-2 c =
     let l = c.before in
-    let f = l.loop.invariant.0 in
-    (firing_all _ _ _ _ _ _ _ _ _ _ _ f c.loop-test.false, f.good, λ t. f.sums, omega (arith, f.few), λ t. l.loop.invariant.1)
+    let f = l.loop-a.invariant.0 in
+    (firing_all _ _ _ _ _ _ _ _ _ _ _ f c.loop-a-test.false, f.good, λ t. f.sums, omega (arith, f.few), λ t. l.loop-a.invariant.1)
 
-pub fire-spec : {M : Type 1} → statement M
-fire-spec =
+pub fire_spec : {M : Type 1} → statement M
+fire_spec =
     tie.close
     (tie.spec
     invariant-loop

@@ -15,14 +15,19 @@ some r =
     let s = r.args in
     some_inexact (marking s.places s.counts.now) (transition (lent s.places s.transitions s.initial.now s.capacity.now s.rate.now s.delay.now s.arcs.now s.kind.now s.place.now s.weight.now) s.j).takes
 
-some-inexact-requires : tie.Need-some-inexact-requires
-some-inexact-requires c κs = c.before.requires
+some-inexact-requires : tie.Need-some_inexact-requires
+some-inexact-requires c κs = c.requires
 
-returns : tie.Need-returns
-returns c = c.some-inexact.ensures ∙ sym (ap (λ (b : Bool). b && some c.before.before) c.before.if1.true)
+returns : tie.Need-returns-then-a
+returns c = c.some_inexact.ensures ∙ sym (ap (λ (b : Bool). b && some c.before.before) c.if-a.true)
 
-returns-2 : tie.Need-returns-2
-returns-2 c = sym (ap (λ (b : Bool). b && some c.before) c.if1.false)
+returns-2 : tie.Need-returns
+returns-2 c = sym (ap (λ (b : Bool). b && some c.before) c.if-a.false)
 
-pub rounded-spec : {M : Type 1} → statement M
-rounded-spec = tie.close (tie.spec some-inexact-requires returns returns-2)
+pub rounded_spec : {M : Type 1} → statement M
+rounded_spec =
+    tie.close
+    (tie.spec
+    some-inexact-requires
+    returns
+    returns-2)

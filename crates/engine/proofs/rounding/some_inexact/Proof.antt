@@ -12,104 +12,104 @@ use Rattle.engine.proofs.Inexact.{kinetic, kinetic_turn, kinetic_end, off, off_a
 use Rattle.engine.proofs.rounding.some_inexact.Statement.{statement}
 use Rattle.engine.proofs.rounding.some_inexact.Tie as tie
 
-abbrev invariant-loop : tie.invariant-loop
+abbrev invariant-loop : tie.invariant-loop-a
 invariant-loop places transitions initial capacity rate delay arcs kind place weight counts j from end a₀ a =
     any (kinetic (off counts)) (takes_of (slots kind place weight a (end - a))) ≡ any (kinetic (off counts)) (takes_of (slots kind place weight from (end - from)))
 
-abbrev decreases-loop : tie.decreases-loop
+abbrev decreases-loop : tie.decreases-loop-a
 decreases-loop places transitions initial capacity rate delay arcs kind place weight counts j from end a₀ a = end - a
 
 -- the slot is one of the table
-in_table : (c : tie.In-loop invariant-loop decreases-loop) → c.before.loop.a < 1024
+in_table : (c : tie.In-loop-a invariant-loop decreases-loop) → c.loop-a.a < 1024
 in_table c =
     let s = c.before.before.before in
-    omega (arith, c.loop-test.true, s.requires.0, s.requires.1.transitions, s.requires.1.arcs s.args.j)
+    omega (arith, c.loop-a-test.true, s.requires.0, s.requires.1.transitions, s.requires.1.arcs s.args.j)
 
-mul-from : tie.Need-overflow-mul-from invariant-loop decreases-loop
+mul-from : tie.Need-overflow_mul-from invariant-loop decreases-loop
 mul-from c = omega (arith, c.requires.0, c.requires.1.transitions)
 
-mul-end : tie.Need-overflow-mul-end invariant-loop decreases-loop
+mul-end : tie.Need-offset_bounds-arcs-j invariant-loop decreases-loop
 mul-end c = omega (arith, c.requires.0, c.requires.1.transitions)
 
-element-copy-out-end : tie.Need-element-copy-out-end invariant-loop decreases-loop
+element-copy-out-end : tie.Need-bounds-arcs-j invariant-loop decreases-loop
 element-copy-out-end c = omega (arith, c.requires.0, c.requires.1.transitions)
 
-add-end : tie.Need-overflow-add-end invariant-loop decreases-loop
-add-end c = omega (arith, c.before.requires.0, c.before.requires.1.transitions, c.before.requires.1.arcs c.before.args.j)
+add-end : tie.Need-overflow_add-end invariant-loop decreases-loop
+add-end c = omega (arith, c.requires.0, c.requires.1.transitions, c.requires.1.arcs c.args.j)
 
-loop-holds : tie.Need-loop-init invariant-loop decreases-loop
+loop-holds : tie.Need-loop-a-init invariant-loop decreases-loop
 loop-holds c = refl
 
-mul-p : tie.Need-overflow-mul-p invariant-loop decreases-loop
+mul-p : tie.Need-offset_bounds-place-a invariant-loop decreases-loop
 mul-p c = omega (arith, in_table c)
 
-element-copy-out-p : tie.Need-element-copy-out-p invariant-loop decreases-loop
-element-copy-out-p c = omega (arith, in_table c)
+element-copy-out-p : tie.Need-bounds-place-a invariant-loop decreases-loop
+element-copy-out-p c = omega (arith, in_table c.before)
 
-mul-inexact-slot : tie.Need-overflow-mul-inexact-slot invariant-loop decreases-loop
-mul-inexact-slot c = omega (arith, in_table c.before)
+mul-inexact-slot : tie.Need-offset_bounds-kind-a invariant-loop decreases-loop
+mul-inexact-slot c = omega (arith, in_table c.before.before)
 
-element-copy-out-inexact-slot : tie.Need-element-copy-out-inexact-slot invariant-loop decreases-loop
-element-copy-out-inexact-slot c = omega (arith, in_table c.before)
+element-copy-out-inexact-slot : tie.Need-bounds-kind-a invariant-loop decreases-loop
+element-copy-out-inexact-slot c = omega (arith, in_table c.before.before.before)
 
-mul-inexact-slot-2 : tie.Need-overflow-mul-inexact-slot-2 invariant-loop decreases-loop
-mul-inexact-slot-2 c = omega (arith, in_table c.before.before)
+mul-inexact-slot-2 : tie.Need-offset_bounds-weight-a invariant-loop decreases-loop
+mul-inexact-slot-2 c = omega (arith, in_table c.before.before.before.before)
 
-element-copy-out-inexact-slot-2 : tie.Need-element-copy-out-inexact-slot-2 invariant-loop decreases-loop
-element-copy-out-inexact-slot-2 c = omega (arith, in_table c.before.before)
+element-copy-out-inexact-slot-2 : tie.Need-bounds-weight-a invariant-loop decreases-loop
+element-copy-out-inexact-slot-2 c = omega (arith, in_table c.before.before.before.before.before)
 
-mul-inexact-slot-3 : tie.Need-overflow-mul-inexact-slot-3 invariant-loop decreases-loop
+mul-inexact-slot-3 : tie.Need-offset_bounds-counts-p invariant-loop decreases-loop
 mul-inexact-slot-3 c =
     let l = c.before.before.before.before in
     let s = l.before.before in
-    omega (arith, s.requires.1.place l.loop.a, s.requires.1.places)
+    omega (arith, s.requires.1.place l.loop-a.a, s.requires.1.places)
 
-element-copy-out-inexact-slot-3 : tie.Need-element-copy-out-inexact-slot-3 invariant-loop decreases-loop
+element-copy-out-inexact-slot-3 : tie.Need-bounds-counts-p invariant-loop decreases-loop
 element-copy-out-inexact-slot-3 c =
     let l = c.before.before.before.before in
     let s = l.before.before in
-    omega (arith, s.requires.1.place l.loop.a, s.requires.1.places)
+    omega (arith, s.requires.1.place l.loop-a.a, s.requires.1.places)
 
-inexact-slot-requires : tie.Need-inexact-slot-requires invariant-loop decreases-loop
+inexact-slot-requires : tie.Need-inexact_slot-requires invariant-loop decreases-loop
 inexact-slot-requires c κs =
     let l = c.before.before.before.before.before in
     let s = l.before.before in
-    s.requires.2.small (get_or s.args.place.now l.loop.a 0)
+    s.requires.2.small (get_or s.args.place.now l.loop-a.a 0)
 
-returns : tie.Need-returns invariant-loop decreases-loop
+returns : tie.Need-returns-then-inexact_slot invariant-loop decreases-loop
 returns c =
     let l = c.before.before.before.before.before.before in
     let r = l.before.before.before in
     let s = r.args in
     let n = lent s.places s.transitions s.initial.now s.capacity.now s.rate.now s.delay.now s.arcs.now s.kind.now s.place.now s.weight.now in
-    or_stop _ _ (kinetic_turn (off s.counts.now) s.kind.now s.place.now s.weight.now l.before.loop.a (16 * s.j + get_or s.arcs.now s.j 0) l.before.loop.invariant l.loop-test.true)
-    (sym c.before.inexact-slot.ensures ∙ c.if1.true)
+    or_stop _ _ (kinetic_turn (off s.counts.now) s.kind.now s.place.now s.weight.now l.loop-a.a (16 * s.j + get_or s.arcs.now s.j 0) l.loop-a.invariant l.loop-a-test.true)
+    (sym c.inexact_slot.ensures ∙ c.if-inexact_slot.true)
     ∙ off_all n s.counts.now r.requires.1.place s.j
 
-add_a : tie.Need-overflow-add-a invariant-loop decreases-loop
-add_a c = omega (arith, in_table c.before.before.before.before.before.before)
+add_a : tie.Need-overflow_add-a invariant-loop decreases-loop
+add_a c = omega (arith, in_table c.before.before.before.before.before.before.before.before.before.before)
 
-loop-less : tie.Need-loop-smaller invariant-loop decreases-loop
+loop-less : tie.Need-loop-a-smaller invariant-loop decreases-loop
 loop-less c = search rules
 
-loop-again : tie.Need-loop-preserved invariant-loop decreases-loop
+loop-again : tie.Need-loop-a-preserved invariant-loop decreases-loop
 loop-again c =
     let l = c.before.before.before.before.before.before in
-    let s = l.before.before.before.args in
-    or_go _ _ (kinetic_turn (off s.counts.now) s.kind.now s.place.now s.weight.now l.before.loop.a (16 * s.j + get_or s.arcs.now s.j 0) l.before.loop.invariant l.loop-test.true)
-    (sym c.before.inexact-slot.ensures ∙ c.if1.false)
+    let s = l.args in
+    or_go _ _ (kinetic_turn (off s.counts.now) s.kind.now s.place.now s.weight.now l.loop-a.a (16 * s.j + get_or s.arcs.now s.j 0) l.loop-a.invariant l.loop-a-test.true)
+    (sym c.inexact_slot.ensures ∙ c.if-inexact_slot.false)
 
-returns-2 : tie.Need-returns-2 invariant-loop decreases-loop
+returns-2 : tie.Need-returns invariant-loop decreases-loop
 returns-2 c =
     let l = c.before in
     let r = l.before.before in
     let s = r.args in
     let n = lent s.places s.transitions s.initial.now s.capacity.now s.rate.now s.delay.now s.arcs.now s.kind.now s.place.now s.weight.now in
-    kinetic_end (off s.counts.now) s.kind.now s.place.now s.weight.now l.loop.a (16 * s.j + get_or s.arcs.now s.j 0) l.loop.invariant c.loop-test.false
+    kinetic_end (off s.counts.now) s.kind.now s.place.now s.weight.now l.loop-a.a (16 * s.j + get_or s.arcs.now s.j 0) l.loop-a.invariant c.loop-a-test.false
     ∙ off_all n s.counts.now r.requires.1.place s.j
 
-pub some-inexact-spec : {M : Type 1} → statement M
-some-inexact-spec =
+pub some_inexact_spec : {M : Type 1} → statement M
+some_inexact_spec =
     tie.close
     (tie.spec
     invariant-loop

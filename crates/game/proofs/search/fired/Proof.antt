@@ -18,31 +18,37 @@ net s =
 enabled-requires : tie.Need-enabled-requires
 enabled-requires c κs = search rules
 
-returns : tie.Need-returns
+returns : tie.Need-returns-then-not-enabled
 returns c =
     let e = c.before in
     let s = e.before.before in
     let a = s.args in (
       not_fired (net s) (marking a.places a.counts) a.j s.requires.0 (marking a.places a.counts)
-          (sym e.enabled.ensures ∙ not-true _ c.if1.true),
+          (sym e.enabled.ensures ∙ not-true _ c.if-not-enabled.true),
       s.requires.3,
     )
 
-fire-requires : tie.Need-fire-requires
+fire-requires : tie.Need-fire-f-requires
 fire-requires c κs =
     let s = c.before.before.before.before in
     (omega (arith, s.requires.0, s.requires.1.transitions), s.requires.1.places, s.requires.1.arcs, s.requires.1.place, s.requires.1.weight, s.requires.3, s.requires.1.order s.args.j s.requires.0)
 
-returns-2 : tie.Need-returns-2
+returns-2 : tie.Need-returns
 returns-2 c =
     let i = c.before.before in
     let e = i.before in
     let s = e.before.before in
     let a = s.args in (
-      is_fired (net s) (marking a.places a.counts) a.j s.requires.0 (marking a.places c.fire.new.1.1.1.1.1.1.0) c.fire.result.fits
-          (sym e.enabled.ensures ∙ not-false _ i.if1.false) c.fire.ensures.0,
-      c.fire.ensures.1,
+      is_fired (net s) (marking a.places a.counts) a.j s.requires.0 (marking a.places c.fire-f.new.1.1.1.1.1.1.0) c.fire-f.result.fits
+          (sym e.enabled.ensures ∙ not-false _ i.if-not-enabled.false) c.fire-f.ensures.0,
+      c.fire-f.ensures.1,
     )
 
-pub fired-spec : {M : Type 1} → statement M
-fired-spec = tie.close (tie.spec enabled-requires returns fire-requires returns-2)
+pub fired_spec : {M : Type 1} → statement M
+fired_spec =
+    tie.close
+    (tie.spec
+    enabled-requires
+    returns
+    fire-requires
+    returns-2)

@@ -8,11 +8,11 @@ use Prim.Native.Nat.{◌-◌, ◌*◌}
 use Rattle.index.proofs.guards.guards_of.Statement.{statement}
 use Rattle.index.proofs.guards.guards_of.Tie as tie
 
-abbrev invariant-loop : tie.invariant-loop
+abbrev invariant-loop : tie.invariant-loop-j
 invariant-loop places transitions initial capacity rate delay arcs kind place weight limit guards₀ j₀ guards j =
     Guarding (lent places transitions initial capacity rate delay arcs kind place weight) guards (16 * j)
 
-abbrev decreases-loop : tie.decreases-loop
+abbrev decreases-loop : tie.decreases-loop-j
 decreases-loop places transitions initial capacity rate delay arcs kind place weight limit guards₀ j₀ guards j = transitions - j
 
 abbrev net : tie.Start invariant-loop decreases-loop → NetRecord
@@ -20,37 +20,37 @@ net r =
     let s = r.args in
     lent s.places s.transitions s.initial.now s.capacity.now s.rate.now s.delay.now s.arcs.now s.kind.now s.place.now s.weight.now
 
-listed-words-requires : tie.Need-listed-words-requires invariant-loop decreases-loop
+listed-words-requires : tie.Need-listed_words-words-requires invariant-loop decreases-loop
 listed-words-requires c κs = search rules
 
-begun-requires : tie.Need-begun-requires invariant-loop decreases-loop
+begun-requires : tie.Need-begun-guards-requires invariant-loop decreases-loop
 begun-requires c κs = search rules
 
-loop-holds : tie.Need-loop-init invariant-loop decreases-loop
+loop-holds : tie.Need-loop-j-init invariant-loop decreases-loop
 loop-holds c =
     let w = c.before.before in
-    guarding_none (net w.before) w.listed-words.result c.begun.result c.begun.ensures w.listed-words.ensures
+    guarding_none (net w.before) w.listed_words-words.result c.begun-guards.result c.begun-guards.ensures w.listed_words-words.ensures
 
-add-k : tie.Need-overflow-add-k invariant-loop decreases-loop
+add-k : tie.Need-overflow_add-k invariant-loop decreases-loop
 add-k c = search rules
 
-guard-one-requires : tie.Need-guard-one-requires invariant-loop decreases-loop
+guard-one-requires : tie.Need-guard_one-requires invariant-loop decreases-loop
 guard-one-requires c κs = search rules
 
-loop-less : tie.Need-loop-smaller invariant-loop decreases-loop
+loop-less : tie.Need-loop-j-smaller invariant-loop decreases-loop
 loop-less c = search rules
 
-loop-again : tie.Need-loop-preserved invariant-loop decreases-loop
-loop-again c = c.guard-one.ensures
+loop-again : tie.Need-loop-j-preserved invariant-loop decreases-loop
+loop-again c = c.guard_one.ensures
 
 returns : tie.Need-returns invariant-loop decreases-loop
 returns c =
     let l = c.before in
     let r = l.before.before.before.before in
-    guarding_all (net r) r.requires.0 l.loop.guards l.loop.j l.loop.invariant c.loop-test.false
+    guarding_all (net r) r.requires.0 l.loop-j.guards l.loop-j.j l.loop-j.invariant c.loop-j-test.false
 
-pub guards-of-spec : {M : Type 1} → statement M
-guards-of-spec =
+pub guards_of_spec : {M : Type 1} → statement M
+guards_of_spec =
     tie.close
     (tie.spec
     invariant-loop

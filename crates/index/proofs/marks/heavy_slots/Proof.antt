@@ -14,65 +14,65 @@ use Rattle.engine.proofs.Inexact.{kinetic_turn, kinetic_end}
 use Rattle.index.proofs.marks.heavy_slots.Statement.{statement}
 use Rattle.index.proofs.marks.heavy_slots.Tie as tie
 
-abbrev invariant-loop : tie.invariant-loop
+abbrev invariant-loop : tie.invariant-loop-a
 invariant-loop kind place weight from end a₀ a = any heavy (takes_of (slots kind place weight a (end - a))) ≡ any heavy (takes_of (slots kind place weight from (end - from)))
 
-abbrev decreases-loop : tie.decreases-loop
+abbrev decreases-loop : tie.decreases-loop-a
 decreases-loop kind place weight from end a₀ a = end - a
 
 abbrev several : ℕ → ℕ → Bool
 several p w = ltb 1 (amount w)
 
 -- the slot is one of the table
-in_table : (c : tie.In-loop invariant-loop decreases-loop) → c.before.loop.a < 1024
-in_table c = omega (arith, c.loop-test.true, c.before.before.requires)
+in_table : (c : tie.In-loop-a invariant-loop decreases-loop) → c.loop-a.a < 1024
+in_table c = omega (arith, c.loop-a-test.true, c.requires)
 
-loop-holds : tie.Need-loop-init invariant-loop decreases-loop
+loop-holds : tie.Need-loop-a-init invariant-loop decreases-loop
 loop-holds c = refl
 
-mul-heavy-slot : tie.Need-overflow-mul-heavy-slot invariant-loop decreases-loop
+mul-heavy-slot : tie.Need-offset_bounds-kind-a invariant-loop decreases-loop
 mul-heavy-slot c = omega (arith, in_table c)
 
-element-copy-out-heavy-slot : tie.Need-element-copy-out-heavy-slot invariant-loop decreases-loop
-element-copy-out-heavy-slot c = omega (arith, in_table c)
+element-copy-out-heavy-slot : tie.Need-bounds-kind-a invariant-loop decreases-loop
+element-copy-out-heavy-slot c = omega (arith, in_table c.before)
 
-mul-heavy-slot-2 : tie.Need-overflow-mul-heavy-slot-2 invariant-loop decreases-loop
-mul-heavy-slot-2 c = omega (arith, in_table c.before)
+mul-heavy-slot-2 : tie.Need-offset_bounds-weight-a invariant-loop decreases-loop
+mul-heavy-slot-2 c = omega (arith, in_table c.before.before)
 
-element-copy-out-heavy-slot-2 : tie.Need-element-copy-out-heavy-slot-2 invariant-loop decreases-loop
-element-copy-out-heavy-slot-2 c = omega (arith, in_table c.before)
+element-copy-out-heavy-slot-2 : tie.Need-bounds-weight-a invariant-loop decreases-loop
+element-copy-out-heavy-slot-2 c = omega (arith, in_table c.before.before.before)
 
-heavy-slot-requires : tie.Need-heavy-slot-requires invariant-loop decreases-loop
+heavy-slot-requires : tie.Need-heavy_slot-requires invariant-loop decreases-loop
 heavy-slot-requires c κs = search rules
 
-returns : tie.Need-returns invariant-loop decreases-loop
+returns : tie.Need-returns-then-heavy_slot invariant-loop decreases-loop
 returns c =
     let l = c.before.before.before.before in
-    let s = l.before.before.args in
-    or_stop _ _ (kinetic_turn several s.kind.now s.place.now s.weight.now l.before.loop.a s.end l.before.loop.invariant l.loop-test.true)
-    (sym c.before.heavy-slot.ensures ∙ c.if1.true)
+    let s = l.args in
+    or_stop _ _ (kinetic_turn several s.kind.now s.place.now s.weight.now l.loop-a.a s.end l.loop-a.invariant l.loop-a-test.true)
+    (sym c.heavy_slot.ensures ∙ c.if-heavy_slot.true)
 
-add_a : tie.Need-overflow-add-a invariant-loop decreases-loop
-add_a c = omega (arith, in_table c.before.before.before.before)
+add_a : tie.Need-overflow_add-a invariant-loop decreases-loop
+add_a c = omega (arith, in_table c.before.before.before.before.before.before)
 
-loop-less : tie.Need-loop-smaller invariant-loop decreases-loop
+loop-less : tie.Need-loop-a-smaller invariant-loop decreases-loop
 loop-less c = search rules
 
-loop-again : tie.Need-loop-preserved invariant-loop decreases-loop
+loop-again : tie.Need-loop-a-preserved invariant-loop decreases-loop
 loop-again c =
     let l = c.before.before.before.before in
-    let s = l.before.before.args in
-    or_go _ _ (kinetic_turn several s.kind.now s.place.now s.weight.now l.before.loop.a s.end l.before.loop.invariant l.loop-test.true)
-    (sym c.before.heavy-slot.ensures ∙ c.if1.false)
+    let s = l.args in
+    or_go _ _ (kinetic_turn several s.kind.now s.place.now s.weight.now l.loop-a.a s.end l.loop-a.invariant l.loop-a-test.true)
+    (sym c.heavy_slot.ensures ∙ c.if-heavy_slot.false)
 
-returns-2 : tie.Need-returns-2 invariant-loop decreases-loop
+returns-2 : tie.Need-returns invariant-loop decreases-loop
 returns-2 c =
     let l = c.before in
-    let s = l.before.args in
-    kinetic_end several s.kind.now s.place.now s.weight.now l.loop.a s.end l.loop.invariant c.loop-test.false
+    let s = l.args in
+    kinetic_end several s.kind.now s.place.now s.weight.now l.loop-a.a s.end l.loop-a.invariant c.loop-a-test.false
 
-pub heavy-slots-spec : {M : Type 1} → statement M
-heavy-slots-spec =
+pub heavy_slots_spec : {M : Type 1} → statement M
+heavy_slots_spec =
     tie.close
     (tie.spec
     invariant-loop

@@ -16,11 +16,11 @@ use Rattle.index.proofs.marks.heavy_word.Tie as tie
 abbrev several : NetRecord → ℕ → Bool
 several n j = takes_several (transition n j)
 
-abbrev invariant-loop : tie.invariant-loop
+abbrev invariant-loop : tie.invariant-loop-j
 invariant-loop places transitions initial capacity rate delay arcs kind place weight word₀ j₀ word j =
     Marked (several (lent places transitions initial capacity rate delay arcs kind place weight)) transitions word j
 
-abbrev decreases-loop : tie.decreases-loop
+abbrev decreases-loop : tie.decreases-loop-j
 decreases-loop places transitions initial capacity rate delay arcs kind place weight word₀ j₀ word j = transitions - j
 
 abbrev net : tie.Start invariant-loop decreases-loop → NetRecord
@@ -29,57 +29,57 @@ net r =
     lent s.places s.transitions s.initial.now s.capacity.now s.rate.now s.delay.now s.arcs.now s.kind.now s.place.now s.weight.now
 
 -- the transition in hand is one of the record's, and its slots stand in the tables
-low : (c : tie.In-loop invariant-loop decreases-loop) → c.before.loop.j < 64
-low c = omega (arith, c.loop-test.true, c.before.before.requires.transitions)
+low : (c : tie.In-loop-j invariant-loop decreases-loop) → c.loop-j.j < 64
+low c = omega (arith, c.loop-j-test.true, c.requires.transitions)
 
-fit : (c : tie.In-loop invariant-loop decreases-loop) → 16 * c.before.loop.j + get_or c.before.before.args.arcs.now c.before.loop.j 0 ≤ 1024
-fit c = let r = c.before.before in slots_fit (net r) r.requires c.before.loop.j c.loop-test.true
+fit : (c : tie.In-loop-j invariant-loop decreases-loop) → 16 * c.loop-j.j + get_or c.args.arcs.now c.loop-j.j 0 ≤ 1024
+fit c = let r = c.before.before in slots_fit (net r) r.requires c.loop-j.j c.loop-j-test.true
 
-loop-holds : tie.Need-loop-init invariant-loop decreases-loop
+loop-holds : tie.Need-loop-j-init invariant-loop decreases-loop
 loop-holds c = marked_none (several (net c)) c.args.transitions
 
-add-k : tie.Need-overflow-add-k invariant-loop decreases-loop
+add-k : tie.Need-overflow_add-k invariant-loop decreases-loop
 add-k c = search rules
 
-mul-from : tie.Need-overflow-mul-from invariant-loop decreases-loop
+mul-from : tie.Need-overflow_mul-from invariant-loop decreases-loop
 mul-from c = omega (arith, low c)
 
-mul-end : tie.Need-overflow-mul-end invariant-loop decreases-loop
+mul-end : tie.Need-offset_bounds-arcs-j invariant-loop decreases-loop
 mul-end c = omega (arith, low c)
 
-element-copy-out-end : tie.Need-element-copy-out-end invariant-loop decreases-loop
-element-copy-out-end c = omega (arith, low c)
+element-copy-out-end : tie.Need-bounds-arcs-j invariant-loop decreases-loop
+element-copy-out-end c = omega (arith, low c.before)
 
-add-end : tie.Need-overflow-add-end invariant-loop decreases-loop
-add-end c = omega (arith, fit c.before)
+add-end : tie.Need-overflow_add-end invariant-loop decreases-loop
+add-end c = omega (arith, fit c.before.before)
 
-heavy-slots-requires : tie.Need-heavy-slots-requires invariant-loop decreases-loop
-heavy-slots-requires c κs = fit c.before
+heavy-slots-requires : tie.Need-heavy_slots-on-requires invariant-loop decreases-loop
+heavy-slots-requires c κs = fit c.before.before
 
-joined-requires : tie.Need-joined-requires invariant-loop decreases-loop
-joined-requires c κs = low c.before.before
+joined-requires : tie.Need-joined-word-requires invariant-loop decreases-loop
+joined-requires c κs = low c.before.before.before
 
-loop-less : tie.Need-loop-smaller invariant-loop decreases-loop
+loop-less : tie.Need-loop-j-smaller invariant-loop decreases-loop
 loop-less c = search rules
 
-loop-again : tie.Need-loop-preserved invariant-loop decreases-loop
+loop-again : tie.Need-loop-j-preserved invariant-loop decreases-loop
 loop-again c =
     let h = c.before in
     let i = h.before.before in
     let l = i.before in
     let n = net l.before in
-    marked_more (several n) n.transitions l.loop.word c.joined.result l.loop.j h.heavy-slots.result l.loop.invariant i.loop-test.true
-    (several_slots n l.loop.j h.heavy-slots.result h.heavy-slots.ensures)
-    c.joined.ensures
+    marked_more (several n) n.transitions l.loop-j.word c.joined-word.result l.loop-j.j h.heavy_slots-on.result l.loop-j.invariant i.loop-j-test.true
+    (several_slots n l.loop-j.j h.heavy_slots-on.result h.heavy_slots-on.ensures)
+    c.joined-word.ensures
 
 returns : tie.Need-returns invariant-loop decreases-loop
 returns c =
     let l = c.before in
     let n = net l.before in
-    net_marks n takes_several l.loop.word (marked_all (several n) n.transitions l.loop.word l.loop.j l.loop.invariant c.loop-test.false)
+    net_marks n takes_several l.loop-j.word (marked_all (several n) n.transitions l.loop-j.word l.loop-j.j l.loop-j.invariant c.loop-j-test.false)
 
-pub heavy-word-spec : {M : Type 1} → statement M
-heavy-word-spec =
+pub heavy_word_spec : {M : Type 1} → statement M
+heavy_word_spec =
     tie.close
     (tie.spec
     invariant-loop

@@ -15,11 +15,11 @@ use Rattle.index.proofs.marks.timed_word.Tie as tie
 abbrev waits : NetRecord → ℕ → Bool
 waits n j = timed (transition n j)
 
-abbrev invariant-loop : tie.invariant-loop
+abbrev invariant-loop : tie.invariant-loop-j
 invariant-loop places transitions initial capacity rate delay arcs kind place weight word₀ j₀ word j =
     Marked (waits (lent places transitions initial capacity rate delay arcs kind place weight)) transitions word j
 
-abbrev decreases-loop : tie.decreases-loop
+abbrev decreases-loop : tie.decreases-loop-j
 decreases-loop places transitions initial capacity rate delay arcs kind place weight word₀ j₀ word j = transitions - j
 
 abbrev net : tie.Start invariant-loop decreases-loop → NetRecord
@@ -28,42 +28,42 @@ net r =
     lent s.places s.transitions s.initial.now s.capacity.now s.rate.now s.delay.now s.arcs.now s.kind.now s.place.now s.weight.now
 
 -- the transition in hand is one of the record's
-low : (c : tie.In-loop invariant-loop decreases-loop) → c.before.loop.j < 64
-low c = omega (arith, c.loop-test.true, c.before.before.requires)
+low : (c : tie.In-loop-j invariant-loop decreases-loop) → c.loop-j.j < 64
+low c = omega (arith, c.loop-j-test.true, c.requires)
 
-loop-holds : tie.Need-loop-init invariant-loop decreases-loop
+loop-holds : tie.Need-loop-j-init invariant-loop decreases-loop
 loop-holds c = marked_none (waits (net c)) c.args.transitions
 
-add-k : tie.Need-overflow-add-k invariant-loop decreases-loop
+add-k : tie.Need-overflow_add-k invariant-loop decreases-loop
 add-k c = search rules
 
-mul-on : tie.Need-overflow-mul-on invariant-loop decreases-loop
+mul-on : tie.Need-offset_bounds-delay-j invariant-loop decreases-loop
 mul-on c = omega (arith, low c)
 
-element-copy-out-on : tie.Need-element-copy-out-on invariant-loop decreases-loop
+element-copy-out-on : tie.Need-bounds-delay-j invariant-loop decreases-loop
 element-copy-out-on c = omega (arith, low c)
 
-joined-requires : tie.Need-joined-requires invariant-loop decreases-loop
+joined-requires : tie.Need-joined-word-requires invariant-loop decreases-loop
 joined-requires c κs = low c.before
 
-loop-less : tie.Need-loop-smaller invariant-loop decreases-loop
+loop-less : tie.Need-loop-j-smaller invariant-loop decreases-loop
 loop-less c = search rules
 
-loop-again : tie.Need-loop-preserved invariant-loop decreases-loop
+loop-again : tie.Need-loop-j-preserved invariant-loop decreases-loop
 loop-again c =
     let i = c.before.before in
     let l = i.before in
     let n = net l.before in
-    marked_more (waits n) n.transitions l.loop.word c.joined.result l.loop.j _ l.loop.invariant i.loop-test.true refl c.joined.ensures
+    marked_more (waits n) n.transitions l.loop-j.word c.joined-word.result l.loop-j.j _ l.loop-j.invariant i.loop-j-test.true refl c.joined-word.ensures
 
 returns : tie.Need-returns invariant-loop decreases-loop
 returns c =
     let l = c.before in
     let n = net l.before in
-    net_marks n timed l.loop.word (marked_all (waits n) n.transitions l.loop.word l.loop.j l.loop.invariant c.loop-test.false)
+    net_marks n timed l.loop-j.word (marked_all (waits n) n.transitions l.loop-j.word l.loop-j.j l.loop-j.invariant c.loop-j-test.false)
 
-pub timed-word-spec : {M : Type 1} → statement M
-timed-word-spec =
+pub timed_word_spec : {M : Type 1} → statement M
+timed_word_spec =
     tie.close
     (tie.spec
     invariant-loop

@@ -33,12 +33,12 @@ shuts n counts word j = bit word j && not (may n counts j)
 abbrev nothing : ℕ → Float
 nothing j = zero64
 
-abbrev invariant-loop : tie.invariant-loop
+abbrev invariant-loop : tie.invariant-loop-left
 invariant-loop places transitions initial capacity rate delay arcs kind place weight limit counts word able props₀ left₀ found₀ props left found =
     let n = lent places transitions initial capacity rate delay arcs kind place weight in
     Setting (may n counts) word able found left × Working (shuts n counts word) nothing props₀ props left
 
-abbrev decreases-loop : tie.decreases-loop
+abbrev decreases-loop : tie.decreases-loop-left
 decreases-loop places transitions initial capacity rate delay arcs kind place weight limit counts word able props₀ left₀ found₀ props left found = left
 
 abbrev net : tie.Start invariant-loop decreases-loop → NetRecord
@@ -53,30 +53,30 @@ abbrev these : tie.Start invariant-loop decreases-loop → ℕ → Bool
 these r = shuts (net r) r.args.counts.now r.args.word
 
 -- the lowest of what is left
-low : (c : tie.In-loop invariant-loop decreases-loop) → count_trailing_zeros 64 c.before.loop.left < 64
-low c = lowest_low c.before.before.before.args.word c.before.loop.left c.before.loop.invariant.0.walk c.loop-test.true
+low : (c : tie.In-loop-left invariant-loop decreases-loop) → count_trailing_zeros 64 c.loop-left.left < 64
+low c = lowest_low c.args.word c.loop-left.left c.loop-left.invariant.0.walk c.loop-left-test.true
 
-in_word : (c : tie.In-loop invariant-loop decreases-loop) → bit c.before.before.before.args.word (count_trailing_zeros 64 c.before.loop.left) ≡ true
-in_word c = lowest_in c.before.before.before.args.word c.before.loop.left c.before.loop.invariant.0.walk c.loop-test.true
+in_word : (c : tie.In-loop-left invariant-loop decreases-loop) → bit c.args.word (count_trailing_zeros 64 c.loop-left.left) ≡ true
+in_word c = lowest_in c.args.word c.loop-left.left c.loop-left.invariant.0.walk c.loop-left-test.true
 
-less : (c : tie.In-loop invariant-loop decreases-loop) → bit_and c.before.loop.left (c.before.loop.left - 1) < c.before.loop.left
-less c = falls c.before.before.before.args.word c.before.loop.left c.before.loop.invariant.0.walk c.loop-test.true
+less : (c : tie.In-loop-left invariant-loop decreases-loop) → bit_and c.loop-left.left (c.loop-left.left - 1) < c.loop-left.left
+less c = falls c.args.word c.loop-left.left c.loop-left.invariant.0.walk c.loop-left-test.true
 
-without-requires : tie.Need-without-requires invariant-loop decreases-loop
+without-requires : tie.Need-without-found-requires invariant-loop decreases-loop
 without-requires c κs = search rules
 
-loop-holds : tie.Need-loop-init invariant-loop decreases-loop
+loop-holds : tie.Need-loop-left-init invariant-loop decreases-loop
 loop-holds c =
     let r = c.before in
     let s = r.args in (
-      setting_none (of r) s.word s.able c.without.result r.ranges.word.fits c.without.ensures,
+      setting_none (of r) s.word s.able c.without-found.result r.ranges.word.fits c.without-found.ensures,
       working_none (these r) nothing s.props.now s.word r.requires.4 (λ j e. both_first (bit s.word j) (not (of r j)) e),
     )
 
-cast-j : tie.Need-overflow-cast-j invariant-loop decreases-loop
+cast-j : tie.Need-overflow_cast-j invariant-loop decreases-loop
 cast-j c = omega (arith, low c)
 
-enabled-requires : tie.Need-enabled-requires invariant-loop decreases-loop
+enabled-requires : tie.Need-enabled-on-requires invariant-loop decreases-loop
 enabled-requires c κs =
     let r = c.before.before.before in
     (r.requires.3 _ (in_word c), r.requires.0, r.requires.1, r.requires.2)
@@ -84,18 +84,18 @@ enabled-requires c κs =
 shut-requires : tie.Need-shut-requires invariant-loop decreases-loop
 shut-requires c κs =
     let i = c.before.before in
-    (low i, i.before.loop.invariant.1.long)
+    (low i, i.loop-left.invariant.1.long)
 
-joined-requires : tie.Need-joined-requires invariant-loop decreases-loop
+joined-requires : tie.Need-joined-found-requires invariant-loop decreases-loop
 joined-requires c κs = low c.before.before.before
 
-sub-left : tie.Need-overflow-sub-left invariant-loop decreases-loop
+sub-left : tie.Need-overflow_sub-left invariant-loop decreases-loop
 sub-left c = omega (arith, less c.before.before.before.before)
 
-loop-less : tie.Need-loop-smaller invariant-loop decreases-loop
+loop-less : tie.Need-loop-left-smaller invariant-loop decreases-loop
 loop-less c = less c.before.before.before.before
 
-loop-again : tie.Need-loop-preserved invariant-loop decreases-loop
+loop-again : tie.Need-loop-left-preserved invariant-loop decreases-loop
 loop-again c =
     let h = c.before in
     let e = h.before.before in
@@ -105,12 +105,12 @@ loop-again c =
     let s = r.args in
     let n = net r in
     let m = marking s.places s.counts.now in
-    let t = count_trailing_zeros 64 l.loop.left in
-    let is : e.enabled.result ≡ of r t = e.enabled.ensures ∙ ap (enabled (readable n) m) (sym (transition_at n t (r.requires.3 t (in_word i)))) in (
-      setting_more (of r) s.word s.able l.loop.found l.loop.left l.loop.invariant.0 i.loop-test.true e.enabled.result is c.joined.result c.joined.ensures,
-      working_more (these r) nothing s.props.now s.word l.loop.props l.loop.left l.loop.invariant.1 l.loop.invariant.0.walk i.loop-test.true _ h.shut.ensures.0
+    let t = count_trailing_zeros 64 l.loop-left.left in
+    let is : e.enabled-on.result ≡ of r t = e.enabled-on.ensures ∙ ap (enabled (readable n) m) (sym (transition_at n t (r.requires.3 t (in_word i)))) in (
+      setting_more (of r) s.word s.able l.loop-left.found l.loop-left.left l.loop-left.invariant.0 i.loop-left-test.true e.enabled-on.result is c.joined-found.result c.joined-found.ensures,
+      working_more (these r) nothing s.props.now s.word l.loop-left.props l.loop-left.left l.loop-left.invariant.1 l.loop-left.invariant.0.walk i.loop-left-test.true _ h.shut.ensures.0
           (λ k. h.shut.ensures.1 k
-          ∙ (λ u. pick (eqb k t && (sym (in_word i) u && not (is u))) zero64 (get_or l.loop.props k nan))),
+          ∙ (λ u. pick (eqb k t && (sym (in_word i) u && not (is u))) zero64 (get_or l.loop-left.props k nan))),
     )
 
 returns : tie.Need-returns invariant-loop decreases-loop
@@ -118,12 +118,12 @@ returns c =
     let l = c.before in
     let r = l.before.before in
     let s = r.args in (
-      setting_all (of r) s.word s.able l.loop.found l.loop.left l.loop.invariant.0 c.loop-test.false,
-      working_all (these r) nothing s.props.now l.loop.props l.loop.left l.loop.invariant.1 c.loop-test.false,
+      setting_all (of r) s.word s.able l.loop-left.found l.loop-left.left l.loop-left.invariant.0 c.loop-left-test.false,
+      working_all (these r) nothing s.props.now l.loop-left.props l.loop-left.left l.loop-left.invariant.1 c.loop-left-test.false,
     )
 
-pub retest-spec : {M : Type 1} → statement M
-retest-spec =
+pub retest_spec : {M : Type 1} → statement M
+retest_spec =
     tie.close
     (tie.spec
     invariant-loop

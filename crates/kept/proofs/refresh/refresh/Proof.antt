@@ -20,53 +20,53 @@ abbrev tokens : tie.Start → Marking
 tokens r = marking r.args.places r.args.counts.now
 
 -- they are words
-marks_fit : (t : tie.After-settle) → t.settle.result.marks < 2 ^ 64
+marks_fit : (t : tie.After-settle-settled) → t.settle-settled.result.marks < 2 ^ 64
 marks_fit t = search rules
 
-changed_fits : (t : tie.After-settle) → t.settle.result.changed < 2 ^ 64
+changed_fits : (t : tie.After-settle-settled) → t.settle-settled.result.changed < 2 ^ 64
 changed_fits t = search rules
 
-settle-requires : tie.Need-settle-requires
+settle-requires : tie.Need-settle-settled-requires
 settle-requires c κs =
-    let p = c.before.requires in
+    let p = c.requires in
     (p.0, p.1, p.2, p.3, p.4, p.5, p.6, p.7, p.8, p.9, p.11)
 
-returns : tie.Need-returns
+returns : tie.Need-returns-then-changed-eq0
 returns c =
     let t = c.before in
     let r = t.before.before in
     let s = r.args in
     let p = r.requires in
-    let x = t.settle.result in
-    let e = t.settle.ensures in (
+    let x = t.settle-settled.result in
+    let e = t.settle-settled.ensures in (
       worked_whole (net r) (tokens r) x.able s.props.now _ s.sums.now p.0 e.0 p.11 e.2,
       e.0,
       e.1,
-      sums_same (net r) (tokens r) x.able s.props.now _ s.sums.now p.0 e.0 p.11 e.2 x.changed e.3 s.a0 c.if1.true p.10,
+      sums_same (net r) (tokens r) x.able s.props.now _ s.sums.now p.0 e.0 p.11 e.2 x.changed e.3 s.a0 c.if-changed-eq0.true p.10,
       marks_some (readable (net r)) (tokens r) x.able x.marks (marks_fit t) e.1,
       e.2,
       p.12,
     )
 
-cast-from : tie.Need-overflow-cast-from
+cast-from : tie.Need-overflow_cast-from
 cast-from c =
     let t = c.before in
     let r = t.before.before in
     let s = r.args in
     let p = r.requires in
-    let x = t.settle.result in
-    let e = t.settle.ensures in
+    let x = t.settle-settled.result in
+    let e = t.settle-settled.ensures in
     omega (
       arith,
       p.0.transitions,
-      lowest_inside (net r) (tokens r) x.able s.props.now _ s.sums.now p.0 e.0 p.11 e.2 x.changed e.3 (changed_fits t) e.4 c.if1.false,
+      lowest_inside (net r) (tokens r) x.able s.props.now _ s.sums.now p.0 e.0 p.11 e.2 x.changed e.3 (changed_fits t) e.4 c.if-changed-eq0.false,
     )
 
-resum-requires : tie.Need-resum-requires
+resum-requires : tie.Need-resum-total-requires
 resum-requires c κs =
     let i = c.before.before in
     let t = i.before in
-    let r = t.before.before in
+    let r = t.before in
     let s = r.args in
     let p = r.requires in
     let x = t.settle.result in
@@ -78,10 +78,10 @@ resum-requires c κs =
       front_kept (net r) (tokens r) x.able s.props.now _ s.sums.now p.0 e.0 p.11 e.2 x.changed e.3 (changed_fits t) e.4 i.if1.false p.10.each,
     )
 
-returns-2 : tie.Need-returns-2
+returns-2 : tie.Need-returns
 returns-2 c =
     let t = c.before.before.before.before in
-    let r = t.before.before in
+    let r = t.before in
     let s = r.args in
     let p = r.requires in
     let x = t.settle.result in
@@ -89,11 +89,18 @@ returns-2 c =
       worked_whole (net r) (tokens r) x.able s.props.now _ s.sums.now p.0 e.0 p.11 e.2,
       e.0,
       e.1,
-      record { each = c.resum.ensures.1; all = c.resum.ensures.2 },
+      record { each = c.resum-total.ensures.1; all = c.resum-total.ensures.2 },
       marks_some (readable (net r)) (tokens r) x.able x.marks (marks_fit t) e.1,
       e.2,
-      c.resum.ensures.0,
+      c.resum-total.ensures.0,
     )
 
-pub refresh-spec : {M : Type 1} → statement M
-refresh-spec = tie.close (tie.spec settle-requires returns cast-from resum-requires returns-2)
+pub refresh_spec : {M : Type 1} → statement M
+refresh_spec =
+    tie.close
+    (tie.spec
+    settle-requires
+    returns
+    cast-from
+    resum-requires
+    returns-2)

@@ -12,10 +12,10 @@ net r =
     let s = r.args in
     lent s.places s.transitions s.initial.now s.capacity.now s.rate.now s.delay.now s.arcs.now s.kind.now s.place.now s.weight.now
 
-without-requires : tie.Need-without-requires
+without-requires : tie.Need-without-tested-requires
 without-requires c κs = search rules
 
-retest-requires : tie.Need-retest-requires
+retest-requires : tie.Need-retest-found-requires
 retest-requires c κs =
     let w = c.before in
     let r = w.before in
@@ -24,7 +24,7 @@ retest-requires c κs =
       p.0,
       p.1,
       p.2,
-      tested_below (net r) s.counts.now p.0 p.2 s.moved s.crossed s.able s.timed s.heavy s.marks s.props.now p.5 p.6 p.7 p.8 p.9 p.10 w.without.result w.without.ensures,
+      tested_below (net r) s.counts.now p.0 p.2 s.moved s.crossed s.able s.timed s.heavy s.marks s.props.now p.5 p.6 p.7 p.8 p.9 p.10 w.without-tested.result w.without-tested.ensures,
       p.10,
     )
 
@@ -40,20 +40,20 @@ revalue-requires c κs =
       p.2,
       p.3,
       p.4,
-      work_below (net r) s.counts.now p.0 p.2 s.moved s.crossed s.able s.timed s.heavy s.marks s.props.now p.5 p.6 p.7 p.8 p.9 p.10 w.without.result w.without.ensures
-          t.retest.result t.retest.ensures.0 _ t.retest.ensures.1,
-      t.retest.ensures.1.long ∙ p.10,
+      work_below (net r) s.counts.now p.0 p.2 s.moved s.crossed s.able s.timed s.heavy s.marks s.props.now p.5 p.6 p.7 p.8 p.9 p.10 w.without-tested.result w.without-tested.ensures
+          t.retest-found.result t.retest-found.ensures.0 _ t.retest-found.ensures.1,
+      t.retest-found.ensures.1.long ∙ p.10,
     )
 
-without-requires-2 : tie.Need-without-requires-2
+without-requires-2 : tie.Need-without-old-requires
 without-requires-2 c κs = search rules
 
-remark-requires : tie.Need-remark-requires
+remark-requires : tie.Need-remark-fresh-requires
 remark-requires c κs =
     let v = c.before.before in
     let t = v.before.before in
     let w = t.before.before in
-    let r = w.before in
+    let r = w in
     let s = r.args in
     let p = r.requires in (
       p.0,
@@ -70,14 +70,14 @@ returns c =
     let v = o.before in
     let t = v.before.before in
     let w = t.before.before in
-    let r = w.before in
+    let r = w in
     let s = r.args in
     let p = r.requires in
     settled_all (net r) s.counts.now p.0 p.2 s.moved s.crossed s.able s.timed s.heavy s.marks s.props.now p.5 p.6 p.7 p.8 p.9 p.10 w.without.result w.without.ensures
-    t.retest.result t.retest.ensures.0 _ t.retest.ensures.1 _ v.revalue.ensures o.without2.result c.remark.result o.without2.ensures c.remark.ensures
+    t.retest.result t.retest.ensures.0 _ t.retest.ensures.1 _ v.revalue.ensures o.without2.result c.remark-fresh.result o.without2.ensures c.remark-fresh.ensures
 
-pub settle-spec : {M : Type 1} → statement M
-settle-spec =
+pub settle_spec : {M : Type 1} → statement M
+settle_spec =
     tie.close
     (tie.spec
     without-requires

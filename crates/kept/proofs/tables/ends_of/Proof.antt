@@ -45,11 +45,11 @@ end_told n j e x low h f p s =
     }))
     s
 
-abbrev invariant-loop : tie.invariant-loop
+abbrev invariant-loop : tie.invariant-loop-j
 invariant-loop places transitions initial capacity rate delay arcs kind place weight ends₀ j₀ ends j =
     Filling 0 (End (lent places transitions initial capacity rate delay arcs kind place weight)) ends j
 
-abbrev decreases-loop : tie.decreases-loop
+abbrev decreases-loop : tie.decreases-loop-j
 decreases-loop places transitions initial capacity rate delay arcs kind place weight ends₀ j₀ ends j = transitions - j
 
 abbrev net : tie.Start invariant-loop decreases-loop → NetRecord
@@ -57,73 +57,73 @@ net r =
     let s = r.args in
     lent s.places s.transitions s.initial.now s.capacity.now s.rate.now s.delay.now s.arcs.now s.kind.now s.place.now s.weight.now
 
-low : (c : tie.In-loop invariant-loop decreases-loop) → c.before.loop.j < 64
-low c = omega (arith, c.loop-test.true, c.before.before.requires.0.transitions)
+low : (c : tie.In-loop-j invariant-loop decreases-loop) → c.loop-j.j < 64
+low c = omega (arith, c.loop-j-test.true, c.requires.0.transitions)
 
-loop-holds : tie.Need-loop-init invariant-loop decreases-loop
+loop-holds : tie.Need-loop-j-init invariant-loop decreases-loop
 loop-holds c = filling_none 0 (End (net c)) c.args.ends.now c.requires.1
 
-add-k : tie.Need-overflow-add-k invariant-loop decreases-loop
+add-k : tie.Need-overflow_add-k invariant-loop decreases-loop
 add-k c = search rules
 
-mul-from : tie.Need-overflow-mul-from invariant-loop decreases-loop
+mul-from : tie.Need-overflow_mul-from invariant-loop decreases-loop
 mul-from c = omega (arith, low c)
 
-mul-end-of : tie.Need-overflow-mul-end-of invariant-loop decreases-loop
+mul-end-of : tie.Need-offset_bounds-arcs-j invariant-loop decreases-loop
 mul-end-of c = omega (arith, low c)
 
-element-copy-out-end-of : tie.Need-element-copy-out-end-of invariant-loop decreases-loop
-element-copy-out-end-of c = omega (arith, low c)
+element-copy-out-end-of : tie.Need-bounds-arcs-j invariant-loop decreases-loop
+element-copy-out-end-of c = omega (arith, low c.before)
 
-add-end-of : tie.Need-overflow-add-end-of invariant-loop decreases-loop
+add-end-of : tie.Need-overflow_add-from invariant-loop decreases-loop
 add-end-of c =
     let l = c.before.before in
-    omega (arith, low c.before, l.before.requires.0.arcs l.loop.j)
+    omega (arith, low c.before.before, l.requires.0.arcs l.loop-j.j)
 
-end-of-requires : tie.Need-end-of-requires invariant-loop decreases-loop
+end-of-requires : tie.Need-end_of-e-requires invariant-loop decreases-loop
 end-of-requires c κs =
     let l = c.before.before in
-    (omega arith, omega (arith, low c.before, l.before.requires.0.arcs l.loop.j))
+    (omega arith, omega (arith, low c.before.before, l.requires.0.arcs l.loop-j.j))
 
-told-requires : tie.Need-told-requires invariant-loop decreases-loop
+told-requires : tie.Need-told-x-requires invariant-loop decreases-loop
 told-requires c κs =
     let i = c.before.before in
     let l = i.before in
-    let t = l.before.requires.0 in
-    (omega (arith, low i), omega (arith, c.end_of_lem.ensures.0, low i, t.arcs l.loop.j), λ a. omega (arith, t.place a, t.places))
+    let t = l.requires.0 in
+    (omega (arith, low i.before), omega (arith, c.end_of-e.ensures.0, low i.before, t.arcs l.loop-j.j), λ a. omega (arith, t.place a, t.places))
 
-mul-ends : tie.Need-overflow-mul-ends invariant-loop decreases-loop
-mul-ends c = omega (arith, low c.before.before.before)
+mul-ends : tie.Need-offset_bounds-ends-j invariant-loop decreases-loop
+mul-ends c = omega (arith, low c.before.before.before.before)
 
-element-write-ends : tie.Need-element-write-ends invariant-loop decreases-loop
-element-write-ends c = omega (arith, low c.before.before.before)
+element-write-ends : tie.Need-bounds-ends-j invariant-loop decreases-loop
+element-write-ends c = omega (arith, low c.before.before.before.before.before)
 
-loop-less : tie.Need-loop-smaller invariant-loop decreases-loop
+loop-less : tie.Need-loop-j-smaller invariant-loop decreases-loop
 loop-less c = search rules
 
-loop-again : tie.Need-loop-preserved invariant-loop decreases-loop
+loop-again : tie.Need-loop-j-preserved invariant-loop decreases-loop
 loop-again c =
     let i = c.before.before.before in
     let l = i.before in
-    let e = c.before.end_of_lem in
-    filling_more 0 (End (net l.before)) l.loop.ends l.loop.j l.loop.invariant (low i) c.told.result
-    (end_told (net l.before) l.loop.j e.result c.told.result (omega (arith, low i, l.before.requires.0.arcs l.loop.j)) e.ensures.0 e.ensures.1
-    (omega (arith, l.before.requires.0.place (16 * l.loop.j), l.before.requires.0.places)) c.told.ensures)
+    let e = c.end_of-e in
+    filling_more 0 (End (net l.before)) l.loop-j.ends l.loop-j.j l.loop-j.invariant (low i.before.before) c.told-x.result
+    (end_told (net l.before) l.loop-j.j e.result c.told-x.result (omega (arith, low i.before.before, l.requires.0.arcs l.loop-j.j)) e.ensures.0 e.ensures.1
+    (omega (arith, l.requires.0.place (16 * l.loop-j.j), l.requires.0.places)) c.told-x.ensures)
 
 returns : tie.Need-returns invariant-loop decreases-loop
 returns c =
     let l = c.before in (
       record {
-        inside = λ j h. (l.loop.invariant.each j (omega (arith, c.loop-test.false))).inside;
-        behind = λ j a h. (l.loop.invariant.each j (omega (arith, c.loop-test.false))).behind a;
-        alone = λ j h. (l.loop.invariant.each j (omega (arith, c.loop-test.false))).alone;
-        two = λ j h. (l.loop.invariant.each j (omega (arith, c.loop-test.false))).two;
+        inside = λ j h. (l.loop-j.invariant.each j (omega (arith, c.loop-j-test.false))).inside;
+        behind = λ j a h. (l.loop-j.invariant.each j (omega (arith, c.loop-j-test.false))).behind a;
+        alone = λ j h. (l.loop-j.invariant.each j (omega (arith, c.loop-j-test.false))).alone;
+        two = λ j h. (l.loop-j.invariant.each j (omega (arith, c.loop-j-test.false))).two;
       },
-      l.loop.invariant.long,
+      l.loop-j.invariant.long,
     )
 
-pub ends-of-spec : {M : Type 1} → statement M
-ends-of-spec =
+pub ends_of_spec : {M : Type 1} → statement M
+ends_of_spec =
     tie.close
     (tie.spec
     invariant-loop

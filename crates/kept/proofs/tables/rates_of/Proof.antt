@@ -17,11 +17,11 @@ use Rattle.kept.proofs.tables.rates_of.Tie as tie
 abbrev Rate : NetRecord → ℕ → Float → Type 0
 Rate n i x = x ≡ rate_of (transition (readable n) i)
 
-abbrev invariant-loop : tie.invariant-loop
+abbrev invariant-loop : tie.invariant-loop-j
 invariant-loop places transitions initial capacity rate delay arcs kind place weight rates₀ j₀ rates j =
     Filling nan (Rate (lent places transitions initial capacity rate delay arcs kind place weight)) rates j
 
-abbrev decreases-loop : tie.decreases-loop
+abbrev decreases-loop : tie.decreases-loop-j
 decreases-loop places transitions initial capacity rate delay arcs kind place weight rates₀ j₀ rates j = transitions - j
 
 abbrev net : tie.Start invariant-loop decreases-loop → NetRecord
@@ -29,54 +29,54 @@ net r =
     let s = r.args in
     lent s.places s.transitions s.initial.now s.capacity.now s.rate.now s.delay.now s.arcs.now s.kind.now s.place.now s.weight.now
 
-low : (c : tie.In-loop invariant-loop decreases-loop) → c.before.loop.j < 64
-low c = omega (arith, c.loop-test.true, c.before.before.requires.0.transitions)
+low : (c : tie.In-loop-j invariant-loop decreases-loop) → c.loop-j.j < 64
+low c = omega (arith, c.loop-j-test.true, c.requires.0.transitions)
 
-loop-holds : tie.Need-loop-init invariant-loop decreases-loop
+loop-holds : tie.Need-loop-j-init invariant-loop decreases-loop
 loop-holds c = filling_none nan (Rate (net c)) c.args.rates.now c.requires.1
 
-add-k : tie.Need-overflow-add-k invariant-loop decreases-loop
+add-k : tie.Need-overflow_add-k invariant-loop decreases-loop
 add-k c = search rules
 
-mul-rate-of : tie.Need-overflow-mul-rate-of invariant-loop decreases-loop
+mul-rate-of : tie.Need-offset_bounds-rate-j invariant-loop decreases-loop
 mul-rate-of c = omega (arith, low c)
 
-element-copy-out-rate-of : tie.Need-element-copy-out-rate-of invariant-loop decreases-loop
+element-copy-out-rate-of : tie.Need-bounds-rate-j invariant-loop decreases-loop
 element-copy-out-rate-of c = omega (arith, low c)
 
-mul-rate-of-2 : tie.Need-overflow-mul-rate-of-2 invariant-loop decreases-loop
+mul-rate-of-2 : tie.Need-offset_bounds-delay-j invariant-loop decreases-loop
 mul-rate-of-2 c = omega (arith, low c.before)
 
-element-copy-out-rate-of-2 : tie.Need-element-copy-out-rate-of-2 invariant-loop decreases-loop
+element-copy-out-rate-of-2 : tie.Need-bounds-delay-j invariant-loop decreases-loop
 element-copy-out-rate-of-2 c = omega (arith, low c.before)
 
-rate-of-requires : tie.Need-rate-of-requires invariant-loop decreases-loop
+rate-of-requires : tie.Need-rate_of-x-requires invariant-loop decreases-loop
 rate-of-requires c κs = search rules
 
-mul-rates : tie.Need-overflow-mul-rates invariant-loop decreases-loop
+mul-rates : tie.Need-offset_bounds-rates-j invariant-loop decreases-loop
 mul-rates c = omega (arith, low c.before.before.before)
 
-element-write-rates : tie.Need-element-write-rates invariant-loop decreases-loop
+element-write-rates : tie.Need-bounds-rates-j invariant-loop decreases-loop
 element-write-rates c = omega (arith, low c.before.before.before)
 
-loop-less : tie.Need-loop-smaller invariant-loop decreases-loop
+loop-less : tie.Need-loop-j-smaller invariant-loop decreases-loop
 loop-less c = search rules
 
-loop-again : tie.Need-loop-preserved invariant-loop decreases-loop
+loop-again : tie.Need-loop-j-preserved invariant-loop decreases-loop
 loop-again c =
     let i = c.before.before.before in
     let l = i.before in
     let r = l.before in
-    filling_more nan (Rate (net r)) l.loop.rates l.loop.j l.loop.invariant (low i) c.rate-of.result
-    (c.rate-of.ensures ∙ ap rate_of (sym (transition_at (net r) l.loop.j i.loop-test.true)))
+    filling_more nan (Rate (net r)) l.loop-j.rates l.loop-j.j l.loop-j.invariant (low i) c.rate_of-x.result
+    (c.rate_of-x.ensures ∙ ap rate_of (sym (transition_at (net r) l.loop-j.j i.loop-j-test.true)))
 
 returns : tie.Need-returns invariant-loop decreases-loop
 returns c =
     let l = c.before in
-    (λ i h. l.loop.invariant.each i (omega (arith, c.loop-test.false)), l.loop.invariant.long)
+    (λ i h. l.loop-j.invariant.each i (omega (arith, c.loop-j-test.false)), l.loop-j.invariant.long)
 
-pub rates-of-spec : {M : Type 1} → statement M
-rates-of-spec =
+pub rates_of_spec : {M : Type 1} → statement M
+rates_of_spec =
     tie.close
     (tie.spec
     invariant-loop

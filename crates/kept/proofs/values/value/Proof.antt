@@ -21,51 +21,51 @@ inside r h l =
     let a = r.requires.5.alone r.args.j r.requires.0 h l in
     omega (arith, a.from, r.requires.1.place (16 * r.args.j), r.requires.1.places)
 
-mul-end : tie.Need-overflow-mul-end
+mul-end : tie.Need-offset_bounds-ends-j
 mul-end c = omega (arith, c.requires.0, c.requires.1.transitions)
 
-element-copy-out-end : tie.Need-element-copy-out-end
+element-copy-out-end : tie.Need-bounds-ends-j
 element-copy-out-end c = omega (arith, c.requires.0, c.requires.1.transitions)
 
-mul-x : tie.Need-overflow-mul-x
-mul-x c = omega (arith, c.before.requires.0, c.before.requires.1.transitions)
+mul-x : tie.Need-offset_bounds-rates-j
+mul-x c = omega (arith, c.requires.0, c.requires.1.transitions)
 
-element-copy-out-x : tie.Need-element-copy-out-x
-element-copy-out-x c = omega (arith, c.before.requires.0, c.before.requires.1.transitions)
+element-copy-out-x : tie.Need-bounds-rates-j
+element-copy-out-x c = omega (arith, c.requires.0, c.requires.1.transitions)
 
-mul-times-two : tie.Need-overflow-mul-times-two
+mul-times-two : tie.Need-overflow_mul-j
 mul-times-two c = let r = c.before.before.before.before in omega (arith, r.requires.0, r.requires.1.transitions)
 
-times-two-requires : tie.Need-times-two-requires
+times-two-requires : tie.Need-times_two-requires
 times-two-requires c κs =
     let r = c.before.before.before.before in
     let t = r.requires.1 in
     (omega (arith, r.requires.0, t.transitions), λ a. omega (arith, t.place a, t.places), r.requires.3)
 
-returns : tie.Need-returns
+returns : tie.Need-returns-then-end-ge-TWO
 returns c =
     let r = c.before.before.before.before.before in
     let s = r.args in
-    valuing_two (net r) s.counts.now s.j r.requires.1 r.requires.0 (r.requires.5.two s.j r.requires.0 c.before.if2.true)
-    (get_or s.rates.now s.j nan) c.times-two.result (r.requires.4 s.j r.requires.0) c.times-two.ensures
+    valuing_two (net r.before) s.counts.now s.j r.requires.1 r.requires.0 (r.requires.5.two s.j r.requires.0 c.if-end-ge-TWO.true)
+    (get_or s.rates.now s.j nan) c.times_two.result (r.requires.4 s.j r.requires.0) c.times_two.ensures
 
-mul-times : tie.Need-overflow-mul-times
-mul-times c = let r = c.before.before.before.before in omega (arith, inside r c.before.if1.true (omega (arith, c.if2.false)))
+mul-times : tie.Need-offset_bounds-counts-p
+mul-times c = let r = c.before.before.before.before in omega (arith, inside r.before c.if-end-ge-ALONE.true (omega (arith, c.if-end-ge-TWO.false)))
 
-element-copy-out-times : tie.Need-element-copy-out-times
-element-copy-out-times c = inside c.before.before.before.before c.before.if1.true (omega (arith, c.if2.false))
+element-copy-out-times : tie.Need-bounds-counts-p
+element-copy-out-times c = inside c.before.before.before.before.before.before c.if-end-ge-ALONE.true (omega (arith, c.if-end-ge-TWO.false))
 
 times-requires : tie.Need-times-requires
 times-requires c κs =
     let r = c.before.before.before.before.before in
     (r.requires.3.small (get_or r.args.ends.now r.args.j 0 - 2048), λ e. omega arith)
 
-returns-2 : tie.Need-returns-2
+returns-2 : tie.Need-returns-then-end-ge-ALONE
 returns-2 c =
     let r = c.before.before.before.before.before.before in
     let s = r.args in
-    valuing_alone (net r) s.counts.now s.j (get_or s.ends.now s.j 0 - 2048) r.requires.1 r.requires.0
-    (r.requires.5.alone s.j r.requires.0 c.before.before.before.if1.true (omega (arith, c.before.before.if2.false)))
+    valuing_alone (net r.before.before) s.counts.now s.j (get_or s.ends.now s.j 0 - 2048) r.requires.1 r.requires.0
+    (r.requires.5.alone s.j r.requires.0 c.if-end-ge-ALONE.true (omega (arith, c.if-end-ge-TWO.false)))
     (get_or s.rates.now s.j nan) c.times.result (r.requires.4 s.j r.requires.0) c.times.ensures
 
 walked-requires : tie.Need-walked-requires
@@ -73,9 +73,9 @@ walked-requires c κs =
     let r = c.before.before.before in
     let j = r.args.j in
     let e = r.requires.5 in
-    (r.requires.0, r.requires.1, r.requires.2, r.requires.3, r.requires.4, e.inside j r.requires.0 (omega (arith, c.if1.false)), λ a. e.behind j a r.requires.0 (omega (arith, c.if1.false)))
+    (r.requires.0, r.requires.1, r.requires.2, r.requires.3, r.requires.4, e.inside j r.requires.0 (omega (arith, c.if-end-ge-ALONE.false)), λ a. e.behind j a r.requires.0 (omega (arith, c.if-end-ge-ALONE.false)))
 
-returns-3 : tie.Need-returns-3
+returns-3 : tie.Need-returns
 returns-3 c = search rules
 
 pub value_spec : {M : Type 1} → statement M

@@ -14,11 +14,11 @@ use Rattle.kept.proofs.Valuing.{kinetic_says, Valuing, valuing_none, valuing_mor
 use Rattle.kept.proofs.values.walked.Statement.{statement}
 use Rattle.kept.proofs.values.walked.Tie as tie
 
-abbrev invariant-loop : tie.invariant-loop
+abbrev invariant-loop : tie.invariant-loop-a
 invariant-loop places transitions initial capacity rate delay arcs kind place weight limit rates counts j end x₀ a₀ x a =
     Valuing (lent places transitions initial capacity rate delay arcs kind place weight) counts j x a
 
-abbrev decreases-loop : tie.decreases-loop
+abbrev decreases-loop : tie.decreases-loop-a
 decreases-loop places transitions initial capacity rate delay arcs kind place weight limit rates counts j end x₀ a₀ x a = end - a
 
 abbrev net : tie.Start invariant-loop decreases-loop → NetRecord
@@ -26,101 +26,101 @@ net r =
     let s = r.args in
     lent s.places s.transitions s.initial.now s.capacity.now s.rate.now s.delay.now s.arcs.now s.kind.now s.place.now s.weight.now
 
-abbrev start : tie.In-loop invariant-loop decreases-loop → tie.Start invariant-loop decreases-loop
+abbrev start : tie.In-loop-a invariant-loop decreases-loop → tie.Start invariant-loop decreases-loop
 start c = c.before.before.before
 
-abbrev slot : tie.In-loop invariant-loop decreases-loop → ℕ
+abbrev slot : tie.In-loop-a invariant-loop decreases-loop → ℕ
 slot c = c.before.loop.a
 
 -- the slot is one of transition j
-inside : (c : tie.In-loop invariant-loop decreases-loop) → slot c < 16 * (start c).args.j + get_or (start c).args.arcs.now (start c).args.j 0
-inside c = omega (arith, c.loop-test.true, (start c).requires.5)
+inside : (c : tie.In-loop-a invariant-loop decreases-loop) → slot c < 16 * (start c).args.j + get_or (start c).args.arcs.now (start c).args.j 0
+inside c = omega (arith, c.loop-a-test.true, (start c).requires.5)
 
-in_table : (c : tie.In-loop invariant-loop decreases-loop) → slot c < 1024
+in_table : (c : tie.In-loop-a invariant-loop decreases-loop) → slot c < 1024
 in_table c = omega (arith, inside c, (start c).requires.0, (start c).requires.1.transitions, (start c).requires.1.arcs (start c).args.j)
 
 -- the limit of a kinetic take
-taken_by_lem : (c : tie.In-loop invariant-loop decreases-loop) → get_or (start c).args.kind.now (slot c) 0 ≡ 0
+taken_by_lem : (c : tie.In-loop-a invariant-loop decreases-loop) → get_or (start c).args.kind.now (slot c) 0 ≡ 0
     → get_or (start c).args.limit.now (slot c) 0 ≡ at_least (amount (get_or (start c).args.weight.now (slot c) 0))
 taken_by_lem c k =
     let r = start c in
-    kinetic_says (net r) r.pre.1 (slot c) k r.args.j (get_or r.args.limit.now (slot c) 0) c.before.loop.invariant.low (inside c)
+    kinetic_says (net r) r.pre.1 (slot c) k r.args.j (get_or r.args.limit.now (slot c) 0) c.loop-a.invariant.low (inside c)
     (r.pre.2 (slot c) (omega (arith, inside c, r.pre.0, r.pre.1.arcs r.args.j)))
 
-mul-x : tie.Need-overflow-mul-x invariant-loop decreases-loop
+mul-x : tie.Need-offset_bounds-rates-j invariant-loop decreases-loop
 mul-x c = omega (arith, c.requires.0, c.requires.1.transitions)
 
-element-copy-out-x : tie.Need-element-copy-out-x invariant-loop decreases-loop
+element-copy-out-x : tie.Need-bounds-rates-j invariant-loop decreases-loop
 element-copy-out-x c = omega (arith, c.requires.0, c.requires.1.transitions)
 
-mul-a : tie.Need-overflow-mul-a invariant-loop decreases-loop
-mul-a c = omega (arith, c.before.requires.0, c.before.requires.1.transitions)
+mul-a : tie.Need-overflow_mul-a invariant-loop decreases-loop
+mul-a c = omega (arith, c.requires.0, c.requires.1.transitions)
 
-loop-holds : tie.Need-loop-init invariant-loop decreases-loop
+loop-holds : tie.Need-loop-a-init invariant-loop decreases-loop
 loop-holds c =
     let r = c.before in
     valuing_none (net r) r.args.counts.now r.args.j r.requires.0 _ (r.requires.4 r.args.j r.requires.0)
 
-mul-p : tie.Need-overflow-mul-p invariant-loop decreases-loop
+mul-p : tie.Need-offset_bounds-place-a invariant-loop decreases-loop
 mul-p c = omega (arith, in_table c)
 
-element-copy-out-p : tie.Need-element-copy-out-p invariant-loop decreases-loop
-element-copy-out-p c = omega (arith, in_table c)
+element-copy-out-p : tie.Need-bounds-place-a invariant-loop decreases-loop
+element-copy-out-p c = omega (arith, in_table c.before)
 
-mul-times : tie.Need-overflow-mul-times invariant-loop decreases-loop
-mul-times c = omega (arith, in_table c.before)
+mul-times : tie.Need-offset_bounds-kind-a invariant-loop decreases-loop
+mul-times c = omega (arith, in_table c.before.before)
 
-element-copy-out-times : tie.Need-element-copy-out-times invariant-loop decreases-loop
-element-copy-out-times c = omega (arith, in_table c.before)
+element-copy-out-times : tie.Need-bounds-kind-a invariant-loop decreases-loop
+element-copy-out-times c = omega (arith, in_table c.before.before.before)
 
-mul-times-2 : tie.Need-overflow-mul-times-2 invariant-loop decreases-loop
-mul-times-2 c = omega (arith, in_table c.before.before)
+mul-times-2 : tie.Need-offset_bounds-limit-a invariant-loop decreases-loop
+mul-times-2 c = omega (arith, in_table c.before.before.before.before)
 
-element-copy-out-times-2 : tie.Need-element-copy-out-times-2 invariant-loop decreases-loop
-element-copy-out-times-2 c = omega (arith, in_table c.before.before)
+element-copy-out-times-2 : tie.Need-bounds-limit-a invariant-loop decreases-loop
+element-copy-out-times-2 c = omega (arith, in_table c.before.before.before.before.before)
 
-mul-times-3 : tie.Need-overflow-mul-times-3 invariant-loop decreases-loop
+mul-times-3 : tie.Need-offset_bounds-counts-p invariant-loop decreases-loop
 mul-times-3 c =
     let i = c.before.before.before in
     omega (arith, (start i).requires.1.place (slot i), (start i).requires.1.places)
 
-element-copy-out-times-3 : tie.Need-element-copy-out-times-3 invariant-loop decreases-loop
+element-copy-out-times-3 : tie.Need-bounds-counts-p invariant-loop decreases-loop
 element-copy-out-times-3 c =
     let i = c.before.before.before in
     omega (arith, (start i).requires.1.place (slot i), (start i).requires.1.places)
 
-times-requires : tie.Need-times-requires invariant-loop decreases-loop
+times-requires : tie.Need-times-x-requires invariant-loop decreases-loop
 times-requires c κs =
     let i = c.before.before.before.before in
     let r = start i in
-    (r.pre.3.small (get_or r.args.place.now (slot i) 0), λ k. omega (arith, taken_by_lem i k, amount_most (get_or r.args.weight.now (slot i) 0) (r.pre.1.weight (slot i))))
+    (r.pre.3.small (get_or r.args.place.now (slot i) 0), λ k. omega (arith, taken_by_lem i.before.before.before.before k, amount_most (get_or r.args.weight.now (slot i) 0) (r.pre.1.weight (slot i))))
 
-add_a : tie.Need-overflow-add-a invariant-loop decreases-loop
-add_a c = omega (arith, in_table c.before.before.before.before.before)
+add_a : tie.Need-overflow_add-a invariant-loop decreases-loop
+add_a c = omega (arith, in_table c.before.before.before.before.before.before.before.before.before)
 
-loop-less : tie.Need-loop-smaller invariant-loop decreases-loop
+loop-less : tie.Need-loop-a-smaller invariant-loop decreases-loop
 loop-less c = search rules
 
-loop-again : tie.Need-loop-preserved invariant-loop decreases-loop
+loop-again : tie.Need-loop-a-preserved invariant-loop decreases-loop
 loop-again c =
     let i = c.before.before.before.before.before in
     let r = start i in
     let s = r.args in
-    let v = i.before.loop in
-    valuing_more (net r) s.counts.now s.j r.pre.1 v.x c.times.result v.a v.invariant (inside i)
-    (c.times.ensures
+    let v = i.loop-a in
+    valuing_more (net r) s.counts.now s.j r.pre.1 v.x c.times-x.result v.a v.invariant (inside i.before.before.before.before)
+    (c.times-x.ensures
     ∙ times_limit v.x (get_or s.kind.now v.a 0) (get_or s.weight.now v.a 0) (get_or s.limit.now v.a 0)
-    (get_or s.counts.now (get_or s.place.now v.a 0) 0) (r.pre.1.weight v.a) (taken_by_lem i))
+    (get_or s.counts.now (get_or s.place.now v.a 0) 0) (r.pre.1.weight v.a) (taken_by_lem i.before.before.before.before))
 
 returns : tie.Need-returns invariant-loop decreases-loop
 returns c =
-    let v = c.before.loop in
+    let v = c.loop-a in
     let r = c.before.before.before in
     valuing_all (net r) r.args.counts.now r.args.j v.x v.a v.invariant
-    (λ b l. r.requires.6 b (omega (arith, c.loop-test.false)))
+    (λ b l. r.requires.6 b (omega (arith, c.loop-a-test.false)))
 
-pub walked-spec : {M : Type 1} → statement M
-walked-spec =
+pub walked_spec : {M : Type 1} → statement M
+walked_spec =
     tie.close
     (tie.spec
     invariant-loop

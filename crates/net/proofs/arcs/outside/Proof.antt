@@ -12,36 +12,36 @@ use Rattle.net.proofs.arcs.outside.Tie as tie
 abbrev ls : tie.Start → List Slot
 ls s = slots s.args.kind.now s.args.place.now s.args.weight.now s.args.from (s.args.end - s.args.from)
 
-returns : tie.Need-returns
-returns c = simp c.if1.true
+returns : tie.Need-returns-then-strange
+returns c = simp c.if-strange.true
 
-rate-fits-requires : tie.Need-rate-fits-requires
+rate-fits-requires : tie.Need-rate_fits-requires
 rate-fits-requires c κs = search rules
 
-returns-2 : tie.Need-returns-2
-returns-2 c = let s = c.before.before.before in by_rate s.args.strange s.args.rate s.args.delay (ls s) (sym c.before.rate_fits.ensures ∙ not-true _ c.if2.true)
+returns-2 : tie.Need-returns-then-not-rate_fits
+returns-2 c = let s = c.before.before.before in by_rate s.args.strange s.args.rate s.args.delay (ls s) (sym c.rate_fits.ensures ∙ not-true _ c.if-not-rate_fits.true)
 
-delay-fits-requires : tie.Need-delay-fits-requires
+delay-fits-requires : tie.Need-delay_fits-requires
 delay-fits-requires c κs = search rules
 
-returns-3 : tie.Need-returns-3
+returns-3 : tie.Need-returns-then-not-delay_fits
 returns-3 c =
     let s = c.before.before.before.before.before in
-    by_delay s.args.strange s.args.rate s.args.delay (ls s) (sym c.before.delay-fits.ensures ∙ not-true _ c.if3.true)
+    by_delay s.args.strange s.args.rate s.args.delay (ls s) (sym c.delay_fits.ensures ∙ not-true _ c.if-not-delay_fits.true)
 
-outside-arc-requires : tie.Need-outside-arc-requires
+outside-arc-requires : tie.Need-outside_arc-requires
 outside-arc-requires c κs = search rules
 
-returns-4 : tie.Need-returns-4
+returns-4 : tie.Need-returns
 returns-4 c =
     let e = c.before in
     let d = e.before.before in
     let s = d.before.before.before in
-    c.outside-arc.ensures
-    ∙ by_arcs s.args.strange s.args.rate s.args.delay (ls s) d.before.before.if1.false (sym d.before.rate_fits.ensures ∙ not-false _ d.if2.false) (sym e.before.delay-fits.ensures ∙ not-false _ e.if3.false)
+    c.outside_arc.ensures
+    ∙ by_arcs s.args.strange s.args.rate s.args.delay (ls s) d.if-strange.false (sym d.rate_fits.ensures ∙ not-false _ d.if-not-rate_fits.false) (sym e.delay_fits.ensures ∙ not-false _ e.if-not-delay_fits.false)
 
-pub outside-spec : {M : Type 1} → statement M
-outside-spec =
+pub outside_spec : {M : Type 1} → statement M
+outside_spec =
     tie.close
     (tie.spec
     returns

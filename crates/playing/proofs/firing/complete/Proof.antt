@@ -26,24 +26,24 @@ net s =
     lent s.args.places s.args.transitions s.args.initial.now s.args.capacity.now s.args.rate.now s.args.delay.now s.args.arcs.now
     s.args.kind.now s.args.place.now s.args.weight.now
 
-abbrev start : tie.After-remove-first → tie.Start
+abbrev start : tie.After-remove_first-left → tie.Start
 start r = r.before.before
 
-first-requires : tie.Need-first-requires
+first-requires : tie.Need-first-x-requires
 first-requires c κs = search rules
 
-remove-first-requires : tie.Need-remove-first-requires
+remove-first-requires : tie.Need-remove_first-left-requires
 remove-first-requires c κs = search rules
 
 -- the list once the timer has left
-others_left : (r : tie.After-remove-first) → timers_of (start r).args.ats.now (start r).args.owners.now r.remove-IsFirst.result ≡ others (timers_of (start r).args.ats.now (start r).args.owners.now (start r).args.ring)
+others_left : (r : tie.After-remove_first-left) → timers_of (start r).args.ats.now (start r).args.owners.now r.remove-IsFirst.result ≡ others (timers_of (start r).args.ats.now (start r).args.owners.now (start r).args.ring)
 others_left r = r.remove-IsFirst.ensures.list (start r).args.ats.now (start r).args.owners.now
 
 -- the tokens then, at counts that are as they were
-left_less : (r : tie.After-remove-first) → (start r).args.tokens ≡ tokens_of (state_of (net (start r)) (start r).args.counts.now (start r).args.ats.now (start r).args.owners.now r.remove-IsFirst.result (start r).args.clock (start r).args.rng.s) + r.before.first.result.taken
+left_less : (r : tie.After-remove_first-left) → (start r).args.tokens ≡ tokens_of (state_of (net (start r)) (start r).args.counts.now (start r).args.ats.now (start r).args.owners.now r.remove-IsFirst.result (start r).args.clock (start r).args.rng.s) + r.first-x.result.taken
 left_less r =
     let a = (start r).args in
-    let x = r.before.first in
+    let x = r.first-x in
     omega (
       arith,
       (start r).requires.1,
@@ -51,11 +51,11 @@ left_less r =
           x.result x.ensures (others_left r),
     )
 
-put-requires : tie.Need-put-requires
+put-requires : tie.Need-put-p-requires
 put-requires c κs = search rules
 
 -- the arrays then
-ready : (r : tie.After-remove-first) (counts : List ℕ) → Counts counts
+ready : (r : tie.After-remove_first-left) (counts : List ℕ) → Counts counts
     → Ready (net (start r)) (start r).args.limit.now counts (start r).args.ats.now (start r).args.owners.now r.remove-IsFirst.result
     × (running r.remove-IsFirst.result ≤ running (start r).args.ring)
 ready r counts h =
@@ -71,52 +71,61 @@ ready r counts h =
       one_fewer a.ats.now a.owners.now a.ring r.remove-IsFirst.result (others_left r),
     )
 
-sub-fewer : tie.Need-overflow-sub-fewer
+sub-fewer : tie.Need-overflow_sub-fewer
 sub-fewer c = omega (arith, left_less c.before)
 
-add-many : tie.Need-overflow-add-many
+add-many : tie.Need-overflow_add-many
 add-many c =
     let r = c.before.before.before.before.before.before in
-    omega (arith, (start r).requires.1, tokens_few (start r).args.clock (start r).args.rng.s (start r).requires.0, c.before.before.put.ensures.3)
+    omega (arith, (start r).requires.1, tokens_few (start r).args.clock (start r).args.rng.s (start r).requires.0, c.put-p.ensures.3)
 
-returns : tie.Need-returns
+returns : tie.Need-returns-then-p
 returns c =
     let r = c.before.before.before.before.before.before in
     let a = (start r).args in
-    let x = r.before.first in
-    let p = c.before.before.put in
-    let fits = c.before.if2.true in
+    let x = r.first-x in
+    let p = c.put-p in
+    let fits = c.if-p.true in
     let counts' = p.new.1.1.1.1.1.1.0 in (
       complete_at (net (start r)) a.counts.now a.ats.now a.owners.now a.ring r.remove-IsFirst.result a.clock a.rng.s
-          x.result x.ensures (others_left r) counts' true _ c.before.before.before.before.if1.true (rw fits at p.ensures.0)
+          x.result x.ensures (others_left r) counts' true _ c.if-j-transitions.true (rw fits at p.ensures.0)
           (λ e. omega (arith, left_less r, p.ensures.2 fits)),
       (ready r counts' p.ensures.1, λ f. (p.ensures.4 fits a.transitions a.initial.now a.capacity.now a.rate.now a.delay.now (start r).requires.0.tidy (start r).requires.2).0),
     )
 
-returns-2 : tie.Need-returns-2
+returns-2 : tie.Need-returns-then-j-transitions
 returns-2 c =
     let r = c.before.before.before.before.before in
     let a = (start r).args in
-    let x = r.before.first in
-    let p = c.before.put in
+    let x = r.first-x in
+    let p = c.put-p in
     let counts' = p.new.1.1.1.1.1.1.0 in (
       complete_at (net (start r)) a.counts.now a.ats.now a.owners.now a.ring r.remove-IsFirst.result a.clock a.rng.s
-          x.result x.ensures (others_left r) counts' false _ c.before.before.before.if1.true (rw c.if2.false at p.ensures.0)
+          x.result x.ensures (others_left r) counts' false _ c.if-j-transitions.true (rw c.if-p.false at p.ensures.0)
           (λ e. absurd (false≢true e)),
       (ready r counts' p.ensures.1, λ f. absurd (false≢true f)),
     )
 
-returns-3 : tie.Need-returns-3
+returns-3 : tie.Need-returns
 returns-3 c =
     let r = c.before.before in
     let a = (start r).args in
-    let x = r.before.first in
+    let x = r.first-x in
     let h = (start r).requires.0.small in (
       complete_past (net (start r)) a.counts.now a.ats.now a.owners.now a.ring r.remove-IsFirst.result a.clock a.rng.s
-          x.result x.ensures (others_left r) _ c.if1.false h (omega (arith, left_less r)),
+          x.result x.ensures (others_left r) _ c.if-j-transitions.false h (omega (arith, left_less r)),
       (ready r a.counts.now h, λ f. quiet_none (readable (net (start r))) (marking a.places a.counts.now)),
     )
 
-pub complete-spec : {M : Type 1} → statement M
-complete-spec =
-    tie.close (tie.spec first-requires remove-first-requires sub-fewer put-requires add-many returns returns-2 returns-3)
+pub complete_spec : {M : Type 1} → statement M
+complete_spec =
+    tie.close
+    (tie.spec
+    first-requires
+    remove-first-requires
+    sub-fewer
+    put-requires
+    add-many
+    returns
+    returns-2
+    returns-3)

@@ -18,24 +18,29 @@ from s =
 
 complete-requires : tie.Need-complete-requires
 complete-requires c κs =
-    let p = c.before.before.requires in
+    let p = c.requires in
     (p.0, p.3, p.4)
 
-returns : tie.Need-returns
+returns : tie.Need-returns-then-completes
 returns c =
     let s = c.before.before.before in
-    (event_completes (net s) (from s) s.args.a0 s.args.props.now _ _ _ c.before.before.if1.true c.complete.ensures.0, c.complete.ensures.1)
+    (event_completes (net s) (from s) s.args.a0 s.args.props.now _ _ _ c.if-completes.true c.complete.ensures.0, c.complete.ensures.1)
 
 race-requires : tie.Need-race-requires
 race-requires c κs =
-    let p = c.before.before.requires in
+    let p = c.requires in
     (p.0, p.1, p.2, p.3, p.4)
 
-returns-2 : tie.Need-returns-2
+returns-2 : tie.Need-returns
 returns-2 c =
     let s = c.before.before.before in
-    (event_races (net s) (from s) s.args.a0 s.args.props.now _ _ _ c.before.before.if1.false c.race.ensures.0, c.race.ensures.1)
+    (event_races (net s) (from s) s.args.a0 s.args.props.now _ _ _ c.if-completes.false c.race.ensures.0, c.race.ensures.1)
 
-pub happen-spec : {M : Type 1} → statement M
-happen-spec =
-    tie.close (tie.spec complete-requires returns race-requires returns-2)
+pub happen_spec : {M : Type 1} → statement M
+happen_spec =
+    tie.close
+    (tie.spec
+    complete-requires
+    returns
+    race-requires
+    returns-2)

@@ -25,25 +25,25 @@ net s =
     lent s.args.places s.args.transitions s.args.initial.now s.args.capacity.now s.args.rate.now s.args.delay.now s.args.arcs.now
     s.args.kind.now s.args.place.now s.args.weight.now
 
-uniform-requires : tie.Need-uniform-requires
+uniform-requires : tie.Need-uniform-d-requires
 uniform-requires c κs = search rules
 
-choose-by-sums-requires : tie.Need-choose-by-sums-requires
+choose-by-sums-requires : tie.Need-choose_by_sums-chosen-requires
 choose-by-sums-requires c κs =
     let s = c.before.before.before in
     (s.requires.0.tidy.transitions, s.requires.1, s.requires.2)
 
-enum_told : tie.Need-enum-told
+enum_told : tie.Need-enum_told-1
 enum_told c = search rules
 
-enum-known-chosen : tie.Need-enum-known-chosen
+enum-known-chosen : tie.Need-enum_known-chosen
 enum-known-chosen c = search rules
 
-fire-requires : tie.Need-fire-requires
+fire-requires : tie.Need-fire-f-requires
 fire-requires c κs =
-    let s = c.before.before.before.before.before.before.before.before.before in
+    let s = c.before.before.before.before.before.before.before in
     let t = s.requires.0.tidy in
-    (omega (arith, c.before.if1.true, t.transitions), t.places, t.arcs, t.place, t.weight, s.requires.0.small, t.order _ c.before.if1.true)
+    (omega (arith, c.if-j-transitions.true, t.transitions), t.places, t.arcs, t.place, t.weight, s.requires.0.small, t.order _ c.if-j-transitions.true)
 
 -- the arrays with other counts
 ready : (s : tie.Start) (counts : List ℕ) → Counts counts
@@ -52,80 +52,80 @@ ready s counts h =
     let p = s.requires.0 in
     (record { tidy = p.tidy; limits = p.limits; small = h; light = p.light; sound = p.sound }, omega arith)
 
-add-more : tie.Need-overflow-add-more
+add-more : tie.Need-overflow_add-more
 add-more c =
-    let s = c.before.before.before.before.before.before.before.before.before.before.before.before in
-    omega (arith, s.requires.3, tokens_few s.args.clock s.args.rng.s s.requires.0, c.before.before.fire.ensures.3)
+    let s = c.before.before.before.before.before.before.before.before.before.before in
+    omega (arith, s.requires.3, tokens_few s.args.clock s.args.rng.s s.requires.0, c.fire-f.ensures.3)
 
-sub-many : tie.Need-overflow-sub-many
+sub-many : tie.Need-overflow_sub-many
 sub-many c =
     let f = c.before.before.before in
-    let s = f.before.before.before.before.before.before.before.before.before.before in
-    omega (arith, s.requires.3, f.fire.ensures.2 c.before.before.if2.true)
+    let s = f.before.before.before.before.before.before.before.before in
+    omega (arith, s.requires.3, f.fire-f.ensures.2 c.if-f.true)
 
-returns : tie.Need-returns
+returns : tie.Need-returns-then-f
 returns c =
     let f = c.before.before.before in
-    let k = f.before.before.before.before in
-    let e = k.before.before in
+    let k = f.before.before.before in
+    let e = k.before in
     let d = e.before.before.before in
     let s = d.before in
     let a = s.args in
-    let j = k.chosen.given.0.0 in
-    let fits = c.before.before.if2.true in
-    let counts' = f.fire.new.1.1.1.1.1.1.0 in (
-      race_at (net s) a.counts.now a.ats.now a.owners.now a.ring a.clock a.a0 a.rng.s d.uniform.result.rng.s
-          (take a.transitions a.props.now) d.uniform.result.value (some j) d.uniform.ensures.0 d.uniform.ensures.1
-          (sym (ap choice_of k.chosen.given.1) ∙ e.choose-by-sums.ensures) j refl f.before.before.if1.true counts' _ true (rw fits at f.fire.ensures.0)
-          (λ z. omega (arith, s.requires.3, f.fire.ensures.2 fits)),
-      (ready s counts' f.fire.ensures.1, λ z. (f.fire.ensures.4 fits a.transitions a.initial.now a.capacity.now a.rate.now a.delay.now s.requires.0.tidy s.requires.4).0),
+    let j = k.in-Chosen.j in
+    let fits = c.if-f.true in
+    let counts' = f.fire-f.new.1.1.1.1.1.1.0 in (
+      race_at (net s) a.counts.now a.ats.now a.owners.now a.ring a.clock a.a0 a.rng.s d.uniform-d.result.rng.s
+          (take a.transitions a.props.now) d.uniform-d.result.value (some j) d.uniform-d.ensures.0 d.uniform-d.ensures.1
+          (sym (ap choice_of k.in-Chosen.is) ∙ e.choose_by_sums-chosen.ensures) j refl f.if-j-transitions.true counts' _ true (rw fits at f.fire-f.ensures.0)
+          (λ z. omega (arith, s.requires.3, f.fire-f.ensures.2 fits)),
+      (ready s counts' f.fire-f.ensures.1, λ z. (f.fire-f.ensures.4 fits a.transitions a.initial.now a.capacity.now a.rate.now a.delay.now s.requires.0.tidy s.requires.4).0),
     )
 
-returns-2 : tie.Need-returns-2
+returns-2 : tie.Need-returns-then-j-transitions
 returns-2 c =
     let f = c.before in
-    let k = f.before.before.before.before in
-    let e = k.before.before in
+    let k = f.before.before.before in
+    let e = k.before in
     let d = e.before.before.before in
     let s = d.before in
     let a = s.args in
-    let j = k.chosen.given.0.0 in
-    let counts' = f.fire.new.1.1.1.1.1.1.0 in (
-      race_at (net s) a.counts.now a.ats.now a.owners.now a.ring a.clock a.a0 a.rng.s d.uniform.result.rng.s
-          (take a.transitions a.props.now) d.uniform.result.value (some j) d.uniform.ensures.0 d.uniform.ensures.1
-          (sym (ap choice_of k.chosen.given.1) ∙ e.choose-by-sums.ensures) j refl f.before.before.if1.true counts' _ false (rw c.if2.false at f.fire.ensures.0)
+    let j = k.in-Chosen.j in
+    let counts' = f.fire-f.new.1.1.1.1.1.1.0 in (
+      race_at (net s) a.counts.now a.ats.now a.owners.now a.ring a.clock a.a0 a.rng.s d.uniform-d.result.rng.s
+          (take a.transitions a.props.now) d.uniform-d.result.value (some j) d.uniform-d.ensures.0 d.uniform-d.ensures.1
+          (sym (ap choice_of k.in-Chosen.is) ∙ e.choose_by_sums-chosen.ensures) j refl f.if-j-transitions.true counts' _ false (rw c.if-f.false at f.fire-f.ensures.0)
           (λ z. absurd (false≢true z)),
-      (ready s counts' f.fire.ensures.1, λ z. absurd (false≢true z)),
+      (ready s counts' f.fire-f.ensures.1, λ z. absurd (false≢true z)),
     )
 
-returns-3 : tie.Need-returns-3
+returns-3 : tie.Need-returns-in-Nobody
 returns-3 c =
-    let e = c.before.before in
+    let e = c.before in
     let d = e.before.before.before in
     let s = d.before in
     let a = s.args in (
-      race_none (net s) a.counts.now a.ats.now a.owners.now a.ring a.clock a.a0 a.rng.s d.uniform.result.rng.s
-          (take a.transitions a.props.now) d.uniform.result.value none d.uniform.ensures.0 d.uniform.ensures.1
-          (sym (ap choice_of c.enum_told.given.1) ∙ e.choose-by-sums.ensures) _ refl (omega (arith, s.requires.3)),
+      race_none (net s) a.counts.now a.ats.now a.owners.now a.ring a.clock a.a0 a.rng.s d.uniform-d.result.rng.s
+          (take a.transitions a.props.now) d.uniform-d.result.value none d.uniform-d.ensures.0 d.uniform-d.ensures.1
+          (sym (ap choice_of c.in-Nobody.is) ∙ e.choose_by_sums-chosen.ensures) _ refl (omega (arith, s.requires.3)),
       (ready s a.counts.now s.requires.0.small, λ z. quiet_none (readable (net s)) (marking a.places a.counts.now)),
     )
 
-returns-4 : tie.Need-returns-4
+returns-4 : tie.Need-returns-else-j-transitions
 returns-4 c =
-    let k = c.before.before in
-    let e = k.before.before in
+    let k = c.before in
+    let e = k.before in
     let d = e.before.before.before in
     let s = d.before in
     let a = s.args in
-    let j = k.chosen.given.0.0 in (
-      race_past (net s) a.counts.now a.ats.now a.owners.now a.ring a.clock a.a0 a.rng.s d.uniform.result.rng.s
-          (take a.transitions a.props.now) d.uniform.result.value (some j) d.uniform.ensures.0 d.uniform.ensures.1
-          (sym (ap choice_of k.chosen.given.1) ∙ e.choose-by-sums.ensures) j refl _ c.if1.false s.requires.0.small (omega (arith, s.requires.3)),
+    let j = k.in-Chosen.j in (
+      race_past (net s) a.counts.now a.ats.now a.owners.now a.ring a.clock a.a0 a.rng.s d.uniform-d.result.rng.s
+          (take a.transitions a.props.now) d.uniform-d.result.value (some j) d.uniform-d.ensures.0 d.uniform-d.ensures.1
+          (sym (ap choice_of k.in-Chosen.is) ∙ e.choose_by_sums-chosen.ensures) j refl _ c.if-j-transitions.false s.requires.0.small (omega (arith, s.requires.3)),
       (ready s a.counts.now s.requires.0.small, λ z. quiet_none (readable (net s)) (marking a.places a.counts.now)),
     )
 
-pub race-spec : {M : Type 1} → statement M
-race-spec =
+pub race_spec : {M : Type 1} → statement M
+race_spec =
     tie.close
     (tie.spec
     uniform-requires

@@ -14,18 +14,18 @@ net_at s =
     lent s.args.places s.args.transitions s.args.initial.now s.args.capacity.now s.args.rate.now s.args.delay.now
     s.args.arcs.now s.args.kind.now s.args.place.now s.args.weight.now
 
-returns : tie.Need-returns
-returns c = (inl (omega (arith, c.before.requires.4, c.if1.true)), λ out xs. refl)
+returns : tie.Need-returns-then-many-most
+returns c = (inl (omega (arith, c.requires.4, c.if-many-most.true)), λ out xs. refl)
 
-returns-2 : tie.Need-returns-2
-returns-2 c = (inr (λ some. absurd (omega (arith, c.if2.true))), λ out xs. refl)
+returns-2 : tie.Need-returns-then-steps-eq0
+returns-2 c = (inr (λ some. absurd (omega (arith, c.if-steps-eq0.true))), λ out xs. refl)
 
-some-ready-requires : tie.Need-some-ready-requires
+some-ready-requires : tie.Need-some_ready-requires
 some-ready-requires c κs =
     let s = c.before.before.before.before in
     (s.requires.0, s.requires.2, s.requires.3.small)
 
-returns-3 : tie.Need-returns-3
+returns-3 : tie.Need-returns-then-some_ready
 returns-3 c =
     let r = c.before in
     let f = r.before.before.before in
@@ -34,24 +34,31 @@ returns-3 c =
     let w = a.s in (
       inl (omega (arith, s.requires.4)),
       one_starts a.room (net_at s) a.last a.steps a.counts.now a.ats.now a.owners.now w.timers w.clock w.rng.s
-          s.requires.0 (omega (arith, f.if2.false)) r.before.if3.true (sym r.some-ready.ensures ∙ c.if4.true)
-          w.tokens w.peak s.requires.4 (omega (arith, f.before.if1.false)),
+          s.requires.0 (omega (arith, f.if-steps-eq0.false)) r.if-s-last.true (sym r.some_ready.ensures ∙ c.if-some_ready.true)
+          w.tokens w.peak s.requires.4 (omega (arith, f.if-many-most.false)),
     )
 
-returns-4 : tie.Need-returns-4
+returns-4 : tie.Need-returns-else-some_ready
 returns-4 c =
     let r = c.before in
     let s = r.before.before.before.before.before in
     let a = s.args in
     let w = a.s in (
       none_starts a.room (net_at s) a.last a.steps a.counts.now a.ats.now a.owners.now w.timers w.clock w.rng.s
-          s.requires.1 s.requires.3 (sym r.some-ready.ensures ∙ c.if4.false) w.peak,
+          s.requires.1 s.requires.3 (sym r.some_ready.ensures ∙ c.if-some_ready.false) w.peak,
       λ out xs. refl,
     )
 
-returns-5 : tie.Need-returns-5
-returns-5 c = (inr (λ some below. absurd (true≢false (sym below ∙ c.if3.false))), λ out xs. refl)
+returns-5 : tie.Need-returns-else-s-last
+returns-5 c = (inr (λ some below. absurd (true≢false (sym below ∙ c.if-s-last.false))), λ out xs. refl)
 
-pub first-peak-spec : {M : Type 1} → statement M
-first-peak-spec =
-    tie.close (tie.spec returns returns-2 some-ready-requires returns-3 returns-4 returns-5)
+pub first_peak_spec : {M : Type 1} → statement M
+first_peak_spec =
+    tie.close
+    (tie.spec
+    returns
+    returns-2
+    some-ready-requires
+    returns-3
+    returns-4
+    returns-5)

@@ -16,13 +16,13 @@ use Rattle.engine.proofs.Lists.{any_whole, any_stop, any_go, any_end}
 use Rattle.playing.proofs.peak.some_ready.Statement.{statement}
 use Rattle.playing.proofs.peak.some_ready.Tie as tie
 
-abbrev invariant-loop : tie.invariant-loop
+abbrev invariant-loop : tie.invariant-loop-j
 invariant-loop places transitions initial capacity rate delay arcs kind place weight limit counts j₀ j =
     let net = lent places transitions initial capacity rate delay arcs kind place weight in
     let on = ready (readable net) (marking places counts) in
     any on (transitions_from net j (transitions - j)) ≡ any on (transitions_from net 0 transitions)
 
-abbrev decreases-loop : tie.decreases-loop
+abbrev decreases-loop : tie.decreases-loop-j
 decreases-loop places transitions initial capacity rate delay arcs kind place weight limit counts j₀ j = transitions - j
 
 abbrev net_at : tie.Start invariant-loop decreases-loop → NetRecord
@@ -34,57 +34,57 @@ net_at s =
 abbrev on : tie.Start invariant-loop decreases-loop → Transition → Bool
 on s = ready (readable (net_at s)) (marking s.args.places s.args.counts.now)
 
-loop-holds : tie.Need-loop-init invariant-loop decreases-loop
+loop-holds : tie.Need-loop-j-init invariant-loop decreases-loop
 loop-holds c = any_whole (on c) (net_at c) c.args.transitions
 
-add-k : tie.Need-overflow-add-k invariant-loop decreases-loop
+add-k : tie.Need-overflow_add-k invariant-loop decreases-loop
 add-k c = search rules
 
-mul-if1 : tie.Need-overflow-mul-if1 invariant-loop decreases-loop
-mul-if1 c = omega (arith, c.before.before.requires.0.transitions)
+mul-if1 : tie.Need-offset_bounds-delay-j invariant-loop decreases-loop
+mul-if1 c = omega (arith, c.requires.0.transitions)
 
-element-copy-out-if1 : tie.Need-element-copy-out-if1 invariant-loop decreases-loop
-element-copy-out-if1 c = omega (arith, c.before.before.requires.0.transitions)
+element-copy-out-if1 : tie.Need-bounds-delay-j invariant-loop decreases-loop
+element-copy-out-if1 c = omega (arith, c.requires.0.transitions)
 
 enabled-requires : tie.Need-enabled-requires invariant-loop decreases-loop
 enabled-requires c κs =
     let s = c.before.before.before.before in
-    (c.before.before.loop-test.true, s.requires.0, s.requires.1, s.requires.2)
+    (c.loop-j-test.true, s.requires.0, s.requires.1, s.requires.2)
 
-returns : tie.Need-returns invariant-loop decreases-loop
+returns : tie.Need-returns-then-enabled invariant-loop decreases-loop
 returns c =
     let f = c.before.before in
     let l = f.before.before.before in
-    any_stop (on l.before) (net_at l.before) l.loop.j l.before.args.transitions l.loop.invariant f.before.before.loop-test.true
-    (λ i. f.if1.true i && (sym c.before.enabled.ensures ∙ c.if2.true) i)
+    any_stop (on l.before) (net_at l.before) l.loop-j.j l.args.transitions l.loop-j.invariant f.loop-j-test.true
+    (λ i. f.if-delay-j.true i && (sym c.enabled.ensures ∙ c.if-enabled.true) i)
 
-loop-less : tie.Need-loop-smaller invariant-loop decreases-loop
+loop-less : tie.Need-loop-j-smaller-else-enabled invariant-loop decreases-loop
 loop-less c = search rules
 
-loop-again : tie.Need-loop-preserved invariant-loop decreases-loop
+loop-again : tie.Need-loop-j-preserved-else-enabled invariant-loop decreases-loop
 loop-again c =
     let f = c.before.before in
     let l = f.before.before.before in
-    any_go (on l.before) (net_at l.before) l.loop.j l.before.args.transitions l.loop.invariant f.before.before.loop-test.true
-    (λ i. f.if1.true i && (sym c.before.enabled.ensures ∙ c.if2.false) i)
+    any_go (on l.before) (net_at l.before) l.loop-j.j l.args.transitions l.loop-j.invariant f.loop-j-test.true
+    (λ i. f.if-delay-j.true i && (sym c.enabled.ensures ∙ c.if-enabled.false) i)
 
-loop-less-2 : tie.Need-loop-smaller-2 invariant-loop decreases-loop
+loop-less-2 : tie.Need-loop-j-smaller invariant-loop decreases-loop
 loop-less-2 c = search rules
 
-loop-again-2 : tie.Need-loop-preserved-2 invariant-loop decreases-loop
+loop-again-2 : tie.Need-loop-j-preserved invariant-loop decreases-loop
 loop-again-2 c =
     let l = c.before.before.before in
     let s = l.before in
-    any_go (on s) (net_at s) l.loop.j s.args.transitions l.loop.invariant c.before.before.loop-test.true
-    (λ i. c.if1.false i && enabled (readable (net_at s)) (marking s.args.places s.args.counts.now) (transition (net_at s) l.loop.j))
+    any_go (on s) (net_at s) l.loop-j.j s.args.transitions l.loop-j.invariant c.loop-j-test.true
+    (λ i. c.if-delay-j.false i && enabled (readable (net_at s)) (marking s.args.places s.args.counts.now) (transition (net_at s) l.loop-j.j))
 
-returns-2 : tie.Need-returns-2 invariant-loop decreases-loop
+returns-2 : tie.Need-returns invariant-loop decreases-loop
 returns-2 c =
     let l = c.before in
-    any_end (on l.before) (net_at l.before) l.loop.j l.before.args.transitions l.loop.invariant c.loop-test.false
+    any_end (on l.before) (net_at l.before) l.loop-j.j l.args.transitions l.loop-j.invariant c.loop-j-test.false
 
-pub some-ready-spec : {M : Type 1} → statement M
-some-ready-spec =
+pub some_ready_spec : {M : Type 1} → statement M
+some_ready_spec =
     tie.close
     (tie.spec
     invariant-loop

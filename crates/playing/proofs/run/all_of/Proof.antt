@@ -10,22 +10,28 @@ use borrow.Author.Rules.{rules}
 use Rattle.playing.proofs.run.all_of.Statement.{statement}
 use Rattle.playing.proofs.run.all_of.Tie as tie
 
-returns : tie.Need-returns
-returns c = λ j. bit_all 64 j ∙ ap (ltb j) (sym c.if1.true)
+returns : tie.Need-returns-then-transitions-eq64
+returns c = λ j. bit_all 64 j ∙ ap (ltb j) (sym c.if-transitions-eq64.true)
 
-shl-result : tie.Need-overflow-shl-result
+shl-result : tie.Need-overflow_shl-result
 shl-result c = search rules
 
-low : (c : tie.Else1) → c.before.args.transitions < 64
-low c = omega (arith, c.before.requires, c.if1.false)
+low : (c : tie.Else-transitions-eq64) → c.args.transitions < 64
+low c = omega (arith, c.requires, c.if-transitions-eq64.false)
 
-sub-result : tie.Need-overflow-sub-result
-sub-result c = omega (arith, one_shifted c.before.args.transitions (low c), pow_pos c.before.args.transitions)
+sub-result : tie.Need-overflow_sub-result
+sub-result c = omega (arith, one_shifted c.args.transitions (low c), pow_pos c.args.transitions)
 
-returns-2 : tie.Need-returns-2
+returns-2 : tie.Need-returns
 returns-2 c =
-    let k = c.before.args.transitions in
+    let k = c.args.transitions in
     λ j. ap (λ (x : ℕ). bit (x - 1) j) (one_shifted k (low c)) ∙ bit_all k j
 
-pub all-of-spec : {M : Type 1} → statement M
-all-of-spec = tie.close (tie.spec returns shl-result sub-result returns-2)
+pub all_of_spec : {M : Type 1} → statement M
+all_of_spec =
+    tie.close
+    (tie.spec
+    returns
+    shl-result
+    sub-result
+    returns-2)

@@ -23,7 +23,7 @@ use Rattle.playing.proofs.Playing.{one_at_most, SoFar, so_far_none, walked_at, W
 use Rattle.playing.proofs.run.take_steps.Statement.{statement}
 use Rattle.playing.proofs.run.take_steps.Tie as tie
 
-abbrev invariant-loop : tie.invariant-loop
+abbrev invariant-loop : tie.invariant-loop-going
 invariant-loop places transitions initial capacity rate delay arcs kind place weight limit rates ends guards timed heavy counts₀ ats₀ owners₀ props₀ sums₀ room instants last table₀ halts steps at₀ done₀ rounded₀ end₀ going₀ counts ats owners props sums table at done rounded end going =
     let net = lent places transitions initial capacity rate delay arcs kind place weight in
     let state = state_of net counts ats owners at.timers at.clock at.rng.s in
@@ -43,7 +43,7 @@ invariant-loop places transitions initial capacity rate delay arcs kind place we
     × (going ≡ false → WalkedTo instants places whole at₀.next table₀ state table (walked_at end done rounded at) end)
 
 -- a turn is one step less, or the last
-abbrev decreases-loop : tie.decreases-loop
+abbrev decreases-loop : tie.decreases-loop-going
 decreases-loop places transitions initial capacity rate delay arcs kind place weight limit rates ends guards timed heavy counts₀ ats₀ owners₀ props₀ sums₀ room instants last table₀ halts steps at₀ done₀ rounded₀ end₀ going₀ counts ats owners props sums table at done rounded end going =
     pick going (suc (steps - done)) 0
 
@@ -55,7 +55,7 @@ the_last : (g : Bool) (a : ℕ) → g ≡ true → 0 < pick g (suc a) 0
 the_last true a e = omega arith
 the_last false a e = absurd (false≢true e)
 
-loop-holds : tie.Need-loop-init invariant-loop decreases-loop
+loop-holds : tie.Need-loop-going-init invariant-loop decreases-loop
 loop-holds c =
     let a = c.before.before in
     let s = a.args in (
@@ -75,164 +75,164 @@ loop-holds c =
       λ f. absurd (true≢false f),
     )
 
-one-step-requires : tie.Need-one-step-requires invariant-loop decreases-loop
+one-step-requires : tie.Need-one_step-r-requires invariant-loop decreases-loop
 one-step-requires c κs =
     let l = c.before.before.before.before.before.before.before.before.before in
     let a = l.before.before.before in
-    let g = l.loop.invariant.3 c.before.before.before.before.before.before.before.before.loop-test.true in
-    (g.2, g.3, a.requires.2, g.4, g.5.within, a.requires.5, omega (arith, a.requires.6, l.loop.invariant.1), g.5.now, g.6)
+    let g = l.loop-going.invariant.3 c.loop-going-test.true in
+    (g.2, g.3, a.requires.2, g.4, g.5.within, a.requires.5, omega (arith, a.requires.6, l.loop-going.invariant.1), g.5.now, g.6)
 
-add_done : tie.Need-overflow-add-done invariant-loop decreases-loop
-add_done c = omega (arith, c.before.before.before.before.before.before.before.before.before.before.before.before.before.before.before.before.ranges.steps, c.before.before.before.before.before.before.before.before.before.before.if2.true)
+add_done : tie.Need-overflow_add-done invariant-loop decreases-loop
+add_done c = omega (arith, c.ranges.steps, c.if-done-steps.true)
 
-one-more-requires : tie.Need-one-more-requires invariant-loop decreases-loop
+one-more-requires : tie.Need-one_more-rounded-requires invariant-loop decreases-loop
 one-more-requires c κs =
     let l = c.before.before.before.before.before.before.before.before.before.before.before.before.before in
-    omega (arith, (l.loop.invariant.3 c.before.before.before.before.before.before.before.before.before.before.before.before.loop-test.true).0, c.before.before.before.before.before.before.before.before.before.before.if2.true, l.before.before.before.ranges.steps)
+    omega (arith, (l.loop-going.invariant.3 c.loop-going-test.true).0, c.if-done-steps.true, l.ranges.steps)
 
-enum_told : tie.Need-enum-told invariant-loop decreases-loop
+enum_told : tie.Need-enum_told-1 invariant-loop decreases-loop
 enum_told c = search rules
 
 -- one step is taken
-one_taken : (o : tie.After-one-step invariant-loop decreases-loop)
-    → o.before.before.before.before.before.before.before.before.before.before.before.before.before.args.steps - o.before.before.before.before.before.before.before.before.before.before.loop.done ≡ suc (o.before.before.before.before.before.before.before.before.before.before.before.before.before.args.steps - (o.before.before.before.before.before.before.before.before.before.before.loop.done + 1))
-one_taken o = omega (arith, o.before.before.before.before.before.before.before.if2.true)
+one_taken : (o : tie.After-one_step-r invariant-loop decreases-loop)
+    → o.args.steps - o.loop-going.done ≡ suc (o.args.steps - (o.loop-going.done + 1))
+one_taken o = omega (arith, o.if-done-steps.true)
 
-loop-less : tie.Need-loop-smaller invariant-loop decreases-loop
+loop-less : tie.Need-loop-going-smaller-in-GoesOn invariant-loop decreases-loop
 loop-less c =
-    let o = c.before.before.before.before.before.before in
-    one_less o.before.before.before.before.before.before.before.before.before.before.loop.going _ _ o.before.before.before.before.before.before.before.before.before.loop-test.true (omega (arith, o.before.before.before.before.before.before.before.if2.true))
+    let o = c.before.before.before.before.before in
+    one_less o.loop-going.going _ _ o.loop-going-test.true (omega (arith, o.if-done-steps.true))
 
-loop-again : tie.Need-loop-preserved invariant-loop decreases-loop
+loop-again : tie.Need-loop-going-preserved-in-GoesOn invariant-loop decreases-loop
 loop-again c =
-    let o = c.before.before.before.before.before.before in
+    let o = c.before.before.before.before.before in
     let l = o.before.before.before.before.before.before.before.before.before.before in
-    let g = l.loop.invariant.3 o.before.before.before.before.before.before.before.before.before.loop-test.true in (
-      o.one-step.ensures.1.0.small,
-      o.one-step.ensures.1.3 ∙ l.loop.invariant.1,
-      λ i h. o.one-step.ensures.1.4 i h ∙ l.loop.invariant.2 i h,
+    let g = l.loop-going.invariant.3 o.loop-going-test.true in (
+      o.one_step-r.ensures.1.0.small,
+      o.one_step-r.ensures.1.3 ∙ l.loop-going.invariant.1,
+      λ i h. o.one_step-r.ensures.1.4 i h ∙ l.loop-going.invariant.2 i h,
       λ _. (
-        omega (arith, g.0, c.before.before.one_more.ensures, one_at_most o.one-step.result.rounded),
+        omega (arith, g.0, c.one_more-rounded.ensures, one_at_most o.one_step-r.result.rounded),
         g.1,
-        o.one-step.ensures.1.0,
-        o.one-step.ensures.1.1,
-        (o.one-step.ensures.1.2 c.enum_told.given.1).0,
-        goes_on g.2.tidy.once g.5 (l.before.before.before.args.steps - (l.loop.done + 1)) (one_taken o) o.before.before.before.before.before.before.before.before.if1.true
-            c.before.before.one_more.result c.before.before.one_more.ensures (rw c.enum_told.given.1 at o.one-step.ensures.0),
-        (o.one-step.ensures.1.2 c.enum_told.given.1).1,
+        o.one_step-r.ensures.1.0,
+        o.one_step-r.ensures.1.1,
+        (o.one_step-r.ensures.1.2 c.in-GoesOn.is).0,
+        goes_on g.2.tidy.once g.5 (l.args.steps - (l.loop-going.done + 1)) (one_taken o) o.if-clock-last.true
+            c.one_more-rounded.result c.one_more-rounded.ensures (rw c.in-GoesOn.is at o.one_step-r.ensures.0),
+        (o.one_step-r.ensures.1.2 c.in-GoesOn.is).1,
       ),
-      λ f. absurd (true≢false (sym o.before.before.before.before.before.before.before.before.before.loop-test.true ∙ f)),
+      λ f. absurd (true≢false (sym o.loop-going-test.true ∙ f)),
     )
 
-enum-told-2 : tie.Need-enum-told-2 invariant-loop decreases-loop
+enum-told-2 : tie.Need-enum_told-in-Quiet invariant-loop decreases-loop
 enum-told-2 c = search rules
 
-loop-less-2 : tie.Need-loop-smaller-2 invariant-loop decreases-loop
-loop-less-2 c = let o = c.before.before.before.before.before.before in the_last o.before.before.before.before.before.before.before.before.before.before.loop.going _ o.before.before.before.before.before.before.before.before.before.loop-test.true
+loop-less-2 : tie.Need-loop-going-smaller-in-Quiet invariant-loop decreases-loop
+loop-less-2 c = let o = c.before.before.before.before.before in the_last o.loop-going.going _ o.loop-going-test.true
 
-loop-again-2 : tie.Need-loop-preserved-2 invariant-loop decreases-loop
+loop-again-2 : tie.Need-loop-going-preserved-in-Quiet invariant-loop decreases-loop
 loop-again-2 c =
-    let o = c.before.before.before.before.before.before in
+    let o = c.before.before.before.before.before in
     let l = o.before.before.before.before.before.before.before.before.before.before in
-    let g = l.loop.invariant.3 o.before.before.before.before.before.before.before.before.before.loop-test.true in
-    let left = l.before.before.before.args.steps - (l.loop.done + 1) in (
-      o.one-step.ensures.1.0.small,
-      o.one-step.ensures.1.3 ∙ l.loop.invariant.1,
-      λ i h. o.one-step.ensures.1.4 i h ∙ l.loop.invariant.2 i h,
+    let g = l.loop-going.invariant.3 o.loop-going-test.true in
+    let left = l.args.steps - (l.loop-going.done + 1) in (
+      o.one_step-r.ensures.1.0.small,
+      o.one_step-r.ensures.1.3 ∙ l.loop-going.invariant.1,
+      λ i h. o.one_step-r.ensures.1.4 i h ∙ l.loop-going.invariant.2 i h,
       λ t. absurd (false≢true t),
-      λ _. nothing_left g.2.tidy.once g.5 left (one_taken o) o.before.before.before.before.before.before.before.before.if1.true
-          (walked_at Quiet (l.loop.done + 1) c.before.before.one_more.result o.one-step.result.now) refl c.before.before.one_more.ensures
-          (rw c.enum-told2.given.1 at o.one-step.ensures.0),
+      λ _. nothing_left g.2.tidy.once g.5 left (one_taken o) o.if-clock-last.true
+          (walked_at Quiet (l.loop-going.done + 1) c.one_more-rounded.result o.one_step-r.result.now) refl c.one_more-rounded.ensures
+          (rw c.in-Quiet.is at o.one_step-r.ensures.0),
     )
 
-enum-told-3 : tie.Need-enum-told-3 invariant-loop decreases-loop
+enum-told-3 : tie.Need-enum_told-in-Reached invariant-loop decreases-loop
 enum-told-3 c = search rules
 
-loop-less-3 : tie.Need-loop-smaller-3 invariant-loop decreases-loop
-loop-less-3 c = let o = c.before.before.before.before.before.before in the_last o.before.before.before.before.before.before.before.before.before.before.loop.going _ o.before.before.before.before.before.before.before.before.before.loop-test.true
+loop-less-3 : tie.Need-loop-going-smaller-in-Reached invariant-loop decreases-loop
+loop-less-3 c = let o = c.before.before.before.before.before in the_last o.loop-going.going _ o.loop-going-test.true
 
-loop-again-3 : tie.Need-loop-preserved-3 invariant-loop decreases-loop
+loop-again-3 : tie.Need-loop-going-preserved-in-Reached invariant-loop decreases-loop
 loop-again-3 c =
-    let o = c.before.before.before.before.before.before in
+    let o = c.before.before.before.before.before in
     let l = o.before.before.before.before.before.before.before.before.before.before in
-    let g = l.loop.invariant.3 o.before.before.before.before.before.before.before.before.before.loop-test.true in
-    let left = l.before.before.before.args.steps - (l.loop.done + 1) in (
-      o.one-step.ensures.1.0.small,
-      o.one-step.ensures.1.3 ∙ l.loop.invariant.1,
-      λ i h. o.one-step.ensures.1.4 i h ∙ l.loop.invariant.2 i h,
+    let g = l.loop-going.invariant.3 o.loop-going-test.true in
+    let left = l.args.steps - (l.loop-going.done + 1) in (
+      o.one_step-r.ensures.1.0.small,
+      o.one_step-r.ensures.1.3 ∙ l.loop-going.invariant.1,
+      λ i h. o.one_step-r.ensures.1.4 i h ∙ l.loop-going.invariant.2 i h,
       λ t. absurd (false≢true t),
       λ _. rw g.1
-          (past_last g.2.tidy.once g.5 left (one_taken o) o.before.before.before.before.before.before.before.before.if1.true
-          (walked_at Reached (l.loop.done + 1) c.before.before.one_more.result o.one-step.result.now) refl c.before.before.one_more.ensures
-          (rw c.enum-told3.given.1 at o.one-step.ensures.0)),
+          (past_last g.2.tidy.once g.5 left (one_taken o) o.if-clock-last.true
+          (walked_at Reached (l.loop-going.done + 1) c.one_more-rounded.result o.one_step-r.result.now) refl c.one_more-rounded.ensures
+          (rw c.in-Reached.is at o.one_step-r.ensures.0)),
     )
 
-enum-known-ending : tie.Need-enum-known-ending invariant-loop decreases-loop
+enum-known-ending : tie.Need-enum_known-ending invariant-loop decreases-loop
 enum-known-ending c = search rules
 
-loop-less-4 : tie.Need-loop-smaller-4 invariant-loop decreases-loop
-loop-less-4 c = let o = c.before.before.before.before.before.before.before in the_last o.before.before.before.before.before.before.before.before.before.before.loop.going _ o.before.before.before.before.before.before.before.before.before.loop-test.true
+loop-less-4 : tie.Need-loop-going-smaller-in-Refused invariant-loop decreases-loop
+loop-less-4 c = let o = c.before.before.before.before.before in the_last o.loop-going.going _ o.loop-going-test.true
 
-loop-again-4 : tie.Need-loop-preserved-4 invariant-loop decreases-loop
+loop-again-4 : tie.Need-loop-going-preserved-in-Refused invariant-loop decreases-loop
 loop-again-4 c =
-    let o = c.before.before.before.before.before.before.before in
+    let o = c.before.before.before.before.before in
     let l = o.before.before.before.before.before.before.before.before.before.before in
-    let g = l.loop.invariant.3 o.before.before.before.before.before.before.before.before.before.loop-test.true in
-    let left = l.before.before.before.args.steps - (l.loop.done + 1) in (
-      o.one-step.ensures.1.0.small,
-      o.one-step.ensures.1.3 ∙ l.loop.invariant.1,
-      λ i h. o.one-step.ensures.1.4 i h ∙ l.loop.invariant.2 i h,
+    let g = l.loop-going.invariant.3 o.loop-going-test.true in
+    let left = l.args.steps - (l.loop-going.done + 1) in (
+      o.one_step-r.ensures.1.0.small,
+      o.one_step-r.ensures.1.3 ∙ l.loop-going.invariant.1,
+      λ i h. o.one_step-r.ensures.1.4 i h ∙ l.loop-going.invariant.2 i h,
       λ t. absurd (false≢true t),
-      λ _. turned_down g.2.tidy.once g.5 left (one_taken o) o.before.before.before.before.before.before.before.before.if1.true
-          (walked_at (Refused c.before.ending.given.0.0) (l.loop.done + 1) c.before.before.before.one_more.result o.one-step.result.now)
-          c.before.ending.given.0.0 (rw c.before.ending.given.1 at o.one-step.ensures.0),
+      λ _. turned_down g.2.tidy.once g.5 left (one_taken o) o.if-clock-last.true
+          (walked_at (Refused c.in-Refused.c) (l.loop-going.done + 1) c.one_more-rounded.result o.one_step-r.result.now)
+          c.in-Refused.c (rw c.in-Refused.is at o.one_step-r.ensures.0),
     )
 
-out-requires : tie.Need-out-requires invariant-loop decreases-loop
+out-requires : tie.Need-out-end-requires invariant-loop decreases-loop
 out-requires c κs = search rules
 
-loop-less-5 : tie.Need-loop-smaller-5 invariant-loop decreases-loop
-loop-less-5 c = the_last c.before.before.before.before.loop.going _ c.before.before.before.loop-test.true
+loop-less-5 : tie.Need-loop-going-smaller-else-done-steps invariant-loop decreases-loop
+loop-less-5 c = the_last c.loop-going.going _ c.loop-going-test.true
 
-loop-again-5 : tie.Need-loop-preserved-5 invariant-loop decreases-loop
+loop-again-5 : tie.Need-loop-going-preserved-else-done-steps invariant-loop decreases-loop
 loop-again-5 c =
     let l = c.before.before.before.before in
-    let g = l.loop.invariant.3 c.before.before.before.loop-test.true in (
-      l.loop.invariant.0,
-      l.loop.invariant.1,
-      l.loop.invariant.2,
+    let g = l.loop-going.invariant.3 c.loop-going-test.true in (
+      l.loop-going.invariant.0,
+      l.loop-going.invariant.1,
+      l.loop-going.invariant.2,
       λ t. absurd (false≢true t),
-      λ _. at_limit (walked_at c.out.result l.loop.done l.loop.rounded l.loop.at) g.5 c.out.result c.out.ensures
-          (omega (arith, c.before.if2.false)) c.before.before.if1.true,
+      λ _. at_limit (walked_at c.out-end.result l.loop-going.done l.loop-going.rounded l.loop-going.at) g.5 c.out-end.result c.out-end.ensures
+          (omega (arith, c.if-done-steps.false)) c.if-clock-last.true,
     )
 
-loop-less-6 : tie.Need-loop-smaller-6 invariant-loop decreases-loop
-loop-less-6 c = the_last c.before.before.loop.going _ c.before.loop-test.true
+loop-less-6 : tie.Need-loop-going-smaller invariant-loop decreases-loop
+loop-less-6 c = the_last c.loop-going.going _ c.loop-going-test.true
 
-loop-again-6 : tie.Need-loop-preserved-6 invariant-loop decreases-loop
+loop-again-6 : tie.Need-loop-going-preserved invariant-loop decreases-loop
 loop-again-6 c =
     let l = c.before.before in
-    let g = l.loop.invariant.3 c.before.loop-test.true in (
-      l.loop.invariant.0,
-      l.loop.invariant.1,
-      l.loop.invariant.2,
+    let g = l.loop-going.invariant.3 c.loop-going-test.true in (
+      l.loop-going.invariant.0,
+      l.loop-going.invariant.1,
+      l.loop-going.invariant.2,
       λ t. absurd (false≢true t),
-      λ _. rw g.1 (at_last (walked_at Reached l.loop.done l.loop.rounded l.loop.at) g.5 c.if1.false),
+      λ _. rw g.1 (at_last (walked_at Reached l.loop-going.done l.loop-going.rounded l.loop-going.at) g.5 c.if-clock-last.false),
     )
 
 stopped-requires : tie.Need-stopped-requires invariant-loop decreases-loop
 stopped-requires c κs = search rules
 
-same_length : tie.Need-same-length invariant-loop decreases-loop
-same_length c = c.before.before.loop.invariant.1
+same_length : tie.Need-shape_of-table invariant-loop decreases-loop
+same_length c = c.loop-going.invariant.1
 
 returns : tie.Need-returns invariant-loop decreases-loop
 returns c =
     let l = c.before.before in
-    let a = l.before.before.before.args in
+    let a = l.args in
     let net = lent a.places a.transitions a.initial.now a.capacity.now a.rate.now a.delay.now a.arcs.now a.kind.now a.place.now a.weight.now in
     let r = c.stopped.ensures in
-    let e : walked_at l.loop.end l.loop.done l.loop.rounded l.loop.at ≡ c.stopped.result =
+    let e : walked_at l.loop-going.end l.loop-going.done l.loop-going.rounded l.loop-going.at ≡ c.stopped.result =
     λ i. record {
       end = sym r.0 i;
       steps = sym r.1 i;
@@ -243,13 +243,13 @@ returns c =
       timers = sym r.6 i;
       rng = sym r.7 i;
     } in (
-      walked_same (λ (w : Walked). state_of net l.loop.counts l.loop.ats l.loop.owners w.timers w.clock w.rng.s) e
-          (l.loop.invariant.4 c.before.loop-test.false),
-      (l.loop.invariant.0, l.loop.invariant.1, l.loop.invariant.2),
+      walked_same (λ (w : Walked). state_of net l.loop-going.counts l.loop-going.ats l.loop-going.owners w.timers w.clock w.rng.s) e
+          (l.loop-going.invariant.4 c.loop-going-test.false),
+      (l.loop-going.invariant.0, l.loop-going.invariant.1, l.loop-going.invariant.2),
     )
 
-pub take-steps-spec : {M : Type 1} → statement M
-take-steps-spec =
+pub take_steps_spec : {M : Type 1} → statement M
+take_steps_spec =
     tie.close
     (tie.spec
     invariant-loop

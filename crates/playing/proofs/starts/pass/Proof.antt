@@ -21,7 +21,7 @@ use Rattle.playing.proofs.Passing.{Ahead, next_small, next_inside, next_from, sk
 use Rattle.playing.proofs.starts.pass.Statement.{statement}
 use Rattle.playing.proofs.starts.pass.Tie as tie
 
-abbrev invariant-loop : tie.invariant-loop
+abbrev invariant-loop : tie.invariant-loop-ahead
 invariant-loop places transitions initial capacity rate delay arcs kind place weight limit guards timed counts₀ ats₀ owners₀ room t asked k₀ any₀ moved₀ crossed₀ tried₀ from₀ ahead₀ counts ats owners k any moved crossed tried from ahead =
     let net = lent places transitions initial capacity rate delay arcs kind place weight in
     (from ≤ transitions)
@@ -32,7 +32,7 @@ invariant-loop places transitions initial capacity rate delay arcs kind place we
     × Quiet (readable net) (marking places counts₀) (marking places counts) moved crossed
     × Ahead net timed (marking places counts) tried from ahead
 
-abbrev decreases-loop : tie.decreases-loop
+abbrev decreases-loop : tie.decreases-loop-ahead
 decreases-loop places transitions initial capacity rate delay arcs kind place weight limit guards timed counts₀ ats₀ owners₀ room t asked k₀ any₀ moved₀ crossed₀ tried₀ from₀ ahead₀ counts ats owners k any moved crossed tried from ahead =
     transitions - from
 
@@ -41,7 +41,7 @@ net_at s =
     lent s.args.places s.args.transitions s.args.initial.now s.args.capacity.now s.args.rate.now s.args.delay.now
     s.args.arcs.now s.args.kind.now s.args.place.now s.args.weight.now
 
-loop-holds : tie.Need-loop-init invariant-loop decreases-loop
+loop-holds : tie.Need-loop-ahead-init invariant-loop decreases-loop
 loop-holds c =
     let m = marking c.args.places c.args.counts.now in (
       omega arith,
@@ -57,78 +57,78 @@ loop-holds c =
       },
     )
 
-cast-j : tie.Need-overflow-cast-j invariant-loop decreases-loop
+cast-j : tie.Need-overflow_cast-j invariant-loop decreases-loop
 cast-j c = let i = c in
-    let l = i.before.loop in
+    let l = i.loop-ahead in
     let s = i.before.before in
-    omega (arith, next_small (net_at s) s.args.timed s.requires.3 (marking s.args.places l.counts) l.tried l.from l.ahead l.invariant.5 i.loop-test.true)
+    omega (arith, next_small (net_at s) s.args.timed s.requires.3 (marking s.args.places l.counts) l.tried l.from l.ahead l.invariant.5 i.loop-ahead-test.true)
 
-try-start-requires : tie.Need-try-start-requires invariant-loop decreases-loop
+try-start-requires : tie.Need-try_start-s-requires invariant-loop decreases-loop
 try-start-requires c κs =
     let i = c.before.before.before in
-    let l = i.before.loop in
+    let l = i.loop-ahead in
     let s = i.before.before in
-    (next_inside (net_at s) s.args.timed s.requires.3 (marking s.args.places l.counts) l.tried l.from l.ahead l.invariant.5 i.loop-test.true, l.invariant.2, l.invariant.3, s.requires.2)
+    (next_inside (net_at s) s.args.timed s.requires.3 (marking s.args.places l.counts) l.tried l.from l.ahead l.invariant.5 i.loop-ahead-test.true, l.invariant.2, l.invariant.3, s.requires.2)
 
-returns : tie.Need-returns invariant-loop decreases-loop
+returns : tie.Need-returns-then-s invariant-loop decreases-loop
 returns c =
     let u = c.before in
     let i = c.before.before.before.before.before in
-    let l = i.before.loop in
+    let l = i.loop-ahead in
     let s = i.before.before in
     let j = count_trailing_zeros 64 l.ahead in (
-      turn_full (so_skip l.invariant.1 (skips (net_at s) s.args.timed s.requires.3 (marking s.args.places l.counts) l.tried l.from l.ahead l.invariant.5 i.loop-test.true s.args.room s.args.t (timers_of l.ats l.owners l.k))) (pass_from s.args.room (net_at s) s.args.t (j + 1)) _ _ u.try-start.ensures.0
-          (from_next s.args.room (net_at s) s.args.t (marking s.args.places l.counts) (timers_of l.ats l.owners l.k) j (next_inside (net_at s) s.args.timed s.requires.3 (marking s.args.places l.counts) l.tried l.from l.ahead l.invariant.5 i.loop-test.true))
-          c.if1.true,
-      (u.try-start.ensures.1.0, λ f. absurd (true≢false (sym c.if1.true ∙ f))),
+      turn_full (so_skip l.invariant.1 (skips (net_at s) s.args.timed s.requires.3 (marking s.args.places l.counts) l.tried l.from l.ahead l.invariant.5 i.loop-ahead-test.true s.args.room s.args.t (timers_of l.ats l.owners l.k))) (pass_from s.args.room (net_at s) s.args.t (j + 1)) _ _ u.try_start-s.ensures.0
+          (from_next s.args.room (net_at s) s.args.t (marking s.args.places l.counts) (timers_of l.ats l.owners l.k) j (next_inside (net_at s) s.args.timed s.requires.3 (marking s.args.places l.counts) l.tried l.from l.ahead l.invariant.5 i.loop-ahead-test.true))
+          c.if-s.true,
+      (u.try_start-s.ensures.1.0, λ f. absurd (true≢false (sym c.if-s.true ∙ f))),
     )
 
-add-from : tie.Need-overflow-add-from invariant-loop decreases-loop
+add-from : tie.Need-overflow_add-from invariant-loop decreases-loop
 add-from c =
     let i = c.before.before.before.before.before.before.before.before.before.before in
-    let l = i.before.loop in
+    let l = i.loop-ahead in
     let s = i.before.before in
-    omega (arith, next_small (net_at s) s.args.timed s.requires.3 (marking s.args.places l.counts) l.tried l.from l.ahead l.invariant.5 i.loop-test.true)
+    omega (arith, next_small (net_at s) s.args.timed s.requires.3 (marking s.args.places l.counts) l.tried l.from l.ahead l.invariant.5 i.loop-ahead-test.true)
 
-from-bit-requires : tie.Need-from-bit-requires invariant-loop decreases-loop
+from-bit-requires : tie.Need-from_bit-ahead-requires invariant-loop decreases-loop
 from-bit-requires c κs =
     let i = c.before.before.before.before.before.before.before.before.before.before in
-    let l = i.before.loop in
+    let l = i.loop-ahead in
     let s = i.before.before in
-    omega (arith, next_small (net_at s) s.args.timed s.requires.3 (marking s.args.places l.counts) l.tried l.from l.ahead l.invariant.5 i.loop-test.true)
+    omega (arith, next_small (net_at s) s.args.timed s.requires.3 (marking s.args.places l.counts) l.tried l.from l.ahead l.invariant.5 i.loop-ahead-test.true)
 
-loop-less : tie.Need-loop-smaller invariant-loop decreases-loop
+loop-less : tie.Need-loop-ahead-smaller invariant-loop decreases-loop
 loop-less c =
     let i = c.before.before.before.before.before.before.before.before.before.before.before in
-    let l = i.before.loop in
+    let l = i.loop-ahead in
     let s = i.before.before in
-    omega (arith, next_from (net_at s) s.args.timed s.requires.3 (marking s.args.places l.counts) l.tried l.from l.ahead l.invariant.5 i.loop-test.true, next_inside (net_at s) s.args.timed s.requires.3 (marking s.args.places l.counts) l.tried l.from l.ahead l.invariant.5 i.loop-test.true)
+    omega (arith, next_from (net_at s) s.args.timed s.requires.3 (marking s.args.places l.counts) l.tried l.from l.ahead l.invariant.5 i.loop-ahead-test.true, next_inside (net_at s) s.args.timed s.requires.3 (marking s.args.places l.counts) l.tried l.from l.ahead l.invariant.5 i.loop-ahead-test.true)
 
-loop-again : tie.Need-loop-preserved invariant-loop decreases-loop
+loop-again : tie.Need-loop-ahead-preserved invariant-loop decreases-loop
 loop-again c =
     let u = c.before.before.before.before.before.before.before in
     let i = c.before.before.before.before.before.before.before.before.before.before.before in
-    let l = i.before.loop in
+    let l = i.loop-ahead in
     let s = i.before.before in
     let j = count_trailing_zeros 64 l.ahead in
-    let q = u.try-start.ensures.1.1 c.before.before.before.before.before.before.if1.false in (
-      omega (arith, next_inside (net_at s) s.args.timed s.requires.3 (marking s.args.places l.counts) l.tried l.from l.ahead l.invariant.5 i.loop-test.true),
-      turned (so_skip l.invariant.1 (skips (net_at s) s.args.timed s.requires.3 (marking s.args.places l.counts) l.tried l.from l.ahead l.invariant.5 i.loop-test.true s.args.room s.args.t (timers_of l.ats l.owners l.k))) (pass_from s.args.room (net_at s) s.args.t (j + 1)) u.try-start.ensures.0
-          (from_next s.args.room (net_at s) s.args.t (marking s.args.places l.counts) (timers_of l.ats l.owners l.k) j (next_inside (net_at s) s.args.timed s.requires.3 (marking s.args.places l.counts) l.tried l.from l.ahead l.invariant.5 i.loop-test.true))
-          c.before.before.before.before.before.before.if1.false,
-      u.try-start.ensures.1.0.0,
-      u.try-start.ensures.1.0.1,
-      quiet_more (readable (net_at s)) _ _ _ l.moved l.crossed u.try-start.result.moved u.try-start.result.crossed l.invariant.4 q,
-      goes_on (net_at s) s.args.timed s.requires.3 (marking s.args.places l.counts) l.tried l.from l.ahead l.invariant.5 u.try-start.result.crossed q _ _
-          c.from-bit.ensures.0 c.from-bit.ensures.1,
+    let q = u.try_start-s.ensures.1.1 c.if-s.false in (
+      omega (arith, next_inside (net_at s) s.args.timed s.requires.3 (marking s.args.places l.counts) l.tried l.from l.ahead l.invariant.5 i.loop-ahead-test.true),
+      turned (so_skip l.invariant.1 (skips (net_at s) s.args.timed s.requires.3 (marking s.args.places l.counts) l.tried l.from l.ahead l.invariant.5 i.loop-ahead-test.true s.args.room s.args.t (timers_of l.ats l.owners l.k))) (pass_from s.args.room (net_at s) s.args.t (j + 1)) u.try_start-s.ensures.0
+          (from_next s.args.room (net_at s) s.args.t (marking s.args.places l.counts) (timers_of l.ats l.owners l.k) j (next_inside (net_at s) s.args.timed s.requires.3 (marking s.args.places l.counts) l.tried l.from l.ahead l.invariant.5 i.loop-ahead-test.true))
+          c.if-s.false,
+      u.try_start-s.ensures.1.0.0,
+      u.try_start-s.ensures.1.0.1,
+      quiet_more (readable (net_at s)) _ _ _ l.moved l.crossed u.try_start-s.result.moved u.try_start-s.result.crossed l.invariant.4 q,
+      goes_on (net_at s) s.args.timed s.requires.3 (marking s.args.places l.counts) l.tried l.from l.ahead l.invariant.5 u.try_start-s.result.crossed q _ _
+          c.from_bit-ahead.ensures.0 c.from_bit-ahead.ensures.1,
     )
 
-returns-2 : tie.Need-returns-2 invariant-loop decreases-loop
+returns-2 : tie.Need-returns invariant-loop decreases-loop
 returns-2 c =
-    let l = c.before.loop in
+    let l = c.loop-ahead in
     let s = c.before.before in (
       so_ended l.invariant.1 [] _ _ l.k l.moved l.crossed
-          (ends (net_at s) s.args.timed s.requires.3 (marking s.args.places l.counts) l.tried l.from l.ahead l.invariant.5 c.loop-test.false s.args.room s.args.t (timers_of l.ats l.owners l.k))
+          (ends (net_at s) s.args.timed s.requires.3 (marking s.args.places l.counts) l.tried l.from l.ahead l.invariant.5 c.loop-ahead-test.false s.args.room s.args.t (timers_of l.ats l.owners l.k))
           refl,
       ((l.invariant.2, l.invariant.3), λ f. l.invariant.4),
     )

@@ -24,7 +24,7 @@ use Rattle.playing.proofs.Passing.{asked_only, asked_shut, joined_only, none_ask
 use Rattle.playing.proofs.starts.start_all.Statement.{statement}
 use Rattle.playing.proofs.starts.start_all.Tie as tie
 
-abbrev invariant-loop : tie.invariant-loop
+abbrev invariant-loop : tie.invariant-loop-i
 invariant-loop places transitions initial capacity rate delay arcs kind place weight limit guards timed counts₀ ats₀ owners₀ room t before asked₀ k₀ any₀ moved₀ crossed₀ i₀ counts ats owners asked k any moved crossed i =
     let net = lent places transitions initial capacity rate delay arcs kind place weight in
     (i ≤ suc room)
@@ -36,7 +36,7 @@ invariant-loop places transitions initial capacity rate delay arcs kind place we
     × ((j : ℕ) → bit asked j ≡ true → bit timed j ≡ true)
     × ShutBut asked (readable net) (marking places counts)
 
-abbrev decreases-loop : tie.decreases-loop
+abbrev decreases-loop : tie.decreases-loop-i
 decreases-loop places transitions initial capacity rate delay arcs kind place weight limit guards timed counts₀ ats₀ owners₀ room t before asked₀ k₀ any₀ moved₀ crossed₀ i₀ counts ats owners asked k any moved crossed i =
     suc room - i
 
@@ -48,14 +48,14 @@ net_at s =
 asked : (s : tie.Start invariant-loop decreases-loop) → ShutBut (bit_and s.args.before s.args.timed) (readable (net_at s)) (marking s.args.places s.args.counts.now)
 asked s = asked_shut (net_at s) s.args.timed s.requires.3 (marking s.args.places s.args.counts.now) s.args.before s.requires.4
 
-returns : tie.Need-returns invariant-loop decreases-loop
+returns : tie.Need-returns-then-asked-eq0 invariant-loop decreases-loop
 returns c =
     let s = c.before in (
-      done [] refl (none_asked (net_at s) (marking s.args.places s.args.counts.now) _ c.if1.true (asked s) s.args.room s.args.t (timers_of s.args.ats.now s.args.owners.now s.args.ring) s.args.room) refl,
+      done [] refl (none_asked (net_at s) (marking s.args.places s.args.counts.now) _ c.if-asked-eq0.true (asked s) s.args.room s.args.t (timers_of s.args.ats.now s.args.owners.now s.args.ring) s.args.room) refl,
       ((s.requires.0, s.requires.1), λ f. quiet_none (readable (net_at s)) (marking s.args.places s.args.counts.now)),
     )
 
-loop-holds : tie.Need-loop-init invariant-loop decreases-loop
+loop-holds : tie.Need-loop-i-init invariant-loop decreases-loop
 loop-holds c =
     let s = c.before in
     let all : suc s.args.room - 0 ≡ suc s.args.room = omega arith in (
@@ -70,79 +70,79 @@ loop-holds c =
       asked s,
     )
 
-pass-requires : tie.Need-pass-requires invariant-loop decreases-loop
+pass-requires : tie.Need-pass-s-requires invariant-loop decreases-loop
 pass-requires c κs =
     let b = c.before.before.before in
-    let l = b.before.loop in
+    let l = b.loop-i in
     let s = b.before.before.before in
     (l.invariant.2, l.invariant.3, s.requires.2, s.requires.3, l.invariant.5, l.invariant.6)
 
-returns-2 : tie.Need-returns-2 invariant-loop decreases-loop
+returns-2 : tie.Need-returns-then-s invariant-loop decreases-loop
 returns-2 c =
     let u = c.before in
     let b = c.before.before.before.before.before in
-    let l = b.before.loop in
+    let l = b.loop-i in
     let s = b.before.before.before in (
-      again_full l.invariant.1 (Rule.passes (suc s.args.room - (l.i + 1)) s.args.room (readable (net_at s)) s.args.t) _ _ u.pass.ensures.0
-          (passes_next s.args.room (readable (net_at s)) s.args.t (marking s.args.places l.counts) (timers_of l.ats l.owners l.k) (suc s.args.room) l.i (omega (arith, b.loop-test.true)))
-          c.if2.true,
-      (u.pass.ensures.1.0, λ f. absurd (true≢false (sym c.if2.true ∙ f))),
+      again_full l.invariant.1 (Rule.passes (suc s.args.room - (l.i + 1)) s.args.room (readable (net_at s)) s.args.t) _ _ u.pass-s.ensures.0
+          (passes_next s.args.room (readable (net_at s)) s.args.t (marking s.args.places l.counts) (timers_of l.ats l.owners l.k) (suc s.args.room) l.i (omega (arith, b.loop-i-test.true)))
+          c.if-s.true,
+      (u.pass-s.ensures.1.0, λ f. absurd (true≢false (sym c.if-s.true ∙ f))),
     )
 
-returns-3 : tie.Need-returns-3 invariant-loop decreases-loop
+returns-3 : tie.Need-returns-then-not-s invariant-loop decreases-loop
 returns-3 c =
     let u = c.before.before.before.before.before.before in
     let b = c.before.before.before.before.before.before.before.before.before.before in
-    let l = b.before.loop in
+    let l = b.loop-i in
     let s = b.before.before.before in
-    let n = c.before.before.before.before.before.if2.false in (
-      again_ended l.invariant.1 (Rule.passes (suc s.args.room - (l.i + 1)) s.args.room (readable (net_at s)) s.args.t) u.pass.result.timers _ _ u.pass.ensures.0
-          (passes_next s.args.room (readable (net_at s)) s.args.t (marking s.args.places l.counts) (timers_of l.ats l.owners l.k) (suc s.args.room) l.i (omega (arith, b.loop-test.true)))
-          n (not-true u.pass.result.any c.if3.true),
-      (u.pass.ensures.1.0, λ f. quiet_more (readable (net_at s)) _ _ _ l.moved l.crossed u.pass.result.moved u.pass.result.crossed l.invariant.4 (u.pass.ensures.1.1 n)),
+    let n = c.if-s.false in (
+      again_ended l.invariant.1 (Rule.passes (suc s.args.room - (l.i + 1)) s.args.room (readable (net_at s)) s.args.t) u.pass-s.result.timers _ _ u.pass-s.ensures.0
+          (passes_next s.args.room (readable (net_at s)) s.args.t (marking s.args.places l.counts) (timers_of l.ats l.owners l.k) (suc s.args.room) l.i (omega (arith, b.loop-i-test.true)))
+          n (not-true u.pass-s.result.any c.if-not-s.true),
+      (u.pass-s.ensures.1.0, λ f. quiet_more (readable (net_at s)) _ _ _ l.moved l.crossed u.pass-s.result.moved u.pass-s.result.crossed l.invariant.4 (u.pass-s.ensures.1.1 n)),
     )
 
-add-i : tie.Need-overflow-add-i invariant-loop decreases-loop
+add-i : tie.Need-overflow_add-i invariant-loop decreases-loop
 add-i c =
     let b = c.before.before.before.before.before.before.before.before.before.before.before in
-    omega (arith, b.loop-test.true)
+    omega (arith, b.loop-i-test.true)
 
-loop-less : tie.Need-loop-smaller invariant-loop decreases-loop
+loop-less : tie.Need-loop-i-smaller invariant-loop decreases-loop
 loop-less c =
     let b = c.before.before.before.before.before.before.before.before.before.before.before in
-    omega (arith, b.loop-test.true)
+    omega (arith, b.loop-i-test.true)
 
-loop-again : tie.Need-loop-preserved invariant-loop decreases-loop
+loop-again : tie.Need-loop-i-preserved invariant-loop decreases-loop
 loop-again c =
     let u = c.before.before.before.before.before.before.before in
     let b = c.before.before.before.before.before.before.before.before.before.before.before in
-    let l = b.before.loop in
+    let l = b.loop-i in
     let s = b.before.before.before in
-    let n = c.before.before.before.before.before.before.if2.false in
-    let q = u.pass.ensures.1.1 n in (
-      omega (arith, b.loop-test.true),
-      again_turned l.invariant.1 (Rule.passes (suc s.args.room - (l.i + 1)) s.args.room (readable (net_at s)) s.args.t) u.pass.ensures.0
-          (passes_next s.args.room (readable (net_at s)) s.args.t (marking s.args.places l.counts) (timers_of l.ats l.owners l.k) (suc s.args.room) l.i (omega (arith, b.loop-test.true)))
-          n (not-false u.pass.result.any c.before.if3.false),
-      u.pass.ensures.1.0.0,
-      u.pass.ensures.1.0.1,
-      quiet_more (readable (net_at s)) _ _ _ l.moved l.crossed u.pass.result.moved u.pass.result.crossed l.invariant.4 q,
-      joined_only s.args.timed u.pass.result.crossed l.asked l.invariant.5,
-      shut_joined (net_at s) u.pass.result.crossed s.args.timed l.asked s.requires.3 l.invariant.6 q,
+    let n = c.if-s.false in
+    let q = u.pass-s.ensures.1.1 n in (
+      omega (arith, b.loop-i-test.true),
+      again_turned l.invariant.1 (Rule.passes (suc s.args.room - (l.i + 1)) s.args.room (readable (net_at s)) s.args.t) u.pass-s.ensures.0
+          (passes_next s.args.room (readable (net_at s)) s.args.t (marking s.args.places l.counts) (timers_of l.ats l.owners l.k) (suc s.args.room) l.i (omega (arith, b.loop-i-test.true)))
+          n (not-false u.pass-s.result.any c.if-not-s.false),
+      u.pass-s.ensures.1.0.0,
+      u.pass-s.ensures.1.0.1,
+      quiet_more (readable (net_at s)) _ _ _ l.moved l.crossed u.pass-s.result.moved u.pass-s.result.crossed l.invariant.4 q,
+      joined_only s.args.timed u.pass-s.result.crossed l.asked l.invariant.5,
+      shut_joined (net_at s) u.pass-s.result.crossed s.args.timed l.asked s.requires.3 l.invariant.6 q,
     )
 
-returns-4 : tie.Need-returns-4 invariant-loop decreases-loop
+returns-4 : tie.Need-returns invariant-loop decreases-loop
 returns-4 c =
-    let l = c.before.loop in
+    let l = c.loop-i in
     let s = c.before.before.before in (
       so_ended l.invariant.1 [] _ _ l.k _ _
-          (passes_end s.args.room (readable (net_at s)) s.args.t (marking s.args.places l.counts) (timers_of l.ats l.owners l.k) (suc s.args.room) l.i (omega (arith, c.loop-test.false)))
+          (passes_end s.args.room (readable (net_at s)) s.args.t (marking s.args.places l.counts) (timers_of l.ats l.owners l.k) (suc s.args.room) l.i (omega (arith, c.loop-i-test.false)))
           refl,
       ((l.invariant.2, l.invariant.3), λ f. l.invariant.4),
     )
 
-pub start-all-spec : {M : Type 1} → statement M
-start-all-spec =
+pub start_all_spec : {M : Type 1} → statement M
+start_all_spec =
     tie.close
     (tie.spec
     invariant-loop

@@ -36,82 +36,82 @@ counts_at s = marking s.args.places s.args.counts.now
 abbrev timers_at : tie.Start → List Timer
 timers_at s = timers_of s.args.ats.now s.args.owners.now s.args.ring
 
-mul-d : tie.Need-overflow-mul-d
+mul-d : tie.Need-offset_bounds-delay-j
 mul-d c = search rules
 
-element-copy-out-d : tie.Need-element-copy-out-d
+element-copy-out-d : tie.Need-bounds-delay-j
 element-copy-out-d c = omega (arith, c.requires.1.tidy.transitions)
 
 enabled-requires : tie.Need-enabled-requires
 enabled-requires c κs =
-    let s = c.before.before.before in
+    let s = c.before.before in
     (s.requires.0, s.requires.1.tidy, s.requires.1.limits, s.requires.1.small)
 
-take-requires : tie.Need-take-requires
+take-requires : tie.Need-take-took-requires
 take-requires c κs =
-    let s = c.before.before.before.before.before.before in
+    let s = c.before.before.before.before.before in
     (omega (arith, s.requires.0, s.requires.1.tidy.transitions), s.requires.1.tidy.places, s.requires.1.tidy.arcs, s.requires.1.tidy.place, s.requires.1.tidy.weight, s.requires.1.small)
 
-insert-requires : tie.Need-insert-requires
+insert-requires : tie.Need-insert-put-requires
 insert-requires c κs = search rules
 
-returns : tie.Need-returns
+returns : tie.Need-returns-then-enabled
 returns c =
-    let i = c.before.before.insert.ensures in
+    let i = c.insert-put.ensures in
     let k = c.before.before.before.before.before in
     let f = k.before.before in
     let e = f.before in
-    let s = e.before.before.before.before in
-    let on = sym e.enabled.ensures ∙ f.if2.true in
+    let s = e.before.before.before in
+    let on = sym e.enabled.ensures ∙ f.if-enabled.true in
     let q = timers_at s in
     let x : Timer = timer_of s.args.t s.args.j (transition (net_at s) s.args.j) in
-    let took : k.take.result.less ≡ x.taken =
-    start_takes (net_at s) s.requires.1.tidy s.args.j s.requires.0 (counts_at s) _ k.take.result.less on k.take.ensures.0 k.take.ensures.3 in
-    let same : ◌≡◌ {A = Timer} (record { at = x.at; who = s.args.j; taken = k.take.result.less }) x =
+    let took : k.take-took.result.less ≡ x.taken =
+    start_takes (net_at s) s.requires.1.tidy s.args.j s.requires.0 (counts_at s) _ k.take-took.result.less on k.take-took.ensures.0 k.take-took.ensures.3 in
+    let same : ◌≡◌ {A = Timer} (record { at = x.at; who = s.args.j; taken = k.take-took.result.less }) x =
     ap (λ (y : ℕ). record { at = x.at; who = s.args.j; taken = y }) took in
     let list = i.list s.requires.1.sound ∙ ap (λ (y : Timer). pick (has_room s.args.room q) (insert y q) q) same in
     let free : has_room s.args.room q ≡ ltb (length q) s.args.room = room_for s.requires.2.most q in (
       try_on s.args.room (readable (net_at s)) s.args.t s.args.j (transition (net_at s) s.args.j) (counts_at s) q _ _ _ _ _ _
-          e.before.before.if1.true on (i.says ∙ free) k.take.ensures.0
+          e.if-d.true on (i.says ∙ free) k.take-took.ensures.0
           (λ z. list ∙ ap (λ (b : Bool). pick b (insert x q) q) (sym i.says ∙ z)),
       (
         (
           record {
             tidy = s.requires.1.tidy;
             limits = s.requires.1.limits;
-            small = k.take.ensures.1;
+            small = k.take-took.ensures.1;
             light = subst Light (sym (i.list s.requires.1.sound))
-                (light_pick (has_room s.args.room q) _ q (light_insert _ q k.take.ensures.2 s.requires.1.light) s.requires.1.light);
+                (light_pick (has_room s.args.room q) _ q (light_insert _ q k.take-took.ensures.2 s.requires.1.light) s.requires.1.light);
             sound = i.stays s.requires.1.sound;
           },
-          one_more_fits x s.args.ats.now c.before.before.insert.new.0 s.args.owners.now c.before.before.insert.new.1.0 s.requires.2 list,
+          one_more_fits x s.args.ats.now c.insert-put.new.0 s.args.owners.now c.insert-put.new.1.0 s.requires.2 list,
         ),
-        λ f. (k.take.ensures.4 s.args.transitions s.args.initial.now s.args.capacity.now s.args.rate.now s.args.delay.now s.requires.1.tidy s.requires.3).0,
+        λ f. (k.take-took.ensures.4 s.args.transitions s.args.initial.now s.args.capacity.now s.args.rate.now s.args.delay.now s.requires.1.tidy s.requires.3).0,
       ),
     )
 
-returns-2 : tie.Need-returns-2
+returns-2 : tie.Need-returns-else-enabled
 returns-2 c =
     let e = c.before in
-    let s = e.before.before.before.before in (
+    let s = e.before.before.before in (
       done [] refl
           (try_disabled s.args.room (readable (net_at s)) s.args.t s.args.j (transition (net_at s) s.args.j) (counts_at s) (timers_at s)
-          (sym e.enabled.ensures ∙ c.if2.false))
+          (sym e.enabled.ensures ∙ c.if-enabled.false))
           refl,
       ((s.requires.1, s.requires.2), λ f. quiet_none (readable (net_at s)) (counts_at s)),
     )
 
-returns-3 : tie.Need-returns-3
+returns-3 : tie.Need-returns-else-d
 returns-3 c =
     let s = c.before.before in (
       done [] refl
-          (try_untimed s.args.room (readable (net_at s)) s.args.t s.args.j (transition (net_at s) s.args.j) (counts_at s) (timers_at s) c.if1.false)
+          (try_untimed s.args.room (readable (net_at s)) s.args.t s.args.j (transition (net_at s) s.args.j) (counts_at s) (timers_at s) c.if-d.false)
           refl,
       ((s.requires.1, s.requires.2), λ f. quiet_none (readable (net_at s)) (counts_at s)),
     )
 
-pub try-start-spec : {M : Type 1} → statement M
-try-start-spec =
+pub try_start_spec : {M : Type 1} → statement M
+try_start_spec =
     tie.close
     (tie.spec
     mul-d

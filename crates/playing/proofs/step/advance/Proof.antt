@@ -35,30 +35,30 @@ from s = state_of (net s) s.args.counts.now s.args.ats.now s.args.owners.now s.a
 few : (s : tie.Start) → length (from s).timers ≤ s.args.room
 few s = rw length_timers s.requires.1.few
 
-start-all-requires : tie.Need-start-all-requires
+start-all-requires : tie.Need-start_all-s-requires
 start-all-requires c κs =
     let s = c.before.before.before in
     let p = s.requires in
     let k = p.3.kept in
     (p.0, p.1, p.2.index, p.2.waits, shut_open _ _ _ _ _ _ k)
 
-returns : tie.Need-returns
+returns : tie.Need-returns-then-s
 returns c =
     let b = c.before.before in
     let s = b.before.before.before.before in (
-      advance_full s.args.room (net s) (from s) b.start-all.new.1.1.1.1.1.1.1.1.1.1.1.1.1.0 b.start-all.new.1.1.1.1.1.1.1.1.1.1.1.1.1.1.0
-          b.start-all.new.1.1.1.1.1.1.1.1.1.1.1.1.1.1.1.0 b.start-all.result b.start-all.ensures.0 c.if1.true _ _ _ _ _,
-      (b.start-all.ensures.1.0.0, b.start-all.ensures.1.0.1, λ e. absurd (let z : ◌≡◌ {A = ℕ} 0 1 = cc in omega arith)),
+      advance_full s.args.room (net s) (from s) b.start_all-s.new.1.1.1.1.1.1.1.1.1.1.1.1.1.0 b.start_all-s.new.1.1.1.1.1.1.1.1.1.1.1.1.1.1.0
+          b.start_all-s.new.1.1.1.1.1.1.1.1.1.1.1.1.1.1.1.0 b.start_all-s.result b.start_all-s.ensures.0 c.if-s.true _ _ _ _ _,
+      (b.start_all-s.ensures.1.0.0, b.start_all-s.ensures.1.0.1, λ e. absurd (let z : ◌≡◌ {A = ℕ} 0 1 = cc in omega arith)),
     )
 
-refresh-requires : tie.Need-refresh-requires
+refresh-requires : tie.Need-refresh-fresh-requires
 refresh-requires c κs =
     let b = c.before.before.before.before.before.before.before.before in
-    let s = b.before.before.before.before in
+    let s = b.before.before.before in
     let r = b.start-all.ensures.1.0.0 in
     let t = s.requires.2 in
     let k = s.requires.3 in
-    let on = c.before.before.before.before.before.before.if1.false in
+    let on = c.if-s.false in
     let q = b.start-all.ensures.1.1 on in (
       r.tidy,
       r.limits,
@@ -75,82 +75,82 @@ refresh-requires c κs =
       k.long_sums,
     )
 
-waiting-requires : tie.Need-waiting-requires
-waiting-requires c κs = c.before.before.before.before.before.before.before.before.before.before.before.before.before.before.requires.4
+waiting-requires : tie.Need-waiting-w-requires
+waiting-requires c κs = c.before.requires.4
 
-first-requires : tie.Need-first-requires
+first-requires : tie.Need-first-x-requires
 first-requires c κs = search rules
 
 count-requires : tie.Need-count-requires
 count-requires c κs = search rules
 
-next-event-requires : tie.Need-next-event-requires
+next-event-requires : tie.Need-next_event-what-requires
 next-event-requires c κs = search rules
 
-enum_told : tie.Need-enum-told
+enum_told : tie.Need-enum_told-1
 enum_told c = search rules
 
-enum-known-what : tie.Need-enum-known-what
+enum-known-what : tie.Need-enum_known-what
 enum-known-what c = search rules
 
-enum-known-what-2 : tie.Need-enum-known-what-2
+enum-known-what-2 : tie.Need-enum_known-what-in-Completion-1
 enum-known-what-2 c = search rules
 
-abbrev begun : tie.After-next-event → tie.After-start-all
+abbrev begun : tie.After-next_event-what → tie.After-start_all-s
 begun c = c.before.before.before.before.before.before.before.before.before.before.before.before.before.before.before.before.before
 
-abbrev start : tie.After-next-event → tie.Start
+abbrev start : tie.After-next_event-what → tie.Start
 start c = (begun c).before.before.before.before
 
-abbrev worked : tie.After-next-event → tie.After-refresh
+abbrev worked : tie.After-next_event-what → tie.After-refresh-fresh
 worked c = c.before.before.before.before.before.before.before.before
 
-carried : (c : tie.After-next-event) → Carried (net (start c)) (marking (start c).args.places (begun c).start-all.new.1.1.1.1.1.1.1.1.1.1.1.1.1.0)
+carried : (c : tie.After-next_event-what) → Carried (net (start c)) (marking (start c).args.places (begun c).start-all.new.1.1.1.1.1.1.1.1.1.1.1.1.1.0)
     (record { moved = 0; crossed = 0; able = (worked c).refresh.result.able; marks = (worked c).refresh.result.marks; a0 = (worked c).refresh.result.a0 })
     (worked c).refresh.new.1.1.1.1.1.1.1.1.1.1.1.1.1.1.1.1.1.1.1.1.1.0 (worked c).refresh.new.1.1.1.1.1.1.1.1.1.1.1.1.1.1.1.1.1.1.1.1.1.1.0
 carried c =
     let e = (worked c).refresh.ensures in
     record { kept = e.1; marked = e.2; summed = e.3; long_props = e.5; long_sums = e.6 }
 
-totalled : (c : tie.After-next-event) → Totalled (net (start c)) (begun c).start-all.new.1.1.1.1.1.1.1.1.1.1.1.1.1.0 (worked c).refresh.new.1.1.1.1.1.1.1.1.1.1.1.1.1.1.1.1.1.1.1.1.1.0 (worked c).refresh.result.a0
+totalled : (c : tie.After-next_event-what) → Totalled (net (start c)) (begun c).start-all.new.1.1.1.1.1.1.1.1.1.1.1.1.1.0 (worked c).refresh.new.1.1.1.1.1.1.1.1.1.1.1.1.1.1.1.1.1.1.1.1.1.0 (worked c).refresh.result.a0
 totalled c =
     let e = (worked c).refresh.ensures in
     record { each = e.0; all = e.3.all ∙ ap total e.0; long = e.5 }
 
-goes_on : (c : tie.After-next-event)
+goes_on : (c : tie.After-next_event-what)
     → Going (start c).args.room (net (start c)) (from (start c)) (begun c).start-all.new.1.1.1.1.1.1.1.1.1.1.1.1.1.0 (begun c).start-all.new.1.1.1.1.1.1.1.1.1.1.1.1.1.1.0
     (begun c).start-all.new.1.1.1.1.1.1.1.1.1.1.1.1.1.1.1.0 (begun c).start-all.result.timers
     (worked c).refresh.new.1.1.1.1.1.1.1.1.1.1.1.1.1.1.1.1.1.1.1.1.1.0 (worked c).refresh.result.a0
     (not (eqb (worked c).refresh.result.marks 0))
-    c.before.before.before.before.before.before.waiting.result.rng.s (next_of c.next-event.result)
+    c.waiting-w.result.rng.s (next_of c.next_event-what.result)
 goes_on c =
     let b = begun c in
     let s = start c in
     let w = c.before.before.before.before.before.before in
     going s.args.room (net s) (from s) b.start-all.last.1.1.1.1.1.1.1.1.1.1.1.1.1.0 b.start-all.last.1.1.1.1.1.1.1.1.1.1.1.1.1.1.0
     b.start-all.last.1.1.1.1.1.1.1.1.1.1.1.1.1.1.1.0 b.start-all.result b.start-all.ensures.0
-    c.before.before.before.before.before.before.before.before.before.before.before.before.before.before.before.if1.false (few s) (worked c).refresh.new.1.1.1.1.1.1.1.1.1.1.1.1.1.1.1.1.1.1.1.1.1.0 (worked c).refresh.result.a0
+    c.if-s.false (few s) (worked c).refresh.new.1.1.1.1.1.1.1.1.1.1.1.1.1.1.1.1.1.1.1.1.1.0 (worked c).refresh.result.a0
     _ (totalled c) (worked c).refresh.ensures.4
-    w.waiting.result.dt w.waiting.result.rng.s w.waiting.ensures.0 w.waiting.ensures.1 (next_of c.next-event.result) (c.next-event.ensures _ (told b.start-all.last.1.1.1.1.1.1.1.1.1.1.1.1.1.1.0 b.start-all.last.1.1.1.1.1.1.1.1.1.1.1.1.1.1.1.0 b.start-all.result.timers
-    c.before.count.result c.before.before.first.result c.before.count.ensures c.before.before.first.ensures))
+    w.waiting.result.dt w.waiting.result.rng.s w.waiting.ensures.0 w.waiting.ensures.1 (next_of c.next_event-what.result) (c.next_event-what.ensures _ (told b.start-all.last.1.1.1.1.1.1.1.1.1.1.1.1.1.1.0 b.start-all.last.1.1.1.1.1.1.1.1.1.1.1.1.1.1.1.0 b.start-all.result.timers
+    c.count.result c.first-x.result c.count.ensures c.first-x.ensures))
 
-returns-2 : tie.Need-returns-2
+returns-2 : tie.Need-returns-in-Nothing
 returns-2 c =
-    let e = c.before.before in
-    (advance_nothing (goes_on e) (ap next_of c.enum_told.given.1), ((begun e).start-all.ensures.1.0.0, (begun e).start-all.ensures.1.0.1, λ z. (carried e, refl, refl)))
+    let e = c.before in
+    (advance_nothing (goes_on e) (ap next_of c.in-Nothing.is), ((begun e).start-all.ensures.1.0.0, (begun e).start-all.ensures.1.0.1, λ z. (carried e, refl, refl)))
 
-returns-3 : tie.Need-returns-3
+returns-3 : tie.Need-returns-in-Race
 returns-3 c =
-    let e = c.before.before.before in
-    (advance_race (goes_on e) c.before.what.given.0.0 (ap next_of c.before.what.given.1), ((begun e).start-all.ensures.1.0.0, (begun e).start-all.ensures.1.0.1, λ z. (carried e, refl, refl)))
+    let e = c.before in
+    (advance_race (goes_on e) c.in-Race.wait (ap next_of c.in-Race.is), ((begun e).start-all.ensures.1.0.0, (begun e).start-all.ensures.1.0.1, λ z. (carried e, refl, refl)))
 
-returns-4 : tie.Need-returns-4
+returns-4 : tie.Need-returns-in-Completion
 returns-4 c =
-    let e = c.before.before.before in
-    (advance_completion (goes_on e) c.before.what2.given.0.0 (ap next_of c.before.what2.given.1), ((begun e).start-all.ensures.1.0.0, (begun e).start-all.ensures.1.0.1, λ z. (carried e, refl, refl)))
+    let e = c.before in
+    (advance_completion (goes_on e) c.in-Completion.at (ap next_of c.in-Completion.is), ((begun e).start-all.ensures.1.0.0, (begun e).start-all.ensures.1.0.1, λ z. (carried e, refl, refl)))
 
-pub advance-spec : {M : Type 1} → statement M
-advance-spec =
+pub advance_spec : {M : Type 1} → statement M
+advance_spec =
     tie.close
     (tie.spec
     start-all-requires

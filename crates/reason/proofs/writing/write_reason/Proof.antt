@@ -25,62 +25,62 @@ empty_length : length empty ≡ 2080
 unfolding empty
 empty_length = length-replicate {A = ℕ} 2080 0
 
-abbrev said : tie.After-then-all → Reasons
+abbrev said : tie.After-then_all → Reasons
 said c =
-    let a = c.before.before.before.args in
+    let a = c.args in
     reasons (label_at a.label.now a.lengths.now) (gates_of a.g)
 
-abbrev text : tie.After-then-all → Bytes
+abbrev text : tie.After-then_all → Bytes
 text c = reason_text (said c)
 
-fits : (c : tie.After-then-all) → length (text c) ≤ length empty
+fits : (c : tie.After-then_all) → length (text c) ≤ length empty
 fits c =
-    let a = c.before.before.before.args in
+    let a = c.args in
     let few = labels_short a.label.now a.lengths.now a.g.bounded in
     let bound : length (text c) ≤ 2080 = text_bound (said c) (omega arith) (omega arith) (omega arith) few.0 few.1 in
     omega (arith, empty_length)
 
-held : (c : tie.After-then-all) → (c.then-all.new.0, c.then-all.result) ≡ written empty 0 (text c)
+held : (c : tie.After-then_all) → (c.then_all.new.0, c.then_all.result) ≡ written empty 0 (text c)
 unfolding empty
-held c = c.then-all.ensures ∙ all_told empty (said c) (fits c)
+held c = c.then_all.ensures ∙ all_told empty (said c) (fits c)
 
-slice-aggregate-then-all : tie.Need-slice-aggregate-then-all
+slice-aggregate-then-all : tie.Need-slice_bounds-then_all-end
 slice-aggregate-then-all c = search rules
 
-then-all-requires : tie.Need-then-all-requires
+then-all-requires : tie.Need-then_all-requires
 then-all-requires c κs = search rules
 
-enum-known-n : tie.Need-enum-known-n
+enum-known-n : tie.Need-enum_known-n
 enum-known-n c = search rules
 
-slice-aggregate-deliver : tie.Need-slice-aggregate-deliver
+slice-aggregate-deliver : tie.Need-slice_bounds-deliver-end
 slice-aggregate-deliver c = search rules
 
 deliver-requires : tie.Need-deliver-requires
 deliver-requires c κs =
-    let t = c.before.before.before.before.before.before in
-    inside empty (text t) t.then-all.new.0 t.then-all.result (fits t) (held t) c.before.before.before.n.given.0.0 c.before.before.before.n.given.1
+    let t = c.before.before.before.before in
+    inside empty (text t) t.then_all.new.0 t.then_all.result (fits t) (held t) c.in-Next.n c.in-Next.is
 
-enum_told : tie.Need-enum-told
+enum_told : tie.Need-enum_told-1
 enum_told c = search rules
 
-same_length : tie.Need-same-length
+same_length : tie.Need-shape_of-out
 same_length c = search rules
 
-returns : tie.Need-returns
+returns : tie.Need-returns-in-Next
 returns c =
-    let t = c.before.before.before.before.before.before.before.before.before in
-    c.before.before.deliver.ensures
-    ∙ ap (answered c.before.before.before.before.before.before.before.before.before.before.before.before.args.out.now)
-    (text_held empty (text t) t.then-all.new.0 t.then-all.result (fits t) (held t) c.before.before.before.before.before.before.n.given.0.0 c.before.before.before.before.before.before.n.given.1)
+    let t = c.before.before.before.before.before.before.before in
+    c.deliver.ensures
+    ∙ ap (answered c.args.out.now)
+    (text_held empty (text t) t.then_all.new.0 t.then_all.result (fits t) (held t) c.in-Next.n c.in-Next.is)
 
-returns-2 : tie.Need-returns-2
+returns-2 : tie.Need-returns-in-Short
 returns-2 c =
-    let t = c.before.before.before in
-    absurd (not_short empty (text t) t.then-all.new.0 t.then-all.result (fits t) (held t) c.enum_told.given.1)
+    let t = c.before.before in
+    absurd (not_short empty (text t) t.then_all.new.0 t.then_all.result (fits t) (held t) c.in-Short.is)
 
-pub write-reason-spec : {M : Type 1} → statement M
-write-reason-spec =
+pub write_reason_spec : {M : Type 1} → statement M
+write_reason_spec =
     tie.close
     (tie.spec
     slice-aggregate-then-all

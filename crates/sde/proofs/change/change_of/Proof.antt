@@ -17,35 +17,35 @@ net_at s =
 inside : (s : tie.Start) → s.args.c / 32 < s.args.transitions
 inside s = omega (arith, s.requires.0)
 
-mul-from : tie.Need-overflow-mul-from
+mul-from : tie.Need-overflow_mul-from
 mul-from c = search rules
 
-mul-end : tie.Need-overflow-mul-end
+mul-end : tie.Need-offset_bounds-arcs-j
 mul-end c = search rules
 
-element-copy-out-end : tie.Need-element-copy-out-end
+element-copy-out-end : tie.Need-bounds-arcs-j
 element-copy-out-end c = search rules
 
-add-end : tie.Need-overflow-add-end
-add-end c = omega (arith, c.before.requires.1.arcs (c.before.args.c / 32) (inside c.before), c.before.requires.1.transitions, inside c.before)
+add-end : tie.Need-overflow_add-end
+add-end c = omega (arith, c.requires.1.arcs (c.args.c / 32) (inside c.before.before), c.requires.1.transitions, inside c.before.before)
 
-less-takes-requires : tie.Need-less-takes-requires
+less-takes-requires : tie.Need-less_takes-d-requires
 less-takes-requires c κs =
     let s = c.before in
-    (omega (arith, s.requires.1.arcs (s.args.c / 32) (inside s), s.requires.1.transitions, inside s), light (net_at s) s.requires.1 (s.args.c / 32) (inside s))
+    (omega (arith, s.requires.1.arcs (s.args.c / 32) (inside s.before), s.requires.1.transitions, inside s.before), light (net_at s.before) s.requires.1 (s.args.c / 32) (inside s.before))
 
-plus-puts-requires : tie.Need-plus-puts-requires
+plus-puts-requires : tie.Need-plus_puts-requires
 plus-puts-requires c κs =
     let s = c.before.before in
-    (omega (arith, s.requires.1.arcs (s.args.c / 32) (inside s), s.requires.1.transitions, inside s), light (net_at s) s.requires.1 (s.args.c / 32) (inside s))
+    (omega (arith, s.requires.1.arcs (s.args.c / 32) (inside s.before), s.requires.1.transitions, inside s.before), light (net_at s.before) s.requires.1 (s.args.c / 32) (inside s.before))
 
 returns : tie.Need-returns
 returns c =
     let s = c.before.before.before in
-    change_made (net_at s) (s.args.c / 32) (s.args.c % 32) c.before.less-takes.ensures c.plus-puts.ensures
+    change_made (net_at s.before) (s.args.c / 32) (s.args.c % 32) c.less_takes-d.ensures c.plus_puts.ensures
 
-pub change-of-spec : {M : Type 1} → statement M
-change-of-spec =
+pub change_of_spec : {M : Type 1} → statement M
+change_of_spec =
     tie.close
     (tie.spec
     mul-from

@@ -15,19 +15,19 @@ net_at s =
     lent s.args.places s.args.transitions s.args.initial.now s.args.capacity.now s.args.rate.now s.args.delay.now
     s.args.arcs.now s.args.kind.now s.args.place.now s.args.weight.now
 
-mul-product : tie.Need-overflow-mul-product
+mul-product : tie.Need-overflow_mul-j
 mul-product c = search rules
 
-mul-product-2 : tie.Need-overflow-mul-product-2
+mul-product-2 : tie.Need-offset_bounds-ends-j
 mul-product-2 c = search rules
 
-element-copy-out-product : tie.Need-element-copy-out-product
+element-copy-out-product : tie.Need-bounds-ends-j
 element-copy-out-product c = search rules
 
-mul-product-3 : tie.Need-overflow-mul-product-3
+mul-product-3 : tie.Need-offset_bounds-rate-j
 mul-product-3 c = search rules
 
-element-copy-out-product-2 : tie.Need-element-copy-out-product-2
+element-copy-out-product-2 : tie.Need-bounds-rate-j
 element-copy-out-product-2 c = search rules
 
 product-requires : tie.Need-product-requires
@@ -37,18 +37,18 @@ product-requires c κs =
     let end = s.requires.3 j s.requires.0 in (
       omega (arith, end.high, s.requires.1.arcs j s.requires.0, s.requires.1.transitions, s.requires.0),
       s.requires.1.places,
-      (λ a l h. light (net_at s) s.requires.1 j s.requires.0 a l (omega (arith, end.high))),
-      (λ a l h. inside (net_at s) s.requires.1 j s.requires.0 a l (omega (arith, end.high))),
+      (λ a l h. light (net_at s.before) s.requires.1 j s.requires.0 a l (omega (arith, end.high))),
+      (λ a l h. inside (net_at s.before) s.requires.1 j s.requires.0 a l (omega (arith, end.high))),
     )
 
 returns : tie.Need-returns
 returns c =
     let s = c.before.before.before in
     let j = s.args.j in
-    propensity_within (net_at s) (take s.args.places s.args.x.now) j (get_or s.args.ends.now j 0) (s.requires.3 j s.requires.0) (s.requires.2 j s.requires.0) c.product.ensures
+    propensity_within (net_at s.before) (take s.args.places s.args.x.now) j (get_or s.args.ends.now j 0) (s.requires.3 j s.requires.0) (s.requires.2 j s.requires.0) c.product.ensures
 
-pub propensity-spec : {M : Type 1} → statement M
-propensity-spec =
+pub propensity_spec : {M : Type 1} → statement M
+propensity_spec =
     tie.close
     (tie.spec
     mul-product

@@ -12,14 +12,14 @@ use Prim.Native.Nat.{◌-◌, ◌≤◌}
 use Rattle.sde.proofs.substep.over_interval.Statement.{statement}
 use Rattle.sde.proofs.substep.over_interval.Tie as tie
 
-abbrev invariant-loop : tie.invariant-loop
+abbrev invariant-loop : tie.invariant-loop-i
 invariant-loop places transitions initial capacity rate delay arcs kind place weight changes skips ends dt root x₀ drift₀ s₀ i₀ x drift s i =
     let net = lent places transitions initial capacity rate delay arcs kind place weight in
     (i ≤ 20)
     × (repeated (20 - i) (substep (readable net) dt) (state_of places x s) ≡ over_interval (readable net) dt (state_of places x₀ s₀))
     × Lengths x drift
 
-abbrev decreases-loop : tie.decreases-loop
+abbrev decreases-loop : tie.decreases-loop-i
 decreases-loop places transitions initial capacity rate delay arcs kind place weight changes skips ends dt root x₀ drift₀ s₀ i₀ x drift s i = 20 - i
 
 abbrev net_at : tie.Start invariant-loop decreases-loop → NetRecord
@@ -27,50 +27,50 @@ net_at s =
     lent s.args.places s.args.transitions s.args.initial.now s.args.capacity.now s.args.rate.now s.args.delay.now
     s.args.arcs.now s.args.kind.now s.args.place.now s.args.weight.now
 
-loop-holds : tie.Need-loop-init invariant-loop decreases-loop
-loop-holds c = let s = c.before in (omega arith, interval_some (readable (net_at s)) s.args.dt _ c.if1.true, s.requires.3)
+loop-holds : tie.Need-loop-i-init invariant-loop decreases-loop
+loop-holds c = let s = c.before in (omega arith, interval_some (readable (net_at s)) s.args.dt _ c.if-dt.true, s.requires.3)
 
-add-next : tie.Need-overflow-add-next invariant-loop decreases-loop
+add-next : tie.Need-overflow_add-next invariant-loop decreases-loop
 add-next c = search rules
 
-substep-requires : tie.Need-substep-requires invariant-loop decreases-loop
-substep-requires c κs = let s = c.before.before.before.before.before in (s.requires.0, s.requires.1, s.requires.2, c.before.before.before.loop.invariant.2)
+substep-requires : tie.Need-substep-p-requires invariant-loop decreases-loop
+substep-requires c κs = let s = c.before.before.before.before.before in (s.requires.0, s.requires.1, s.requires.2, c.loop-i.invariant.2)
 
-returns : tie.Need-returns invariant-loop decreases-loop
+returns : tie.Need-returns-then-p invariant-loop decreases-loop
 returns c =
     let l = c.before.before.before.before.before in
     let s = c.before.before.before.before.before.before.before in (
-      repeated_stop (substep (readable (net_at s)) s.args.dt) 20 l.loop.i (state_of s.args.places l.loop.x l.loop.s) _ c.before.substep.result.stopped
-          l.loop.invariant.1 c.before.before.before.before.loop-test.true c.before.substep.ensures.0 c.if2.true,
-      c.before.substep.ensures.1,
+      repeated_stop (substep (readable (net_at s)) s.args.dt) 20 l.loop-i.i (state_of s.args.places l.loop-i.x l.loop-i.s) _ c.substep-p.result.stopped
+          l.loop-i.invariant.1 c.loop-i-test.true c.substep-p.ensures.0 c.if-p.true,
+      c.substep-p.ensures.1,
     )
 
-loop-less : tie.Need-loop-smaller invariant-loop decreases-loop
-loop-less c = omega (arith, c.before.before.before.before.before.loop-test.true)
+loop-less : tie.Need-loop-i-smaller invariant-loop decreases-loop
+loop-less c = omega (arith, c.loop-i-test.true)
 
-loop-again : tie.Need-loop-preserved invariant-loop decreases-loop
+loop-again : tie.Need-loop-i-preserved invariant-loop decreases-loop
 loop-again c =
     let l = c.before.before.before.before.before.before in
     let s = c.before.before.before.before.before.before.before.before in (
-      omega (arith, c.before.before.before.before.before.loop-test.true),
-      repeated_go (substep (readable (net_at s)) s.args.dt) 20 l.loop.i (state_of s.args.places l.loop.x l.loop.s) _ c.before.before.substep.result.stopped
-          l.loop.invariant.1 c.before.before.before.before.before.loop-test.true c.before.before.substep.ensures.0 c.before.if2.false,
-      c.before.before.substep.ensures.1,
+      omega (arith, c.loop-i-test.true),
+      repeated_go (substep (readable (net_at s)) s.args.dt) 20 l.loop-i.i (state_of s.args.places l.loop-i.x l.loop-i.s) _ c.substep-p.result.stopped
+          l.loop-i.invariant.1 c.loop-i-test.true c.substep-p.ensures.0 c.if-p.false,
+      c.substep-p.ensures.1,
     )
 
-returns-2 : tie.Need-returns-2 invariant-loop decreases-loop
+returns-2 : tie.Need-returns-then-dt invariant-loop decreases-loop
 returns-2 c =
     let l = c.before in
     let s = c.before.before.before in (
-      repeated_end (substep (readable (net_at s)) s.args.dt) 20 l.loop.i (state_of s.args.places l.loop.x l.loop.s) c.loop-test.false ∙ l.loop.invariant.1,
-      l.loop.invariant.2,
+      repeated_end (substep (readable (net_at s)) s.args.dt) 20 l.loop-i.i (state_of s.args.places l.loop-i.x l.loop-i.s) c.loop-i-test.false ∙ l.loop-i.invariant.1,
+      l.loop-i.invariant.2,
     )
 
-returns-3 : tie.Need-returns-3 invariant-loop decreases-loop
-returns-3 c = let s = c.before in (interval_none (readable (net_at s)) s.args.dt _ c.if1.false, s.requires.3)
+returns-3 : tie.Need-returns invariant-loop decreases-loop
+returns-3 c = let s = c.before in (interval_none (readable (net_at s)) s.args.dt _ c.if-dt.false, s.requires.3)
 
-pub over-interval-spec : {M : Type 1} → statement M
-over-interval-spec =
+pub over_interval_spec : {M : Type 1} → statement M
+over_interval_spec =
     tie.close
     (tie.spec
     invariant-loop

@@ -15,14 +15,14 @@ use Prim.Native.Nat.{◌-◌, ◌≤◌}
 use Rattle.sde.proofs.substep.push_all.Statement.{statement}
 use Rattle.sde.proofs.substep.push_all.Tie as tie
 
-abbrev invariant-loop : tie.invariant-loop
+abbrev invariant-loop : tie.invariant-loop-j
 invariant-loop places transitions initial capacity rate delay arcs kind place weight changes skips ends dt root x₀ drift₀ s₀ j₀ x drift s j =
     let net = lent places transitions initial capacity rate delay arcs kind place weight in
     (j ≤ transitions)
     × (pushed_all dt (transitions_from net j (transitions - j)) (going_of places x drift s) ≡ pushed_all dt (transitions_from net 0 transitions) (going_of places x₀ drift₀ s₀))
     × Lengths x drift
 
-abbrev decreases-loop : tie.decreases-loop
+abbrev decreases-loop : tie.decreases-loop-j
 decreases-loop places transitions initial capacity rate delay arcs kind place weight changes skips ends dt root x₀ drift₀ s₀ j₀ x drift s j = transitions - j
 
 abbrev net_at : tie.Start invariant-loop decreases-loop → NetRecord
@@ -30,21 +30,21 @@ net_at s =
     lent s.args.places s.args.transitions s.args.initial.now s.args.capacity.now s.args.rate.now s.args.delay.now
     s.args.arcs.now s.args.kind.now s.args.place.now s.args.weight.now
 
-loop-holds : tie.Need-loop-init invariant-loop decreases-loop
+loop-holds : tie.Need-loop-j-init invariant-loop decreases-loop
 loop-holds c = (omega arith, all_whole (net_at c) c.args.dt c.args.transitions _, c.requires.3)
 
-add-next : tie.Need-overflow-add-next invariant-loop decreases-loop
+add-next : tie.Need-overflow_add-next invariant-loop decreases-loop
 add-next c = search rules
 
-propensity-requires : tie.Need-propensity-requires invariant-loop decreases-loop
+propensity-requires : tie.Need-propensity-a-requires invariant-loop decreases-loop
 propensity-requires c κs =
-    let s = c.before.before.before in
-    (c.before.loop-test.true, s.requires.0, s.requires.1.of_rates, s.requires.1.of_ends)
+    let s = c.before.before in
+    (c.loop-j-test.true, s.requires.0, s.requires.1.of_rates, s.requires.1.of_ends)
 
-normal-requires : tie.Need-normal-requires invariant-loop decreases-loop
+normal-requires : tie.Need-normal-drawn-requires invariant-loop decreases-loop
 normal-requires c κs = search rules
 
-enum-known-draw : tie.Need-enum-known-draw invariant-loop decreases-loop
+enum-known-draw : tie.Need-enum_known-draw invariant-loop decreases-loop
 enum-known-draw c = search rules
 
 sqrt-requires : tie.Need-sqrt-requires invariant-loop decreases-loop
@@ -52,81 +52,81 @@ sqrt-requires c κs = search rules
 
 spread-requires : tie.Need-spread-requires invariant-loop decreases-loop
 spread-requires c κs =
-    let l = c.before.before.before.before.before.before.before.before.before.before.before.before in
-    let s = l.before in
-    let h = c.before.before.before.before.before.before.before.before.before.before.before.loop-test.true in (
+    let l = c.before.before.before.before.before.before.before.before.before.before in
+    let s = l in
+    let h = c.loop-j-test.true in (
       omega (arith, h, s.requires.0.transitions),
       s.requires.0.places,
       l.loop.invariant.2,
       skips_of s.args.places l.loop.j s.args.changes.now s.args.skips.now s.args.transitions h s.requires.0.places s.requires.1.of_skips,
     )
 
-enum_told : tie.Need-enum-told invariant-loop decreases-loop
+enum_told : tie.Need-enum_told-1 invariant-loop decreases-loop
 enum_told c = search rules
 
-returns : tie.Need-returns invariant-loop decreases-loop
+returns : tie.Need-returns-in-Refused invariant-loop decreases-loop
 returns c =
-    let l = c.before.before.before.before.before.before.before.before in
-    let s = l.before in
+    let l = c.before.before.before.before.before.before.before in
+    let s = l in
     let g = s.args in
-    let h = c.before.before.before.before.before.before.before.loop-test.true in
+    let h = c.loop-j-test.true in
     let y =
     push_refused (net_at s) g.changes.now l.loop.j g.places h s.requires.0.places s.requires.1.of_changes l.loop.x l.loop.drift l.loop.invariant.2.of_x l.loop.invariant.2.of_drift
-    g.dt g.root c.before.before.before.before.before.propensity.result l.loop.s s.requires.2 c.before.before.before.before.before.propensity.ensures c.before.before.before.before.if1.false c.before.before.before.normal.result c.before.before.before.normal.ensures
-    c.enum_told.given.1 in (
+    g.dt g.root c.propensity-a.result l.loop.s s.requires.2 c.propensity-a.ensures c.if-a.false c.normal-drawn.result c.normal-drawn.ensures
+    c.in-Refused.is in (
       all_stop (net_at s) g.dt l.loop.j g.transitions (going_of g.places l.loop.x l.loop.drift l.loop.s) (going_of g.places l.loop.x l.loop.drift l.loop.s) true
           l.loop.invariant.1 h y refl,
       l.loop.invariant.2,
     )
 
-loop-less : tie.Need-loop-smaller invariant-loop decreases-loop
-loop-less c = omega (arith, c.before.before.before.loop-test.true)
+loop-less : tie.Need-loop-j-smaller-then-a invariant-loop decreases-loop
+loop-less c = omega (arith, c.loop-j-test.true)
 
-loop-again : tie.Need-loop-preserved invariant-loop decreases-loop
+loop-again : tie.Need-loop-j-preserved-then-a invariant-loop decreases-loop
 loop-again c =
     let l = c.before.before.before.before in
-    let s = l.before in
+    let s = l in
     let g = s.args in
-    let h = c.before.before.before.loop-test.true in
+    let h = c.loop-j-test.true in
     let y =
     push_nothing (net_at s) g.changes.now l.loop.j g.places h s.requires.0.places s.requires.1.of_changes l.loop.x l.loop.drift l.loop.invariant.2.of_x l.loop.invariant.2.of_drift
-    g.dt g.root c.before.propensity.result l.loop.s s.requires.2 c.before.propensity.ensures c.if1.true in (
+    g.dt g.root c.propensity-a.result l.loop.s s.requires.2 c.propensity-a.ensures c.if-a.true in (
       omega (arith, h),
       all_go (net_at s) g.dt l.loop.j g.transitions (going_of g.places l.loop.x l.loop.drift l.loop.s) (going_of g.places l.loop.x l.loop.drift l.loop.s) false
           l.loop.invariant.1 h y refl,
       l.loop.invariant.2,
     )
 
-loop-less-2 : tie.Need-loop-smaller-2 invariant-loop decreases-loop
-loop-less-2 c = omega (arith, c.before.before.before.before.before.before.before.before.before.before.before.before.loop-test.true)
+loop-less-2 : tie.Need-loop-j-smaller invariant-loop decreases-loop
+loop-less-2 c = omega (arith, c.loop-j-test.true)
 
-loop-again-2 : tie.Need-loop-preserved-2 invariant-loop decreases-loop
+loop-again-2 : tie.Need-loop-j-preserved invariant-loop decreases-loop
 loop-again-2 c =
-    let l = c.before.before.before.before.before.before.before.before.before.before.before.before.before in
-    let s = l.before in
+    let l = c.before.before.before.before.before.before.before.before.before.before.before in
+    let s = l in
     let g = s.args in
-    let h = c.before.before.before.before.before.before.before.before.before.before.before.before.loop-test.true in
+    let h = c.loop-j-test.true in
     let m = c.spread.ensures in
     let y =
     push_value (net_at s) g.changes.now l.loop.j g.places h s.requires.0.places s.requires.1.of_changes l.loop.x l.loop.drift l.loop.invariant.2.of_x l.loop.invariant.2.of_drift
-    g.dt g.root c.before.before.before.before.before.before.before.before.before.before.propensity.result l.loop.s s.requires.2 c.before.before.before.before.before.before.before.before.before.before.propensity.ensures c.before.before.before.before.before.before.before.before.before.if1.false c.before.before.before.before.before.before.before.before.normal.result c.before.before.before.before.before.before.before.before.normal.ensures
-    _ c.before.before.before.sqrt.result _ _ c.before.before.before.before.before.draw.given.1 c.before.before.before.sqrt.ensures.1 m.0 m.1 in (
+    g.dt g.root c.propensity-a.result l.loop.s s.requires.2 c.propensity-a.ensures c.if-a.false c.normal-drawn.result c.normal-drawn.ensures
+    _ c.sqrt.result _ _ c.in-Value.is c.sqrt.ensures.1 m.0 m.1 in (
       omega (arith, h),
       all_go (net_at s) g.dt l.loop.j g.transitions (going_of g.places l.loop.x l.loop.drift l.loop.s) _ false
           l.loop.invariant.1 h y refl,
       record { of_x = m.0.long; of_drift = m.1.long },
     )
 
-returns-2 : tie.Need-returns-2 invariant-loop decreases-loop
+returns-2 : tie.Need-returns invariant-loop decreases-loop
 returns-2 c =
     let l = c.before in
     let s = l.before in (
-      all_end (net_at s) s.args.dt l.loop.j s.args.transitions (going_of s.args.places l.loop.x l.loop.drift l.loop.s) c.loop-test.false ∙ l.loop.invariant.1,
-      l.loop.invariant.2,
+      all_end (net_at s) s.args.dt l.loop-j.j s.args.transitions (going_of s.args.places l.loop-j.x l.loop-j.drift l.loop-j.s) c.loop-j-test.false ∙ l.loop-j.invariant.1,
+      l.loop-j.invariant.2,
     )
 
-pub push-all-spec : {M : Type 1} → statement M
-push-all-spec =
+pub push_all_spec : {M : Type 1} → statement M
+push_all_spec =
     tie.close
     (tie.spec
     invariant-loop

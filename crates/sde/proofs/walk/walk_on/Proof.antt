@@ -15,7 +15,7 @@ use Prim.Native.Nat.{◌-◌, ◌≤◌}
 use Rattle.sde.proofs.walk.walk_on.Statement.{statement}
 use Rattle.sde.proofs.walk.walk_on.Tie as tie
 
-abbrev invariant-loop : tie.invariant-loop
+abbrev invariant-loop : tie.invariant-loop-i
 invariant-loop places transitions initial capacity rate delay arcs kind place weight changes skips ends n dt root x₀ drift₀ table₀ s₀ i₀ x drift table s i =
     let net = lent places transitions initial capacity rate delay arcs kind place weight in
     (i ≤ n)
@@ -23,7 +23,7 @@ invariant-loop places transitions initial capacity rate delay arcs kind place we
     (further (n - i) (over_interval (readable net) dt) (state_of places x s)) table₀ table
     × Lengths x drift
 
-abbrev decreases-loop : tie.decreases-loop
+abbrev decreases-loop : tie.decreases-loop-i
 decreases-loop places transitions initial capacity rate delay arcs kind place weight changes skips ends n dt root x₀ drift₀ table₀ s₀ i₀ x drift table s i = n - i
 
 abbrev net_at : tie.Start invariant-loop decreases-loop → NetRecord
@@ -34,66 +34,66 @@ net_at s =
 abbrev over : tie.Start invariant-loop decreases-loop → State → Answer State
 over s = over_interval (readable (net_at s)) s.args.dt
 
-loop-holds : tie.Need-loop-init invariant-loop decreases-loop
+loop-holds : tie.Need-loop-i-init invariant-loop decreases-loop
 loop-holds c =
     let s = c.before in
     (s.requires.4, progress_first s.args.places s.args.n s.args.x.now s.args.table.now _ s.requires.7, s.requires.3)
 
-add-next : tie.Need-overflow-add-next invariant-loop decreases-loop
+add-next : tie.Need-overflow_add-next invariant-loop decreases-loop
 add-next c = search rules
 
-over-interval-requires : tie.Need-over-interval-requires invariant-loop decreases-loop
-over-interval-requires c κs = let s = c.before.before.before.before.before in (s.requires.0, s.requires.1, s.requires.2, c.before.before.before.loop.invariant.2)
+over-interval-requires : tie.Need-over_interval-p-requires invariant-loop decreases-loop
+over-interval-requires c κs = let s = c.before.before.before.before.before in (s.requires.0, s.requires.1, s.requires.2, c.loop-i.invariant.2)
 
-same_length : tie.Need-same-length invariant-loop decreases-loop
-same_length c = c.before.before.before.before.before.loop.invariant.1.beyond.long
+same_length : tie.Need-shape_of-table-then-p invariant-loop decreases-loop
+same_length c = c.loop-i.invariant.1.beyond.long
 
-returns : tie.Need-returns invariant-loop decreases-loop
+returns : tie.Need-returns-then-p invariant-loop decreases-loop
 returns c =
     let l = c.before.before.before.before.before in
     let s = c.before.before.before.before.before.before.before in
-    let p = c.before.over-interval in (
-      progress_stop s.args.places s.args.n l.loop.i (over s) (state_of s.args.places l.loop.x l.loop.s) _ p.result.stopped l.loop.invariant.1
-          c.before.before.before.before.loop-test.true p.ensures.0 c.if1.true [],
-      l.loop.invariant.1.beyond,
+    let p = c.over_interval-p in (
+      progress_stop s.args.places s.args.n l.loop-i.i (over s) (state_of s.args.places l.loop-i.x l.loop-i.s) _ p.result.stopped l.loop-i.invariant.1
+          c.loop-i-test.true p.ensures.0 c.if-p.true [],
+      l.loop-i.invariant.1.beyond,
       p.ensures.1,
     )
 
 show-requires : tie.Need-show-requires invariant-loop decreases-loop
 show-requires c κs =
     let l = c.before.before.before.before.before.before.before.before in
-    let s = c.before.before.before.before.before.before.before.before.before.before in
-    (s.requires.0.places, c.before.before.before.before.before.before.before.loop-test.true, s.requires.5, omega (arith, s.requires.6, l.loop.invariant.1.beyond.long))
+    let s = c.before.before.before.before.before.before.before.before.before in
+    (s.requires.0.places, c.loop-i-test.true, s.requires.5, omega (arith, s.requires.6, l.loop.invariant.1.beyond.long))
 
-loop-less : tie.Need-loop-smaller invariant-loop decreases-loop
-loop-less c = omega (arith, c.before.before.before.before.before.before.before.before.before.before.loop-test.true)
+loop-less : tie.Need-loop-i-smaller invariant-loop decreases-loop
+loop-less c = omega (arith, c.loop-i-test.true)
 
-loop-again : tie.Need-loop-preserved invariant-loop decreases-loop
+loop-again : tie.Need-loop-i-preserved invariant-loop decreases-loop
 loop-again c =
     let l = c.before.before.before.before.before.before.before.before.before.before.before in
-    let s = c.before.before.before.before.before.before.before.before.before.before.before.before.before in
-    let p = c.before.before.before.before.before.before.before.over-interval in (
-      omega (arith, c.before.before.before.before.before.before.before.before.before.before.loop-test.true),
+    let s = c.before.before.before.before.before.before.before.before.before.before.before.before in
+    let p = c.over_interval-p in (
+      omega (arith, c.loop-i-test.true),
       progress_more s.args.places s.args.n l.loop.i (over s) (state_of s.args.places l.loop.x l.loop.s) _ p.result.stopped l.loop.invariant.1
-          c.before.before.before.before.before.before.before.before.before.before.loop-test.true p.ensures.0 c.before.before.before.before.before.before.if1.false _ _ refl c.before.before.show.ensures,
+          c.loop-i-test.true p.ensures.0 c.if-p.false _ _ refl c.show.ensures,
       p.ensures.1,
     )
 
-same-length-2 : tie.Need-same-length-2 invariant-loop decreases-loop
-same-length-2 c = c.before.loop.invariant.1.beyond.long
+same-length-2 : tie.Need-shape_of-table invariant-loop decreases-loop
+same-length-2 c = c.loop-i.invariant.1.beyond.long
 
-returns-2 : tie.Need-returns-2 invariant-loop decreases-loop
+returns-2 : tie.Need-returns invariant-loop decreases-loop
 returns-2 c =
     let l = c.before in
     let s = c.before.before.before in (
-      progress_end s.args.places s.args.n l.loop.i (over s) (state_of s.args.places l.loop.x l.loop.s) l.loop.invariant.1 l.loop.invariant.0 c.loop-test.false
+      progress_end s.args.places s.args.n l.loop-i.i (over s) (state_of s.args.places l.loop-i.x l.loop-i.s) l.loop-i.invariant.1 l.loop-i.invariant.0 c.loop-i-test.false
           s.requires.6,
-      l.loop.invariant.1.beyond,
-      l.loop.invariant.2,
+      l.loop-i.invariant.1.beyond,
+      l.loop-i.invariant.2,
     )
 
-pub walk-on-spec : {M : Type 1} → statement M
-walk-on-spec =
+pub walk_on_spec : {M : Type 1} → statement M
+walk_on_spec =
     tie.close
     (tie.spec
     invariant-loop

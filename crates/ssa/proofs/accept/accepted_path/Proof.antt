@@ -18,20 +18,26 @@ net_at s =
 tidy-requires : tie.Need-tidy-requires
 tidy-requires c κs = search rules
 
-lent-path-requires : tie.Need-lent-path-requires
+lent-path-requires : tie.Need-lent_path-requires
 lent-path-requires c κs =
     let t = c.before.before.before.before.before in
     let s = t.before.before.before.before.before.before.before in
     (tidy_unlabelled _ t.tidy.ensures.tidy, (sound (net_at s) s.requires.0).initial, s.requires.1, s.requires.2)
 
-same_length : tie.Need-same-length
+same_length : tie.Need-shape_of-table
 same_length c = search rules
 
 returns : tie.Need-returns
 returns c =
     let t = c.before.before.before.before.before.before.before.before in
-    let a = t.before.before.before.before.before.before.before.args in
-    same_run a.places (words a.generator.s) a.instants.now a.limit a.table.now t.tidy.ensures.reads c.before.before.lent-path.ensures
+    let a = t.args in
+    same_run a.places (words a.generator.s) a.instants.now a.limit a.table.now t.tidy.ensures.reads c.lent_path.ensures
 
-pub accepted-path-spec : {M : Type 1} → statement M
-accepted-path-spec = tie.close (tie.spec tidy-requires lent-path-requires same_length returns)
+pub accepted_path_spec : {M : Type 1} → statement M
+accepted_path_spec =
+    tie.close
+    (tie.spec
+    tidy-requires
+    lent-path-requires
+    same_length
+    returns)

@@ -26,43 +26,43 @@ blank = replicate 1024 zero64
 long : (s : tie.Start) → (wanted s).samples ≤ length blank
 long s = let f = passing (wanted s) s.requires.2 in omega (arith, f.few, length-replicate 1024 zero64)
 
-fill-tables-requires : tie.Need-fill-tables-requires
+fill-tables-requires : tie.Need-fill_tables-kinds-requires
 fill-tables-requires c κs = search rules
 
-cast-few : tie.Need-overflow-cast-few
+cast-few : tie.Need-overflow_cast-few
 cast-few c =
-    let f = passing (wanted c.before.before.before.before.before.before.before.before) c.before.before.before.before.before.before.before.before.requires.2 in
+    let f = passing (wanted c.before.before.before.before.before.before.before.before) c.requires.2 in
     omega (arith, f.few)
 
 interval-requires : tie.Need-interval-requires
 interval-requires c κs = search rules
 
-slice-aggregate-fill-grid : tie.Need-slice-aggregate-fill-grid
+slice-aggregate-fill-grid : tie.Need-slice_bounds-fill_grid-end
 slice-aggregate-fill-grid c = search rules
 
-fill-grid-requires : tie.Need-fill-grid-requires
+fill-grid-requires : tie.Need-fill_grid-requires
 fill-grid-requires c κs = search rules
 
-array-share-prefix-grid : tie.Need-array-share-prefix-grid
+array-share-prefix-grid : tie.Need-slice_bounds-grid-end
 array-share-prefix-grid c =
-    grid_room (wanted c.before.before.before.before.before.before.before.before.before.before.before.before.before.before.before.before) c.before.before.before.before.before.before.before.interval.result blank c.before.before.before.before.before.fill-grid.new.1.1.0 c.before.before.before.before.before.before.before.interval.ensures c.before.before.before.before.before.fill-grid.ensures (long c.before.before.before.before.before.before.before.before.before.before.before.before.before.before.before.before)
+    grid_room (wanted c.before.before.before.before.before.before.before.before.before.before.before.before.before.before.before.before) c.interval.result blank c.fill_grid.new.1.1.0 c.interval.ensures c.fill_grid.ensures (long c.before.before.before.before.before.before.before.before.before.before.before.before.before.before.before.before)
 
-slice-aggregate-averaged : tie.Need-slice-aggregate-averaged
+slice-aggregate-averaged : tie.Need-slice_bounds-averaged-end
 slice-aggregate-averaged c =
-    sym (grid_many (wanted c.before.before.before.before.before.before.before.before.before.before.before.before.before.before.before.before.before) c.before.before.before.before.before.before.before.before.interval.result blank c.before.before.before.before.before.before.fill-grid.new.1.1.0 c.before.before.before.before.before.before.before.before.interval.ensures c.before.before.before.before.before.before.fill-grid.ensures (long c.before.before.before.before.before.before.before.before.before.before.before.before.before.before.before.before.before))
+    sym (grid_many (wanted c.before.before.before.before.before.before.before.before.before.before.before.before.before.before.before.before.before) c.interval.result blank c.fill_grid.new.1.1.0 c.interval.ensures c.fill_grid.ensures (long c.before.before.before.before.before.before.before.before.before.before.before.before.before.before.before.before.before))
 
 averaged-requires : tie.Need-averaged-requires
 averaged-requires c κs =
     let s = c.before.before.before.before.before.before.before.before.before.before.before.before.before.before.before.before.before.before.before.before in
-    let i = c.before.before.before.before.before.before.before.before.before.before.before.interval in
-    let g = c.before.before.before.before.before.before.before.before.before.fill-grid in
+    let i = c.interval in
+    let g = c.fill_grid in
     let f = passing (wanted s) s.requires.2 in
     let many = grid_many (wanted s) i.result blank g.new.1.1.0 i.ensures g.ensures (long s) in (
       record {
         tidy = s.requires.0;
-        limits = c.before.before.before.before.before.before.before.before.before.before.before.before.fill-tables.ensures.0;
+        limits = c.fill_tables-kinds.ensures.0;
         small = s.requires.1;
-        tables = c.before.before.before.before.before.before.before.before.before.before.before.before.fill-tables.ensures.1;
+        tables = c.fill_tables-kinds.ensures.1;
         fit = grid_passes (wanted s) i.result blank g.new.1.1.0 i.ensures g.ensures (long s) f;
       },
       f.repeated,
@@ -71,27 +71,27 @@ averaged-requires c κs =
       rw many s.requires.5,
     )
 
-same_length : tie.Need-same-length
+same_length : tie.Need-shape_of-mean
 same_length c = search rules
 
-same-length-2 : tie.Need-same-length-2
+same-length-2 : tie.Need-shape_of-deviation
 same-length-2 c = search rules
 
-same-length-3 : tie.Need-same-length-3
+same-length-3 : tie.Need-shape_of-path
 same-length-3 c = search rules
 
 returns : tie.Need-returns
 returns c =
     let s = c.before.before.before.before.before.before.before.before.before.before.before.before.before.before.before.before.before.before.before.before.before.before.before.before.before.before.before in
     let a = s.args in
-    let i = c.before.before.before.before.before.before.before.before.before.before.before.before.before.before.before.before.before.before.interval in
-    let g = c.before.before.before.before.before.before.before.before.before.before.before.before.before.before.before.before.fill-grid in
+    let i = c.interval in
+    let g = c.fill_grid in
     let net = readable (lent a.places a.transitions a.initial.now a.capacity.now a.rate.now a.delay.now a.arcs.now a.kind.now a.place.now a.weight.now) in
     asked net (wanted s) (take a.samples g.new.1.1.0) a.places (record { mean = a.mean.now; deviation = a.deviation.now; path = a.path.now })
-    (grid_is (wanted s) i.result blank g.new.1.1.0 i.ensures g.ensures (long s)) c.before.before.before.before.before.before.averaged.ensures
+    (grid_is (wanted s) i.result blank g.new.1.1.0 i.ensures g.ensures (long s)) c.averaged.ensures
 
-pub lent-ensemble-spec : {M : Type 1} → statement M
-lent-ensemble-spec =
+pub lent_ensemble_spec : {M : Type 1} → statement M
+lent_ensemble_spec =
     tie.close
     (tie.spec
     fill-tables-requires

@@ -38,16 +38,16 @@ moved_at s =
     renamed (pairs_at s) (carried_from a.places (standing_of a.places a.t14) a.instants.now a.table.now)
 
 -- the start, from the names, from the timers in the ring, from the counts and from before the run
-abbrev start1 : tie.After-names-of → tie.Start
+abbrev start1 : tie.After-names_of-names → tie.Start
 start1 c = c.before.before.before.before
 
-abbrev start2 : tie.After-hand-in → tie.Start
-start2 c = start1 c.before.before.before.before.before.before.before.before.before.before
+abbrev start2 : tie.After-hand_in-ring → tie.Start
+start2 c = start1 c.before.before.before.before.before.before.before.before.before
 
-abbrev start3 : tie.After-first-counts → tie.Start
-start3 c = start2 c.before.before.before
+abbrev start3 : tie.After-first_counts-counts → tie.Start
+start3 c = start2 c.before.before
 
-abbrev counted : tie.After-resume-arg → tie.After-first-counts
+abbrev counted : tie.After-resume-arg-1 → tie.After-first_counts-counts
 counted c = c.before.before.before.before.before.before.before.before.before.before.before
 
 -- what the path brings
@@ -58,30 +58,30 @@ brings s =
 
 -- the array of its counts is 32 long
 long : (s : tie.Start) → length s.args.t14.counts ≡ 32
-long s = sym (length-map s.args.t14.counts (λ v. v)) ∙ s.well-formed.1.1.1.1.1.1.1.1.1.1.1.1.1.0.1.1.1.0.1.0.1
+long s = sym (length-map s.args.t14.counts (λ v. v)) ∙ s.well_formed.1.1.1.1.1.1.1.1.1.1.1.1.1.0.1.1.1.0.1.0.1
 
 -- its timers in the ring
-timers_are : (c : tie.After-hand-in)
-    → timers_of c.hand_in.new.0 c.hand_in.new.1.0 c.hand_in.result ≡ map (renamed_timer (pairs_at (start2 c))) (timers_at (start2 c).args.t14)
+timers_are : (c : tie.After-hand_in-ring)
+    → timers_of c.hand_in-ring.new.0 c.hand_in-ring.new.1.0 c.hand_in-ring.result ≡ map (renamed_timer (pairs_at (start2 c))) (timers_at (start2 c).args.t14)
 timers_are c =
-    let w = c.before.before.before.before.new-numbers in
-    let m = c.before.before.before.before.before.before.before.before.before.before.names_of in
+    let w = c.new_numbers in
+    let m = c.names_of-names in
     let s = start2 c in
     let a = s.args in
-    c.hand_in.ensures.list
+    c.hand_in-ring.ensures.list
     ∙ renamed_queue (net_at s) s.pre.0 a.places (pairs_at s) a.t14 a.instants.now a.table.now s.pre.1 m.result m.ensures
     w.result w.ensures
 
 -- the state that the run begins with
-abbrev state_at : tie.After-first-counts → State
+abbrev state_at : tie.After-first_counts-counts → State
 state_at c =
-    let i = c.before.before.before.hand_in in
+    let i = c.hand_in-ring in
     let s = start3 c in
-    state_of (net_at s) c.first-counts.result i.new.0 i.new.1.0 i.result s.args.t14.clock s.args.t14.generator.s
+    state_of (net_at s) c.first_counts-counts.result i.new.0 i.new.1.0 i.result s.args.t14.clock s.args.t14.generator.s
 
-now_is : (c : tie.After-first-counts) → state_at c ≡ (moved_at (start3 c)).now
+now_is : (c : tie.After-first_counts-counts) → state_at c ≡ (moved_at (start3 c)).now
 now_is c =
-    let k = c.first-counts in
+    let k = c.first_counts-counts in
     let h = c.before.before.before in
     let i = h.hand_in in
     let s = start3 c in
@@ -90,10 +90,10 @@ now_is c =
     (counts_same a.places a.t14.counts k.result (omega (arith, long s, (sound (net_at s) s.pre.0).places)) k.ensures.0)
     a.t14.generator.s
 
-names-of-requires : tie.Need-names-of-requires
+names-of-requires : tie.Need-names_of-names-requires
 names-of-requires c κs = search rules
 
-new-numbers-requires : tie.Need-new-numbers-requires
+new-numbers-requires : tie.Need-new_numbers-requires
 new-numbers-requires c κs =
     let m = c.before.before.before.before.before in
     let w = m.names_of in
@@ -103,38 +103,38 @@ new-numbers-requires c κs =
       below (net_at s) s.pre.0 a.places (pairs_at s) a.t14 a.instants.now a.table.now s.pre.1 w.result w.ensures,
     )
 
-hand-in-requires : tie.Need-hand-in-requires
+hand-in-requires : tie.Need-hand_in-ring-requires
 hand-in-requires c κs = search rules
 
-first-counts-requires : tie.Need-first-counts-requires
-first-counts-requires c κs = let s = start2 c.before.before in ((sound (net_at s) s.pre.0).places, small (brings s))
+first-counts-requires : tie.Need-first_counts-counts-requires
+first-counts-requires c κs = let s = start2 c.before in ((sound (net_at s) s.pre.0).places, small (brings s))
 
 sum-requires : tie.Need-sum-requires
 sum-requires c κs =
     let k = c.before.before in
     let s = start3 k in
-    ((sound (net_at s) s.pre.0).places, k.first-counts.ensures.1)
+    ((sound (net_at s) s.pre.0).places, k.first_counts-counts.ensures.1)
 
 taken-requires : tie.Need-taken-requires
-taken-requires c κs = let s = start3 c.before.before.before.before.before in ((brings s).few, light (brings s))
+taken-requires c κs = let s = start3 c.before.before.before.before in ((brings s).few, light (brings s))
 
-add-resume : tie.Need-overflow-add-resume
+add-resume : tie.Need-overflow_add-s
 add-resume c =
     let k = c.before.before.before.before.before.before in
     let s = start3 k in
     let few = sum_few s.args.places k.first-counts.result k.first-counts.ensures.1.small in
-    record { fits = omega (arith, c.before.before.before.sum.ensures, few, (sound (net_at s) s.pre.0).places, c.taken.ensures.0) }
+    record { fits = omega (arith, c.sum.ensures, few, (sound (net_at s) s.pre.0).places, c.taken.ensures.0) }
 
-sub-left : tie.Need-overflow-sub-left
-sub-left c = (brings (start3 c.before.before.before.before.before.before)).steps
+sub-left : tie.Need-overflow_sub-left
+sub-left c = (brings (start3 c.before.before.before.before.before)).steps
 
 fewer-requires : tie.Need-fewer-requires
 fewer-requires c κs = search rules
 
-resume-requires : tie.Need-resume-requires
+resume-requires : tie.Need-resume-w-requires
 resume-requires c κs =
-    let t = c.before.before.before.before.before.taken in
-    let u = c.before.before.before.before.before.before.before.before.sum in
+    let t = c.taken in
+    let u = c.sum in
     let k = (counted c).first-counts in
     let h = (counted c).before.before.before in
     let i = h.hand_in in
@@ -151,24 +151,24 @@ resume-requires c κs =
           (t.ensures.1 q.ats q.whos),
     )
 
-enum-known-end : tie.Need-enum-known-end
+enum-known-end : tie.Need-enum_known-end
 enum-known-end c = search rules
 
-turned-down-requires : tie.Need-turned-down-requires
+turned-down-requires : tie.Need-turned_down-requires
 turned-down-requires c κs = search rules
 
-same_length : tie.Need-same-length
+same_length : tie.Need-shape_of-table-in-Refused
 same_length c = search rules
 
-returns : tie.Need-returns
+returns : tie.Need-returns-in-Refused
 returns c =
-    let r = c.before.before.before.before.before.before in
+    let r = c.before.before.before.before in
     let k = counted r.before in
     let s = start3 k in
     let a = s.args in
     c.turned_down.ensures a.places _
     ∙ continued_refused (readable (net_at s)) a.places (pairs_at s) a.t14 a.instants.now a.table.now a.named (rest_rises (brings s))
-    (now_is k) refl r.before.before.fewer.ensures r.resume.ensures c.before.before.end.given.1
+    (now_is k) refl r.fewer.ensures r.resume-w.ensures c.in-Refused.is
 
 handed-requires : tie.Need-handed-requires
 handed-requires c κs =
@@ -176,17 +176,17 @@ handed-requires c κs =
     let k = counted r.before in
     let s = start3 k in
     let a = s.args in
-    let m = r.before.before.fewer.ensures in
+    let m = r.fewer.ensures in
     let b = brings s in
     let few =
     few_steps (readable (net_at s)) a.places (pairs_at s) a.t14 a.instants.now a.table.now a.named (rest_rises b)
-    (now_is k) refl m r.resume.ensures (not_refused r.resume.result.end c.before.before.before.match.keys2) in
+    (now_is k) refl m r.resume-w.ensures (not_refused r.resume-w.result.end c.in_default.in_default-own.keys2) in
     (omega (arith, few, m, b.steps, b.limit), omega (arith, few, m, b.steps, b.limit, b.rounded))
 
-same-length-2 : tie.Need-same-length-2
+same-length-2 : tie.Need-shape_of-table
 same-length-2 c = search rules
 
-returns-2 : tie.Need-returns-2
+returns-2 : tie.Need-returns
 returns-2 c =
     let h = c.handed in
     let r = c.before.before.before.before.before.before.before in
@@ -194,11 +194,11 @@ returns-2 c =
     let s = start3 k in
     let a = s.args in
     continued_to (readable (net_at s)) a.places (pairs_at s) a.t14 a.instants.now a.table.now a.named (rest_rises (brings s))
-    (now_is k) refl r.before.before.fewer.ensures r.resume.ensures (not_refused r.resume.result.end c.before.before.before.before.match.keys2)
+    (now_is k) refl r.fewer.ensures r.resume-w.ensures (not_refused r.resume-w.result.end c.in_default.in_default-own.keys2)
     h.result h.ensures.0 h.ensures.1 (h.ensures.2 a.places)
 
-pub accepted-carry-spec : {M : Type 1} → statement M
-accepted-carry-spec =
+pub accepted_carry_spec : {M : Type 1} → statement M
+accepted_carry_spec =
     tie.close
     (tie.spec
     names-of-requires

@@ -16,10 +16,10 @@ net_at s =
     labelled s.args.places s.args.transitions s.args.initial.now s.args.capacity.now s.args.label.now s.args.lengths.now
     s.args.rate.now s.args.delay.now s.args.arcs.now s.args.kind.now s.args.place.now s.args.weight.now
 
-timed-word-requires : tie.Need-timed-word-requires
+timed-word-requires : tie.Need-timed_word-delayed-requires
 timed-word-requires c κs = (sound (net_at c) c.requires.0).transitions
 
-timers-fit-requires : tie.Need-timers-fit-requires
+timers-fit-requires : tie.Need-timers_fit-requires
 timers-fit-requires c κs = search rules
 
 returns : tie.Need-returns
@@ -28,10 +28,15 @@ returns c =
     let s = t.before in
     let a = s.args in
     λ old ps ats takens few good w.
-    c.timers-fit.ensures ats takens
+    c.timers_fit.ensures ats takens
     ∙ sym (ap not
-    (sent_by_word (net_at s) (sound (net_at s) s.requires.0).transitions t.timed-word.result t.timed-word.ensures old few ps good a.names.now w
+    (sent_by_word (net_at s) (sound (net_at s) s.requires.0).transitions t.timed_word-delayed.result t.timed_word-delayed.ensures old few ps good a.names.now w
     (timers_in ats a.whos.now takens a.n)))
 
-pub timers-fit-spec : {M : Type 1} → statement M
-timers-fit-spec = tie.close (tie.spec timed-word-requires timers-fit-requires returns)
+pub timers_fit_spec : {M : Type 1} → statement M
+timers_fit_spec =
+    tie.close
+    (tie.spec
+    timed-word-requires
+    timers-fit-requires
+    returns)

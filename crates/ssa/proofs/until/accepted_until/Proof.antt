@@ -47,54 +47,54 @@ unfolding le lt eq of_bits
 zero_time = refl
 
 -- where it begins
-module _ (b : tie.After-begin) where
+module _ (b : tie.After-begin-s) where
   abbrev at : tie.Start
   at = b.before.before.before.before.before.before
 
   abbrev counts : List ℕ
-  counts = b.before.before.before.first-counts.result
+  counts = b.first_counts-counts.result
 
-  none : timers_of (replicate 256 zero64) (replicate 512 0) b.begin.result.timers ≡ []
-  none = b.begin.ensures.2.list (replicate 256 zero64) (replicate 512 0)
+  none : timers_of (replicate 256 zero64) (replicate 512 0) b.begin-s.result.timers ≡ []
+  none = b.begin-s.ensures.2.list (replicate 256 zero64) (replicate 512 0)
 
-  resumes : Resumes counts (replicate 256 zero64) (replicate 512 0) b.begin.result.timers b.begin.result.clock
+  resumes : Resumes counts (replicate 256 zero64) (replicate 512 0) b.begin-s.result.timers b.begin-s.result.clock
   resumes =
       record {
-        small = b.before.before.before.first-counts.ensures.1;
+        small = b.first_counts-counts.ensures.1;
         light = subst Light (sym none) tt;
         sound = λ _. ap in_order none;
-        clock_fits = ap time_fits b.begin.ensures.1 ∙ zero_time;
+        clock_fits = ap time_fits b.begin-s.ensures.1 ∙ zero_time;
         times_fit = ap (any (λ (x : Timer). not (time_fits x.at))) none;
       }
 
   same : marking at.args.places counts ≡ initial_counts (readable (net_at at))
-  same = b.before.before.before.first-counts.ensures.0 ∙ initial_is (net_at at)
+  same = b.first_counts-counts.ensures.0 ∙ initial_is (net_at at)
 
-  most : b.begin.result.peak ≡ tokens (start (readable (net_at at)))
-  most = omega (arith, b.begin.ensures.4, b.begin.ensures.3, ap sum_of same)
+  most : b.begin-s.result.peak ≡ tokens (start (readable (net_at at)))
+  most = omega (arith, b.begin-s.ensures.4, b.begin-s.ensures.3, ap sum_of same)
 
-  first : state_of (net_at at) counts (replicate 256 zero64) (replicate 512 0) b.begin.result.timers b.begin.result.clock
-      b.begin.result.rng.s ≡ beginning (readable (net_at at)) (words at.args.generator.s)
-  first i = state (b.begin.ensures.1 i) (same i) (none i) (words (b.begin.ensures.5 i).s)
+  first : state_of (net_at at) counts (replicate 256 zero64) (replicate 512 0) b.begin-s.result.timers b.begin-s.result.clock
+      b.begin-s.result.rng.s ≡ beginning (readable (net_at at)) (words at.args.generator.s)
+  first i = state (b.begin-s.ensures.1 i) (same i) (none i) (words (b.begin-s.ensures.5 i).s)
 
-first-counts-requires : tie.Need-first-counts-requires
+first-counts-requires : tie.Need-first_counts-counts-requires
 first-counts-requires c κs =
     let s = c.before.before in
     let n = sound (net_at s) s.requires.0 in
     (n.places, n.initial)
 
-begin-requires : tie.Need-begin-requires
+begin-requires : tie.Need-begin-s-requires
 begin-requires c κs =
     let s = c.before.before.before.before.before in
-    ((sound (net_at s) s.requires.0).places, (fitting s.args.instants.now s.requires.1).few, s.requires.3, c.before.before.first-counts.ensures.1)
+    ((sound (net_at s) s.requires.0).places, (fitting s.args.instants.now s.requires.1).few, s.requires.3, c.first_counts-counts.ensures.1)
 
 fewer-requires : tie.Need-fewer-requires
 fewer-requires c κs = search rules
 
-resume-requires : tie.Need-resume-requires
+resume-requires : tie.Need-resume-w-requires
 resume-requires c κs =
     let b = c.before.before.before.before.before.before.before in
-    let e = b.begin.ensures in
+    let e = b.begin-s.ensures in
     let s = at b in
     let f = fitting s.args.instants.now s.pre.1 in (
       s.pre.0,
@@ -106,51 +106,51 @@ resume-requires c κs =
       omega (arith, e.3, ap taken_by_timers (none b)),
     )
 
-enum-known-end : tie.Need-enum-known-end
+enum-known-end : tie.Need-enum_known-end
 enum-known-end c = search rules
 
 refused-requires : tie.Need-refused-requires
 refused-requires c κs = search rules
 
-same_length : tie.Need-same-length
+same_length : tie.Need-shape_of-table-in-Refused
 same_length c = search rules
 
-returns : tie.Need-returns
+returns : tie.Need-returns-in-Refused
 returns c =
-    let r = c.before.before.before.before.before.before in
+    let r = c.before.before.before.before in
     let b = r.before.before.before.before.before.before.before.before in
     let s = at b in
     let a = s.args in
-    c.refused.ensures a.places r.resume.new.1.1.1.1.1.1.1.1.1.1.1.1.1.1.1.1.1.1.1.0
+    c.refused.ensures a.places r.resume-w.new.1.1.1.1.1.1.1.1.1.1.1.1.1.1.1.1.1.1.1.0
     ∙ sym (refused_first a.places (readable (net_at s)) (words a.generator.s) a.instants.now a.limit a.named
-    (rises zero64 a.instants.now (fitting a.instants.now s.pre.1).risen) (same b) b.begin.ensures.0 s.pre.3 (most b) (first b)
-    refl r.before.before.fewer.ensures (unbegun a.places (words a.generator.s)) c.before.before.end.given.1 r.resume.ensures)
+    (rises zero64 a.instants.now (fitting a.instants.now s.pre.1).risen) (same b) b.begin-s.ensures.0 s.pre.3 (most b) (first b)
+    refl r.fewer.ensures (unbegun a.places (words a.generator.s)) c.in-Refused.is r.resume-w.ensures)
 
 handed-requires : tie.Need-handed-requires
 handed-requires c κs = search rules
 
-same-length-2 : tie.Need-same-length-2
+same-length-2 : tie.Need-shape_of-table
 same-length-2 c =
     let r = c.before.before.before.before.before.before.before in
     let b = r.before.before.before.before.before.before.before.before in
-    omega (arith, r.resume.auto.1.1.1.1.1.1.1.1.1.1.1.1.1.1.1.1.1.1.1.0, b.begin.ensures.0.cells.long)
+    omega (arith, r.resume-w.auto.1.1.1.1.1.1.1.1.1.1.1.1.1.1.1.1.1.1.1.0, b.begin-s.ensures.0.cells.long)
 
-returns-2 : tie.Need-returns-2
+returns-2 : tie.Need-returns
 returns-2 c =
     let r = c.before.before.before.before.before.before.before in
     let b = r.before.before.before.before.before.before.before.before in
     let s = at b in
     let a = s.args in
     let h = c.handed.ensures in
-    let table = r.resume.new.1.1.1.1.1.1.1.1.1.1.1.1.1.1.1.1.1.1.1.0 in
+    let table = r.resume-w.new.1.1.1.1.1.1.1.1.1.1.1.1.1.1.1.1.1.1.1.0 in
     (λ i. record { end = end_of (h.0 i); settled = h.1 i; state = h.2 a.places i; table = table })
     ∙ sym (played_first a.places (readable (net_at s)) (words a.generator.s) a.instants.now a.limit a.named
-    (rises zero64 a.instants.now (fitting a.instants.now s.pre.1).risen) (same b) b.begin.ensures.0 s.pre.3 (most b) (first b)
-    refl r.before.before.fewer.ensures (unbegun a.places (words a.generator.s))
-    (not_refused r.resume.result.end c.before.before.before.before.match.keys2) r.resume.ensures)
+    (rises zero64 a.instants.now (fitting a.instants.now s.pre.1).risen) (same b) b.begin-s.ensures.0 s.pre.3 (most b) (first b)
+    refl r.fewer.ensures (unbegun a.places (words a.generator.s))
+    (not_refused r.resume-w.result.end c.in_default.in_default-own.keys2) r.resume-w.ensures)
 
-pub accepted-until-spec : {M : Type 1} → statement M
-accepted-until-spec =
+pub accepted_until_spec : {M : Type 1} → statement M
+accepted_until_spec =
     tie.close
     (tie.spec
     first-counts-requires

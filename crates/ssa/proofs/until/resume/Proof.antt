@@ -25,7 +25,7 @@ net_at s =
 tidy-requires : tie.Need-tidy-requires
 tidy-requires c κs = search rules
 
-lent-on-requires : tie.Need-lent-on-requires
+lent-on-requires : tie.Need-lent_on-requires
 lent-on-requires c κs =
     let t = c.before.before.before.before.before.before.before.before in
     let s = t.before.before.before.before.before.before.before in
@@ -33,7 +33,7 @@ lent-on-requires c κs =
     let a = subst Accepted (sym t.tidy.ensures.reads) (accepted (net_at s) h.0) in
     (tidy_unlabelled _ t.tidy.ensures.tidy, a, h.1, h.2, h.3, h.4, h.5, h.6)
 
-same_length : tie.Need-same-length
+same_length : tie.Need-shape_of-table
 same_length c = search rules
 
 returns : tie.Need-returns
@@ -46,7 +46,13 @@ returns c =
     (ap (λ (n : Net). higher a.s.peak (play_within (out_of a.halts) 256 n (last_of xs) a.steps (drop a.s.next xs)
     (state_of (net_at s) a.counts.now a.ats.now a.owners.now a.s.timers a.s.clock a.s.rng.s)))
     t.tidy.ensures.reads)
-    c.before.before.lent-on.ensures
+    c.lent_on.ensures
 
-pub resume-spec : {M : Type 1} → statement M
-resume-spec = tie.close (tie.spec tidy-requires lent-on-requires same_length returns)
+pub resume_spec : {M : Type 1} → statement M
+resume_spec =
+    tie.close
+    (tie.spec
+    tidy-requires
+    lent-on-requires
+    same_length
+    returns)

@@ -1,0 +1,20 @@
+-- `c_face::ensemble::ensemble_numbers` meets its contract: the case that the answer is says its numbers. Assumes nothing.
+use borrow.Author.Rules.{rules}
+use mathlib.Core.Path.{sym, ap, ap₂, ◌∙◌}
+use mathlib.Core.List.{List, [], ◌∷◌}
+use Prim.Native.Nat.{ℕ}
+use Rattle.ssa.specs.declared.EnsembleAnswer.{EnsembleAnswer}
+use Rattle.ssa.specs.Ensemble.{outcome_of}
+use Rattle.c_face.specs.Averaged.{told_of}
+use Rattle.c_face.proofs.ensemble.ensemble_numbers.Goals as goal
+
+pub returns-in-Averaged : goal.returns-in-Averaged
+returns-in-Averaged c =
+    ap (λ (d : ℕ). 0 ∷ c.in-Averaged.spent ∷ d ∷ []) c.one_if.ensures
+    ∙ ap (λ (z : EnsembleAnswer). told_of (outcome_of z)) (sym c.in-Averaged.is)
+
+pub returns-in-TurnedDown : goal.returns-in-TurnedDown
+returns-in-TurnedDown c = ap (λ (z : EnsembleAnswer). told_of (outcome_of z)) (sym c.in-TurnedDown.is)
+
+pub returns-in-Stopped : goal.returns-in-Stopped
+returns-in-Stopped c = ap (λ (z : EnsembleAnswer). told_of (outcome_of z)) (sym c.in-Stopped.is)

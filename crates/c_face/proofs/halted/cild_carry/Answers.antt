@@ -1,0 +1,11 @@
+-- What fields_carry ensures of the fields lent and the path read, told and written by leave.
+use borrow.Author.Rules.{rules}
+use Rattle.c_face.proofs.Written.{left_by}
+use Rattle.c_face.proofs.halted.cild_carry.Goals as goal
+
+pub returns : goal.returns
+returns c =
+    let p = c in
+    let s = p.before.before.args in
+    let e = rw (p.path_in-path.ensures s.old-places) at p.fields_carry-r.ensures in
+    left_by e (c.leave.ensures _)

@@ -1,0 +1,54 @@
+-- By the end: a refused answer is told by its number, and any other is told and written (proofs/Written).
+use borrow.Author.Rules.{rules}
+use Prim.Native.Nat.{ℕ}
+use mathlib.Core.Path.{◌≡◌, refl, ap}
+use mathlib.Core.List.{List, [], ◌∷◌}
+use lib.Ieee.{Float}
+use Rattle.rules.specs.Step.{given}
+use Rattle.rules.specs.Run.{End, quiet, spent, reached, halted}
+use Rattle.playing.specs.declared.PathEnd.{PathEnd}
+use Rattle.playing.specs.declared.PathEnd.TheVariants.{Quiet, Spent, Reached, Halted, Refused}
+use Rattle.ssa.specs.declared.Onward.{Onward}
+use Rattle.ssa.specs.Path.{end_of}
+use Rattle.ssa.specs.Halted.{standing_of, call_of}
+use Rattle.ssa.proofs.Answered.{NotRefused, not_refused}
+use Rattle.c_face.specs.Played.{end_number}
+use Rattle.c_face.specs.Halted.{Written, Left}
+use Rattle.c_face.proofs.Written.{written}
+use Rattle.c_face.proofs.halted.leave.Goals as goal
+
+end_given : (e : PathEnd) → NotRefused e → (a : End) × (end_of e ≡ given a)
+end_given Quiet h = (quiet, refl)
+end_given Spent h = (spent, refl)
+end_given Reached h = (reached, refl)
+end_given Halted h = (halted, refl)
+end_given (Refused k) h = absurd h
+
+module _ (places : ℕ) (r : Onward) (k : ℕ) (ws : List ℕ) (ts : List Float) where
+  left_refused : r.end ≡ Refused k → (table : List Float) → Left (call_of places r table) (k ∷ 0 ∷ 0 ∷ 0 ∷ 0 ∷ []) ws ts ws ts table
+  left_refused e table = record { numbers = rw e; path = rw e (refl, refl); cells = refl }
+
+  left_given : (ws' : List ℕ) (ts' : List Float) → NotRefused r.end → k ≡ end_number (end_of r.end) → Written (standing_of places r.state) ws' ts'
+      → (table : List Float) → Left (call_of places r table) (k ∷ r.state.steps ∷ r.settled ∷ r.state.peak ∷ r.state.rounded ∷ []) ws ts ws' ts' table
+  left_given ws' ts' n h w table =
+      let e = (end_given r.end n).1 in
+      record {
+        numbers = rw e (ap (λ (j : ℕ). j ∷ r.state.steps ∷ r.settled ∷ r.state.peak ∷ r.state.rounded ∷ []) (rw e at h));
+        path = rw e w;
+        cells = refl;
+      }
+
+pub returns-in-Refused : goal.returns-in-Refused
+returns-in-Refused c =
+    let s = c.args in
+    let e = c.end-1.given in
+    left_refused s.places s.r e.0.0 s.halted.now s.times.now e.1
+
+pub returns : goal.returns
+returns c =
+    let w = c in
+    let e = w in
+    let s = e.before.before.before.args in
+    let n = not_refused s.r.end e.before.before.match.keys2 in
+    left_given s.places s.r e.end_number.result s.halted.now s.times.now _ _ n e.end_number.ensures
+    (written s.places s.r.state e.state-w.ensures w.write_words.ensures c.write_times.ensures)

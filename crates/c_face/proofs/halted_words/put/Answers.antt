@@ -1,0 +1,20 @@
+-- The first k of them are put.
+use borrow.Author.Rules.{rules}
+use native.Mathlib.Omega.{arith}
+use mathlib.Core.Path.{◌≡◌}
+use Prim.Native.Nat.{◌-◌, ◌≤◌}
+use lib.ListN.{length}
+use Rattle.c_face.specs.Layout.{Put}
+use Rattle.c_face.proofs.Putting.{put_none, put_more, put_all}
+use Rattle.c_face.proofs.halted_words.put.Goals as goal
+
+pub loop-k-init : goal.loop-k-init
+loop-k-init c = (omega arith, search rules, put_none _ _ _)
+
+pub loop-k-preserved : goal.loop-k-preserved
+loop-k-preserved c =
+    let l = c.loop-k in
+    (omega arith, l.invariant.1, put_more l.invariant.2 (omega arith))
+
+pub returns : goal.returns
+returns c = let l = c.loop-k in put_all l.invariant.2 l.invariant.0 c.loop-k-test.false

@@ -1,0 +1,20 @@
+-- The first i timers are those of the words and times.
+use borrow.Author.Rules.{rules}
+use native.Mathlib.Omega.{arith}
+use mathlib.Core.Path.{◌≡◌, refl, ◌∙◌}
+use Prim.Native.Nat.{ℕ, ◌+◌, ◌-◌}
+use lib.ListN.{length, get_or, drop, length-drop}
+use lib.Seq.{take_all}
+use lib.Ieee.{nan}
+use Rattle.carried.specs.Timers.{timers_in}
+use Rattle.c_face.proofs.Parts.{Holds, holds_none, holds_more, holds_part}
+use Rattle.c_face.proofs.halted_words.timers_in.Given as goal
+
+abbrev pub invariant-loop-i : goal.invariant-loop-i
+invariant-loop-i l =
+    Holds nan (λ (k : ℕ). get_or l.times (1 + k) nan) 256 l.ats l.i
+    × Holds 0 (λ (k : ℕ). get_or l.words (48 + k) 0) 256 l.whos l.i
+    × Holds 0 (λ (k : ℕ). get_or l.words (304 + k) 0) 256 l.takens l.i
+
+abbrev pub decreases-loop-i : goal.decreases-loop-i
+decreases-loop-i l = 256 - l.i

@@ -1,0 +1,40 @@
+-- The clock and the first i completion times stand in their places.
+use borrow.Author.Rules.{rules}
+use native.Mathlib.Omega.{arith}
+use native.Mathlib.Numerals.{add-one}
+use mathlib.Core.Path.{◌≡◌, refl, sym, ap, ◌∙◌}
+use mathlib.Core.List.{List}
+use Prim.Native.Nat.{ℕ, ◌+◌, ◌-◌}
+use lib.ListN.{length}
+use lib.Ieee.{nan}
+use Rattle.rules.specs.Timers.{Timer}
+use Rattle.carried.specs.Timers.{timers_in}
+use Rattle.c_face.specs.Layout.{time_in}
+use Rattle.c_face.proofs.Parts.{Holds, holds_none, holds_more}
+use Rattle.c_face.proofs.Running.{timer_at_lem, timer_past}
+use Rattle.c_face.proofs.halted_words.write_times.Goals as goal
+
+pub loop-i-init : goal.loop-i-init
+loop-i-init c =
+    let ts = c.args.times.now in
+    let long : length ts ≡ 257 = search rules in
+    λ whos takens. holds_more nan (holds_none nan _ ts long) (omega arith) refl
+
+pub loop-i-preserved-then-i-n : goal.loop-i-preserved-then-i-n
+loop-i-preserved-then-i-n c =
+    let l = c.loop-i in
+    let s = c.args in
+    λ whos takens.
+    let x = timer_at_lem s.ats.now whos takens s.n l.i (omega arith) (omega arith) in
+    holds_more nan (l.invariant whos takens) (omega arith) (sym (ap (time_in s.clock _) (add-one l.i) ∙ ap (λ (t : Timer). t.at) x))
+
+pub loop-i-preserved : goal.loop-i-preserved
+loop-i-preserved c =
+    let l = c.loop-i in
+    let s = c.args in
+    λ whos takens.
+    let x = timer_past s.ats.now whos takens s.n l.i (omega arith) in
+    holds_more nan (l.invariant whos takens) (omega arith) (sym (ap (time_in s.clock _) (add-one l.i) ∙ ap (λ (t : Timer). t.at) x))
+
+pub returns : goal.returns
+returns c = λ whos takens i h. (c.loop-i.invariant whos takens).each i (omega arith)

@@ -1,0 +1,28 @@
+-- `c_face::slices::cild_plogs` meets its contract: the loop is a sweep in which the state plays no part. Assumes nothing.
+use borrow.Author.Rules.{rules}
+use native.Mathlib.Omega.{arith}
+use mathlib.Core.Path.{◌≡◌, refl, ◌∙◌}
+use lib.ListN.{length}
+use lib.Ieee.{Float, nan}
+use Rattle.portable_log.specs.Log.{plog}
+use Rattle.c_face.proofs.Sweep.{Sweep, sweep_none, sweep_more, swept_map}
+use Prim.Native.Nat.{ℕ, ◌-◌}
+use Rattle.c_face.proofs.slices.cild_plogs.Goals as goal
+
+pub loop-i-init : goal.loop-i-init
+loop-i-init c = sweep_none _ _ _ _
+
+pub loop-i-preserved : goal.loop-i-preserved
+loop-i-preserved c =
+    let l = c in
+    sweep_more _ _ nan l.loop-i.invariant (omega arith) c.plog.ensures refl
+
+pub shape_of-xs : goal.shape_of-xs
+shape_of-xs c = c.loop-i.invariant.same
+
+pub returns : goal.returns
+returns c =
+    let m = c.loop-i.invariant in
+    let a = c.args in
+    let all : c.loop-i.i ≡ length a.xs.now = omega (arith, m.same) in
+    m.cells ∙ rw all (swept_map plog 0 a.xs.now)

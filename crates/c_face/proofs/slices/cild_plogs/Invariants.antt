@@ -1,0 +1,16 @@
+-- `c_face::slices::cild_plogs` meets its contract: the loop is a sweep in which the state plays no part. Assumes nothing.
+use borrow.Author.Rules.{rules}
+use native.Mathlib.Omega.{arith}
+use mathlib.Core.Path.{◌≡◌, refl, ◌∙◌}
+use lib.ListN.{length}
+use lib.Ieee.{Float, nan}
+use Rattle.portable_log.specs.Log.{plog}
+use Rattle.c_face.proofs.Sweep.{Sweep, sweep_none, sweep_more, swept_map}
+use Prim.Native.Nat.{ℕ, ◌-◌}
+use Rattle.c_face.proofs.slices.cild_plogs.Given as goal
+
+abbrev pub invariant-loop-i : goal.invariant-loop-i
+invariant-loop-i l = Sweep (λ (t : ℕ) (x : Float). plog x) (λ (t : ℕ). t) 0 l.initial.xs 0 l.xs l.i
+
+abbrev pub decreases-loop-i : goal.decreases-loop-i
+decreases-loop-i l = length l.initial.xs - l.i

@@ -1,0 +1,15 @@
+-- `c_face::slices::cild_products` meets its contract: the loop is a sweep in which the state plays no part. Assumes nothing.
+use borrow.Author.Rules.{rules}
+use native.Mathlib.Omega.{arith}
+use mathlib.Core.Path.{◌≡◌, refl, ◌∙◌}
+use lib.ListN.{length}
+use Rattle.words.specs.Product.{product}
+use Rattle.c_face.proofs.Sweep.{Sweep, sweep_none, sweep_more, swept_map}
+use Prim.Native.Nat.{ℕ, ◌-◌}
+use Rattle.c_face.proofs.slices.cild_products.Given as goal
+
+abbrev pub invariant-loop-i : goal.invariant-loop-i
+invariant-loop-i l = Sweep (λ (t : ℕ) (x : ℕ). product x l.by) (λ (t : ℕ). t) 0 l.initial.xs 0 l.xs l.i
+
+abbrev pub decreases-loop-i : goal.decreases-loop-i
+decreases-loop-i l = length l.initial.xs - l.i

@@ -1,0 +1,10 @@
+-- `carry_replay::read_instants` is safe and ends: it fills 2,048 instants at most. Assumes nothing.
+use borrow.Author.Rules.{rules}
+use Prim.Native.Nat.{◌-◌, ◌≤◌}
+use Rattle.carry_replay.proofs.read_instants.Given as goal
+
+abbrev pub invariant-loop-i : goal.invariant-loop-i
+invariant-loop-i l = l.i ≤ 2048
+
+abbrev pub decreases-loop-i : goal.decreases-loop-i
+decreases-loop-i l = 2048 - l.i

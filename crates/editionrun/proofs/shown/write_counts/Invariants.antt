@@ -1,0 +1,9 @@
+-- `shown::write_counts` is safe and ends: p stays at 32 or below. Assumes nothing.
+use Rattle.std.proofs.Common.{◌-◌, ◌≤◌, rules}
+use Rattle.editionrun.proofs.shown.write_counts.Given as goal
+
+abbrev pub invariant-loop-p : goal.invariant-loop-p
+invariant-loop-p l = p ≤ 32
+
+abbrev pub decreases-loop-p : goal.decreases-loop-p
+decreases-loop-p l = 32 - p

@@ -1,0 +1,10 @@
+-- Each return is the arm of the definition that the test leaves. Assumes nothing.
+use borrow.Author.Tests.{eq-eqb, ne_eqb}
+use borrow.Author.Rules.{rules}
+use Rattle.engine.proofs.marking.given.Goals as goal
+
+pub returns-then-kind-eq2 : goal.returns-then-kind-eq2
+returns-then-kind-eq2 c = simp (eq-eqb _ _ c.if-kind-eq2.true, c.amount.ensures)
+
+pub returns : goal.returns
+returns c = simp (ne_eqb _ _ c.if-kind-eq2.false)

@@ -1,0 +1,19 @@
+-- What is copied, then what is left of the group, is the whole group (proofs/Copying). Assumes nothing.
+use borrow.Author.Rules.{rules}
+use native.Mathlib.Omega.{arith}
+use mathlib.Core.Path.{◌∙◌, subst, subst⁻¹}
+use mathlib.Core.List.{List}
+use Prim.Native.Nat.{◌+◌, ◌-◌, ◌≤◌}
+use Rattle.net.specs.Readable.{Slot, slot_at, slots}
+use Rattle.engine.specs.Arcs.{of_group}
+use Rattle.engine.proofs.Arcs.{slots_whole, slots_end}
+use Rattle.engine.proofs.Copying.{Copying, copying_none, copying_turn, copying_fits, copying_one, copied_all}
+use Rattle.engine.proofs.slots.copy_slots.Given as goal
+
+abbrev pub invariant-loop-a : goal.invariant-loop-a
+invariant-loop-a l =
+    (l.from ≤ l.a) × (l.a ≤ l.end)
+    × Copying l.to l.b (of_group l.g (slots l.kind l.place l.weight l.a (l.end - l.a))) (of_group l.g (slots l.kind l.place l.weight l.from l.n)) l.initial.kinds l.initial.places l.initial.weights l.kinds l.places l.weights
+
+abbrev pub decreases-loop-a : goal.decreases-loop-a
+decreases-loop-a l = l.end - l.a

@@ -1,0 +1,16 @@
+-- The test says which of the two the definition picks, and what comes in is the definition's time but for the division.
+use borrow.Author.Rules.{rules}
+use Rattle.portable_log.proofs.Laws.{inf_bits, inf_is_no_nan}
+use Rattle.jump.proofs.waiting.Goals as goal
+
+pub returns-then-a0 : goal.returns-then-a0
+returns-then-a0 c =
+    let test = c.if-a0.true in
+    let start = c in
+    (simp (test, start.requires), simp (test, c.next_u64-d.ensures.1))
+
+pub float_from_bits-result : goal.float_from_bits-result
+float_from_bits-result c = inf_is_no_nan
+
+pub returns : goal.returns
+returns c = (simp (c.if-a0.false, inf_bits), simp c.if-a0.false)

@@ -1,0 +1,18 @@
+-- The invariant: the test of the slots that are left is that of all. Assumes nothing.
+use Prim.Native.Nat.{◌-◌}
+use mathlib.Core.Path.{◌≡◌, refl}
+use borrow.Author.Rules.{rules}
+use borrow.Author.Tests.{le-leb, lt-leb}
+use lib.Dec.{leb}
+use Rattle.net.specs.Tests.{any}
+use Rattle.net.specs.Readable.{Slot, slots}
+use Rattle.net.proofs.Slots.{or_stop, or_go, any_turn, any_end}
+use Rattle.net.proofs.arcs.no_such_place.Given as goal
+
+abbrev pub invariant-loop-slot : goal.invariant-loop-slot
+invariant-loop-slot t =
+    any (λ (l : Slot). leb t.places l.place) (slots t.kind t.place t.weight t.slot (t.end - t.slot))
+    ≡ any (λ (l : Slot). leb t.places l.place) (slots t.kind t.place t.weight t.from (t.end - t.from))
+
+abbrev pub decreases-loop-slot : goal.decreases-loop-slot
+decreases-loop-slot l = l.end - l.slot

@@ -1,0 +1,27 @@
+-- The invariant: the test of the slots that are left is that of all. Assumes nothing.
+use Prim.Native.Nat.{◌-◌}
+use mathlib.Core.Path.{◌≡◌, refl}
+use mathlib.Core.Bool.{◌||◌}
+use borrow.Author.Rules.{rules}
+use borrow.Author.Tests.{lt-ltb, le-ltb}
+use lib.Dec.{ltb}
+use lib.ListN.{get_or}
+use Rattle.net.specs.Tests.{any}
+use Rattle.net.specs.Readable.{Slot, slots}
+use Rattle.net.proofs.Slots.{or_first, or_second, or_neither, or_stop, or_go, any_turn, any_end}
+use Rattle.net.proofs.arcs.outside_arc.Goals as goal
+
+pub loop-slot-init : goal.loop-slot-init
+loop-slot-init c = refl
+
+pub returns-then-kind-slot-gt-BLOCK : goal.returns-then-kind-slot-gt-BLOCK
+returns-then-kind-slot-gt-BLOCK c = let l = c in or_stop _ _ (any_turn _ _ _ _ _ _ l.loop-slot-test.true l.loop-slot.invariant) (or_first _ (lt-ltb _ _ c.if-kind-slot-gt-BLOCK.true))
+
+pub returns-then-weight-slot-gt-MOST_WEIGHT : goal.returns-then-weight-slot-gt-MOST_WEIGHT
+returns-then-weight-slot-gt-MOST_WEIGHT c = let l = c in or_stop _ _ (any_turn _ _ _ _ _ _ l.loop-slot-test.true l.loop-slot.invariant) (or_second (ltb 4 (get_or l.args.kind.now l.loop-slot.slot 0)) (lt-ltb _ _ c.if-weight-slot-gt-MOST_WEIGHT.true))
+
+pub loop-slot-preserved : goal.loop-slot-preserved
+loop-slot-preserved c = let l = c in or_go _ _ (any_turn _ _ _ _ _ _ l.loop-slot-test.true l.loop-slot.invariant) (or_neither (le-ltb _ _ c.if-kind-slot-gt-BLOCK.false) (le-ltb _ _ c.if-weight-slot-gt-MOST_WEIGHT.false))
+
+pub returns : goal.returns
+returns c = any_end _ _ _ _ _ _ c.loop-slot-test.false c.loop-slot.invariant

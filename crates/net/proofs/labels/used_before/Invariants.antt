@@ -1,0 +1,18 @@
+-- The invariant: the test of the labels that are left is that of all. Assumes nothing.
+use Prim.Native.Nat.{ℕ, ◌-◌}
+use mathlib.Core.Path.{◌≡◌, sym, ap, ◌∙◌}
+use borrow.Author.Rules.{rules}
+use Rattle.text.specs.Text.{same}
+use Rattle.net.specs.Tests.{any}
+use Rattle.net.specs.Labels.{label_at, labels_from}
+use Rattle.net.proofs.Slots.{or_stop, or_go}
+use Rattle.net.proofs.Faults.{minus_zero}
+use Rattle.net.proofs.Naming.{labels_turn, labels_end}
+use Rattle.net.proofs.labels.used_before.Given as goal
+
+abbrev pub invariant-loop-q : goal.invariant-loop-q
+invariant-loop-q l =
+    any (same (label_at l.label l.lengths l.p)) (labels_from l.label l.lengths l.q (l.p - l.q)) ≡ any (same (label_at l.label l.lengths l.p)) (labels_from l.label l.lengths 0 l.p)
+
+abbrev pub decreases-loop-q : goal.decreases-loop-q
+decreases-loop-q l = l.p - l.q

@@ -1,0 +1,16 @@
+-- `hexadecimal` meets its contract: the digits that are left, behind the value so far, give the number; i digits are below 16 ^ i (Hexadecimal). Assumes nothing.
+use borrow.Author.Rules.{rules}
+use native.Mathlib.Omega.{arith}
+use mathlib.Core.Path.{◌≡◌, sym, ◌∙◌}
+use Prim.Native.Nat.{◌+◌, ◌-◌, ◌^◌, ◌≤◌, ◌<◌}
+use lib.ListN.{length, drop, length-drop}
+use native.Mathlib.Nat.{add-zero}
+use Rattle.net_text.specs.Forms.{hex_from, hexadecimal}
+use Rattle.net_text.proofs.Hexadecimal.{hex_short, hex_more, hex_stop, ne_below, room, wider}
+use Rattle.net_text.proofs.scan.hexadecimal.Given as goal
+
+abbrev pub invariant-loop-i : goal.invariant-loop-i
+invariant-loop-i l = (l.at + 16 ≤ length l.line) × (l.i ≤ 16) × (l.bits < 16 ^ l.i) × (hex_from (16 - l.i) l.bits (drop (l.at + l.i) l.line) ≡ hexadecimal (drop l.at l.line))
+
+abbrev pub decreases-loop-i : goal.decreases-loop-i
+decreases-loop-i l = 16 - l.i

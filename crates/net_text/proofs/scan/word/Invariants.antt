@@ -1,0 +1,16 @@
+-- `word` meets its contract: what is left of the word, against what is left of the line, gives the same as the whole word (Forms). Assumes nothing.
+use borrow.Author.Rules.{rules}
+use native.Mathlib.Omega.{arith}
+use mathlib.Core.Path.{◌≡◌, sym, ◌∙◌}
+use Prim.Native.Nat.{◌+◌, ◌-◌, ◌≤◌}
+use lib.ListN.{length, drop, length-drop}
+use native.Mathlib.Nat.{add-zero}
+use Rattle.net_text.specs.Forms.{exactly}
+use Rattle.net_text.proofs.Forms.{word_short, word_same, word_other, word_whole}
+use Rattle.net_text.proofs.scan.word.Given as goal
+
+abbrev pub invariant-loop-i : goal.invariant-loop-i
+invariant-loop-i l = (l.at + length l.w ≤ length l.line) × (l.i ≤ length l.w) × (exactly (drop l.i l.w) (drop (l.at + l.i) l.line) ≡ exactly l.w (drop l.at l.line))
+
+abbrev pub decreases-loop-i : goal.decreases-loop-i
+decreases-loop-i l = length l.w - l.i

@@ -1,0 +1,6 @@
+-- The generator is that of the seed. Assumes nothing.
+use borrow.Author.Rules.{rules}
+use Rattle.normals.proofs.GaussianSampler.new.Goals as goal
+
+pub returns : goal.returns
+returns c = cc

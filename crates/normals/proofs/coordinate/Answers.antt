@@ -1,0 +1,6 @@
+-- The draw is what its contract says. Assumes nothing.
+use borrow.Author.Rules.{rules}
+use Rattle.normals.proofs.coordinate.Goals as goal
+
+pub returns : goal.returns
+returns c = (cc, cc)

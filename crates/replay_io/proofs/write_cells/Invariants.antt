@@ -1,0 +1,10 @@
+-- `replay_io::write_cells` is safe and ends: it looks at 2,048 cells at most. Assumes nothing.
+use borrow.Author.Rules.{rules}
+use Prim.Native.Nat.{◌-◌, ◌≤◌}
+use Rattle.replay_io.proofs.write_cells.Given as goal
+
+abbrev pub invariant-loop-i : goal.invariant-loop-i
+invariant-loop-i l = l.i ≤ 2048
+
+abbrev pub decreases-loop-i : goal.decreases-loop-i
+decreases-loop-i l = 2048 - l.i

@@ -1,0 +1,6 @@
+-- `rng::mixed` meets its contract: what the two products ensure, put together. Assumes nothing.
+use Rattle.std.proofs.Common.{rules}
+use Rattle.rng.proofs.mixed.Goals as goal
+
+pub returns : goal.returns
+returns c = cc

@@ -1,0 +1,33 @@
+-- What is left, on top of d, comes to the whole. Assumes nothing.
+use Rattle.net.specs.Net.{zero64}
+use Rattle.net.specs.Readable.{slots, takes_of}
+use Rattle.sde.specs.Diffusion.{less_takes}
+use Rattle.sde.proofs.Changes.{less_turn, less_end}
+use borrow.Author.Rules.{rules}
+use native.Mathlib.Omega.{arith}
+use mathlib.Core.Path.{◌≡◌, refl, ◌∙◌}
+use Prim.Native.Nat.{◌-◌, ◌≤◌}
+use Rattle.sde.proofs.change.less_takes.Goals as goal
+
+pub loop-a-init : goal.loop-a-init
+loop-a-init c = (omega arith, refl)
+
+pub less-d-requires : goal.less-d-requires
+less-d-requires c =
+    let l = c in
+    l.requires.1 l.loop-a.a l.loop-a.invariant.0 c.loop-a-test.true
+
+pub loop-a-preserved : goal.loop-a-preserved
+loop-a-preserved c =
+    let l = c in
+    let s = l.args in (
+      omega arith,
+      less_turn s.kind.now s.place.now s.weight.now l.loop-a.a s.end s.p l.loop-a.d c.loop-a-test.true c.less-d.result c.less-d.ensures
+          ∙ l.loop-a.invariant.1,
+    )
+
+pub returns : goal.returns
+returns c =
+    let l = c in
+    let s = l.args in
+    less_end s.kind.now s.place.now s.weight.now l.loop-a.a s.end s.p l.loop-a.d c.loop-a-test.false ∙ l.loop-a.invariant.1

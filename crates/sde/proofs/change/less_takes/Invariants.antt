@@ -1,0 +1,17 @@
+-- What is left, on top of d, comes to the whole. Assumes nothing.
+use Rattle.net.specs.Net.{zero64}
+use Rattle.net.specs.Readable.{slots, takes_of}
+use Rattle.sde.specs.Diffusion.{less_takes}
+use Rattle.sde.proofs.Changes.{less_turn, less_end}
+use borrow.Author.Rules.{rules}
+use native.Mathlib.Omega.{arith}
+use mathlib.Core.Path.{◌≡◌, refl, ◌∙◌}
+use Prim.Native.Nat.{◌-◌, ◌≤◌}
+use Rattle.sde.proofs.change.less_takes.Given as goal
+
+abbrev pub invariant-loop-a : goal.invariant-loop-a
+invariant-loop-a l =
+    (l.from ≤ l.a) × (less_takes l.p l.d (takes_of (slots l.kind l.place l.weight l.a (l.end - l.a))) ≡ less_takes l.p zero64 (takes_of (slots l.kind l.place l.weight l.from (l.end - l.from))))
+
+abbrev pub decreases-loop-a : goal.decreases-loop-a
+decreases-loop-a l = l.end - l.a

@@ -1,0 +1,13 @@
+-- No place from p to before q is changed; the test, or the end of the places, says the rest. Assumes nothing.
+use Rattle.sde.proofs.Skips.{Idle, idle_none, idle_more, skip_here}
+use borrow.Author.Rules.{rules}
+use native.Mathlib.Omega.{arith}
+use mathlib.Core.Path.{refl}
+use Prim.Native.Nat.{◌-◌}
+use Rattle.sde.proofs.change.next_changed.Given as goal
+
+abbrev pub invariant-loop-q : goal.invariant-loop-q
+invariant-loop-q l = Idle l.places l.from l.changes l.p l.q
+
+abbrev pub decreases-loop-q : goal.decreases-loop-q
+decreases-loop-q l = l.places - l.q

@@ -1,0 +1,16 @@
+-- What is left, on top of d, comes to the whole. Assumes nothing.
+use Rattle.net.specs.Readable.{slots, arcs_of, is_put}
+use Rattle.sde.specs.Diffusion.{plus_puts}
+use Rattle.sde.proofs.Changes.{more_turn, more_end}
+use borrow.Author.Rules.{rules}
+use native.Mathlib.Omega.{arith}
+use mathlib.Core.Path.{◌≡◌, refl, ◌∙◌}
+use Prim.Native.Nat.{◌-◌, ◌≤◌}
+use Rattle.sde.proofs.change.plus_puts.Given as goal
+
+abbrev pub invariant-loop-a : goal.invariant-loop-a
+invariant-loop-a l =
+    (l.from ≤ l.a) × (plus_puts l.p l.d (arcs_of is_put (slots l.kind l.place l.weight l.a (l.end - l.a))) ≡ plus_puts l.p l.first (arcs_of is_put (slots l.kind l.place l.weight l.from (l.end - l.from))))
+
+abbrev pub decreases-loop-a : goal.decreases-loop-a
+decreases-loop-a l = l.end - l.a

@@ -1,0 +1,18 @@
+-- The rates below j are tidied. Assumes nothing.
+use borrow.Author.Count.{below_none}
+use lib.ListN.{length, get_or, length-set}
+use lib.Ieee.{nan}
+use Rattle.sde.specs.Slots.{tidy}
+use Rattle.sde.proofs.Changes.{cells_more}
+use borrow.Author.Rules.{rules}
+use native.Mathlib.Omega.{arith}
+use mathlib.Core.Path.{◌≡◌, ◌∙◌}
+use Prim.Native.Nat.{ℕ, ◌-◌, ◌<◌}
+use Rattle.sde.proofs.propensity.fill_rates.Given as goal
+
+abbrev pub invariant-loop-j : goal.invariant-loop-j
+invariant-loop-j l =
+    (length l.rates ≡ 64) × ((b : ℕ) → b < l.j → get_or l.rates b nan ≡ tidy (get_or l.rate b nan) (get_or l.delay b nan))
+
+abbrev pub decreases-loop-j : goal.decreases-loop-j
+decreases-loop-j l = l.transitions - l.j

@@ -1,0 +1,23 @@
+-- State and drift below p have the transition's noise and drift: a skip steps over places that both leave as they are, to one that is changed.
+-- Assumes nothing.
+use lib.ListN.{get_or, set}
+use lib.Ieee.{Float, nan, binary64, add, mul, eq}
+use mathlib.Core.Path.{◌≡◌}
+use mathlib.Core.Bool.{false}
+use mathlib.Core.List.{List}
+use Rattle.net.specs.Net.{zero64}
+use Rattle.sde.specs.Diffusion.{noise_by, drift_by}
+use Rattle.sde.proofs.Each.{MapTo, map_none, map_more, map_all}
+use Rattle.sde.proofs.Skips.{skips_first, map_skip, noise_idle, drift_idle, noise_changed, drift_changed}
+use borrow.Author.Rules.{rules}
+use native.Mathlib.Omega.{arith}
+use Prim.Native.Nat.{ℕ, ◌+◌, ◌-◌, ◌*◌, ◌≤◌, ◌<◌}
+use Rattle.sde.proofs.substep.spread.Given as goal
+
+abbrev pub invariant-loop-p : goal.invariant-loop-p
+invariant-loop-p l =
+    (l.p ≤ l.places) × MapTo (noisy l.changes l.j l.noise) l.p l.initial.x l.x × MapTo (drifting l.changes l.j l.a l.dt) l.p l.initial.drift l.drift
+    × (l.p < l.places → eq (get_or l.changes (32 * l.j + l.p) nan) zero64 ≡ false)
+
+abbrev pub decreases-loop-p : goal.decreases-loop-p
+decreases-loop-p l = l.places - l.p

@@ -1,0 +1,47 @@
+-- The sums start from cleared cells; what is made of them is the answer (proofs/Summing, stopped_call and finished-call). Assumes nothing.
+use borrow.Author.Rules.{rules}
+use Prim.Native.Nat.{◌*◌}
+use lib.ListN.{length}
+use Rattle.net.specs.Readable.{readable}
+use Rattle.net.specs.Record.{lent}
+use Rattle.ssa.specs.Summing.{drawn, paths_from}
+use Rattle.ssa.proofs.Summing.{cleared_once, stopped_call, finished_call}
+use Rattle.ssa.proofs.averaging.averaged.Goals as goal
+
+pub sum_paths-s-requires : goal.sum_paths-s-requires
+sum_paths-s-requires c =
+    let m = c.clear in
+    let d = c.clear-2 in
+    let s = c in
+    let a = s.args in
+    let cells = a.places * length a.instants.now in (
+      s.requires.0,
+      s.requires.1,
+      s.requires.4,
+      cleared_once cells a.mean.now m.new.0 m.ensures,
+      cleared_once cells a.deviation.now d.new.0 d.ensures,
+    )
+
+pub returns-in-Stopped : goal.returns-in-Stopped
+returns-in-Stopped c =
+    let p = c.sum_paths-s in
+    let m = c.clear in
+    let d = c.clear-2 in
+    let a = c.args in
+    let net = readable (lent a.places a.transitions a.initial.now a.capacity.now a.rate.now a.delay.now a.arcs.now a.kind.now a.place.now a.weight.now) in
+    stopped_call (paths_from (drawn net a.seed a.instants.now a.steps) 0 a.realizations) a.places (length a.instants.now) a.realizations a.mean.now a.deviation.now a.path.now
+    m.new.0 d.new.0 p.new.1.1.1.1.1.1.1.1.1.1.1.1.1.1.1.1.1.1.1.1.0 p.new.1.1.1.1.1.1.1.1.1.1.1.1.1.1.1.1.1.1.1.1.1.0 p.new.1.1.1.1.1.1.1.1.1.1.1.1.1.1.1.1.1.1.1.1.1.1.0 m.ensures d.ensures
+    _ _ c.clear-in-Stopped.new.0 c.clear-in-Stopped-2.new.0 p.result c.in-Stopped.is p.ensures c.clear-in-Stopped.ensures c.clear-in-Stopped-2.ensures
+
+pub returns-in-Done : goal.returns-in-Done
+returns-in-Done c =
+    let f = c.finish-deviates in
+    let p = c.sum_paths-s in
+    let m = c.clear in
+    let d = c.clear-2 in
+    let s = c in
+    let a = s.args in
+    let net = readable (lent a.places a.transitions a.initial.now a.capacity.now a.rate.now a.delay.now a.arcs.now a.kind.now a.place.now a.weight.now) in
+    finished_call (paths_from (drawn net a.seed a.instants.now a.steps) 0 a.realizations) a.places (length a.instants.now) a.realizations a.mean.now a.deviation.now a.path.now
+    m.new.0 d.new.0 p.new.1.1.1.1.1.1.1.1.1.1.1.1.1.1.1.1.1.1.1.1.0 p.new.1.1.1.1.1.1.1.1.1.1.1.1.1.1.1.1.1.1.1.1.1.0 p.new.1.1.1.1.1.1.1.1.1.1.1.1.1.1.1.1.1.1.1.1.1.1.0 m.ensures d.ensures
+    _ f.result f.new.1.1.0 f.new.1.1.1.0 p.result c.in-Done.is s.requires.3 p.ensures f.ensures.0 f.ensures.1 f.ensures.2

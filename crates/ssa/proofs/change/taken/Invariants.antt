@@ -1,0 +1,12 @@
+-- The loop adds what the timers before timer i took; with what is left it is the whole, and each took at most 16,000,000 (Changed).
+use borrow.Author.Rules.{rules}
+use native.Mathlib.Omega.{arith}
+use Prim.Native.Nat.{◌-◌}
+use Rattle.ssa.proofs.Changed.{Adding, adding_none, adding_all, adding_few, adding_more}
+use Rattle.ssa.proofs.change.taken.Given as goal
+
+abbrev pub invariant-loop-i : goal.invariant-loop-i
+invariant-loop-i l = Adding l.takens l.n l.total l.i
+
+abbrev pub decreases-loop-i : goal.decreases-loop-i
+decreases-loop-i l = l.n - l.i

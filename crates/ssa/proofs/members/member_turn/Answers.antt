@@ -1,0 +1,42 @@
+-- A refused path leaves the sums alone; any other is added to both (proofs/Summing, turn-stops and turn-goes). Assumes nothing.
+use borrow.Author.Rules.{rules}
+use native.Mathlib.Omega.{arith}
+use mathlib.Core.Path.{refl}
+use lib.ListN.{length}
+use Rattle.net.specs.Readable.{readable}
+use Rattle.net.specs.Record.{lent}
+use Rattle.rng.specs.Splitmix.{seeded}
+use Rattle.averages.specs.Request.{seed_of}
+use Rattle.ssa.specs.Summing.{drawn}
+use Rattle.ssa.proofs.Accepted.{fitting, cells_fit}
+use Rattle.ssa.proofs.Answered.{not_refused}
+use Rattle.ssa.proofs.Summing.{one_by_spent_lem, turn_stops, turn_goes}
+use Rattle.ssa.proofs.members.member_turn.Goals as goal
+
+pub returns-in-Refused : goal.returns-in-Refused
+returns-in-Refused c =
+    let p = c.one_path-r in
+    let a = c.args in
+    let net = readable (lent a.places a.transitions a.initial.now a.capacity.now a.rate.now a.delay.now a.arcs.now a.kind.now a.place.now a.weight.now) in
+    let xs = a.instants.now in
+    turn_stops a.places (length xs) a.spent (seeded (seed_of a.seed a.k)) a.mean.now a.mean.now a.deviation.now a.deviation.now a.path.now p.new.1.1.1.1.1.1.1.1.1.1.1.1.1.1.1.1.1.1.1.1.0 p.result
+    c.in-Refused.c (drawn net a.seed xs a.steps a.k) p.ensures c.in-Refused.is refl refl
+
+pub overflow_mul-cells : goal.overflow_mul-cells
+overflow_mul-cells c =
+    let s = c in
+    record { fits = cells_fit _ _ s.requires.0.tidy.places (fitting s.args.instants.now s.requires.0.fit).few }
+
+pub overflow_add-many : goal.overflow_add-many
+overflow_add-many c = omega (arith, c.before.before.requires.2, c.one_if_spent.ensures, one_by_spent_lem c.one_path-r.result.end)
+
+pub returns : goal.returns
+returns c =
+    let p = c.one_path-r in
+    let m = c.add in
+    let d = c.add_squares in
+    let a = c.before.before.args in
+    let net = readable (lent a.places a.transitions a.initial.now a.capacity.now a.rate.now a.delay.now a.arcs.now a.kind.now a.place.now a.weight.now) in
+    let xs = a.instants.now in
+    turn_goes a.places (length xs) a.spent (seeded (seed_of a.seed a.k)) a.mean.now m.new.1.1.0 a.deviation.now d.new.1.1.0 a.path.now p.new.1.1.1.1.1.1.1.1.1.1.1.1.1.1.1.1.1.1.1.1.0 p.result
+    c.one_if_spent.result _ (drawn net a.seed xs a.steps a.k) p.ensures (not_refused p.result.end c.in_default.in_default-own.keys2) c.one_if_spent.ensures refl m.ensures d.ensures

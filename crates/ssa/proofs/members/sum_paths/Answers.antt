@@ -1,0 +1,55 @@
+-- The paths below k are added (proofs/Summing, SumsAt); a turn adds one more or ends it. The measure is what is left of them. Assumes nothing.
+use borrow.Author.Rules.{rules}
+use native.Mathlib.Omega.{arith}
+use Prim.Native.Nat.{◌-◌}
+use lib.ListN.{length}
+use Rattle.net.specs.Readable.{readable}
+use Rattle.net.specs.Record.{lent}
+use Rattle.ssa.specs.Summing.{drawn}
+use Rattle.ssa.proofs.Summing.{SumsAt, drawn_count, none_added, one_added, one_refused, all_added}
+use Rattle.ssa.proofs.members.sum_paths.Goals as goal
+
+pub loop-k-init : goal.loop-k-init
+loop-k-init c =
+    let s = c in
+    let a = s.args in
+    let net = readable (lent a.places a.transitions a.initial.now a.capacity.now a.rate.now a.delay.now a.arcs.now a.kind.now a.place.now a.weight.now) in
+    none_added (drawn net a.seed a.instants.now a.steps) a.places (length a.instants.now) a.realizations a.mean.now a.deviation.now a.path.now s.requires.3 s.requires.4
+
+pub member_turn-t-requires : goal.member_turn-t-requires
+member_turn-t-requires c =
+    let l = c.loop-k.invariant in
+    let s = c in
+    (s.requires.0, omega (arith, s.requires.2, l.long_path), omega (arith, s.requires.1, l.few, c.loop-k-test.true))
+
+pub returns-in-Stopped : goal.returns-in-Stopped
+returns-in-Stopped c =
+    let t = c.member_turn-t in
+    let l = c.loop-k in
+    let a = c.args in
+    let net = readable (lent a.places a.transitions a.initial.now a.capacity.now a.rate.now a.delay.now a.arcs.now a.kind.now a.place.now a.weight.now) in
+    one_refused (drawn net a.seed a.instants.now a.steps) a.places (length a.instants.now) a.realizations a.mean.now a.deviation.now a.path.now
+    l.k l.spent l.mean l.deviation l.path l.invariant c.loop-k-test.true
+    c.in-Stopped.c t.new.1.1.1.1.1.1.1.1.1.1.1.1.1.1.1.1.1.1.1.1.1.0 t.new.1.1.1.1.1.1.1.1.1.1.1.1.1.1.1.1.1.1.1.1.1.1.0 t.new.1.1.1.1.1.1.1.1.1.1.1.1.1.1.1.1.1.1.1.1.1.1.1.0 t.result c.in-Stopped.is t.ensures
+
+pub loop-k-smaller : goal.loop-k-smaller
+loop-k-smaller c = omega (arith, c.loop-k-test.true)
+
+pub loop-k-preserved : goal.loop-k-preserved
+loop-k-preserved c =
+    let t = c.member_turn-t in
+    let l = c.loop-k in
+    let s = c in
+    let a = s.args in
+    let net = readable (lent a.places a.transitions a.initial.now a.capacity.now a.rate.now a.delay.now a.arcs.now a.kind.now a.place.now a.weight.now) in
+    one_added (drawn net a.seed a.instants.now a.steps) a.places (length a.instants.now) a.realizations a.mean.now a.deviation.now a.path.now
+    l.k l.spent l.mean l.deviation l.path l.invariant c.loop-k-test.true
+    c.in-Went.s t.new.1.1.1.1.1.1.1.1.1.1.1.1.1.1.1.1.1.1.1.1.1.0 t.new.1.1.1.1.1.1.1.1.1.1.1.1.1.1.1.1.1.1.1.1.1.1.0 t.new.1.1.1.1.1.1.1.1.1.1.1.1.1.1.1.1.1.1.1.1.1.1.1.0 s.requires.2 (drawn_count net a.seed a.instants.now a.steps l.k) t.result c.in-Went.is t.ensures
+
+pub returns : goal.returns
+returns c =
+    let l = c.loop-k in
+    let a = c.args in
+    let net = readable (lent a.places a.transitions a.initial.now a.capacity.now a.rate.now a.delay.now a.arcs.now a.kind.now a.place.now a.weight.now) in
+    all_added (drawn net a.seed a.instants.now a.steps) a.places (length a.instants.now) a.realizations a.mean.now a.deviation.now a.path.now
+    l.k l.spent l.mean l.deviation l.path l.invariant c.loop-k-test.false

@@ -1,0 +1,19 @@
+-- The paths below k are added (proofs/Summing, SumsAt); a turn adds one more or ends it. The measure is what is left of them. Assumes nothing.
+use borrow.Author.Rules.{rules}
+use native.Mathlib.Omega.{arith}
+use Prim.Native.Nat.{◌-◌}
+use lib.ListN.{length}
+use Rattle.net.specs.Readable.{readable}
+use Rattle.net.specs.Record.{lent}
+use Rattle.ssa.specs.Summing.{drawn}
+use Rattle.ssa.proofs.Summing.{SumsAt, drawn_count, none_added, one_added, one_refused, all_added}
+use Rattle.ssa.proofs.members.sum_paths.Given as goal
+
+abbrev pub invariant-loop-k : goal.invariant-loop-k
+invariant-loop-k l =
+    SumsAt (drawn (readable (lent l.places l.transitions l.initial' l.capacity l.rate l.delay l.arcs l.kind l.place l.weight)) l.seed l.instants l.steps) l.places (length l.instants) l.realizations l.k l.spent
+    l.initial.mean l.mean l.initial.deviation l.deviation l.initial.path l.path
+
+abbrev pub decreases-loop-k : goal.decreases-loop-k
+decreases-loop-k l =
+    l.realizations - l.k

@@ -1,0 +1,63 @@
+-- The beginning shows the instants at most 0, and the run from there is the path's (proofs/Answered, path-answered).
+use borrow.Author.Rules.{rules}
+use native.Mathlib.Omega.{arith}
+use mathlib.Core.Path.{refl, ap, sym, subst, ◌∙◌}
+use mathlib.Core.Logic.{inl}
+use lib.ListN.{drop, replicate}
+use Rattle.net.specs.Net.{zero64}
+use Rattle.net.specs.Readable.{readable}
+use Rattle.net.specs.Record.{lent}
+use Rattle.rng.specs.State.{words}
+use Rattle.rules.specs.Step.{state, Answer}
+use Rattle.rules.specs.Shown.{last_of}
+use Rattle.rules.specs.Moments.{taken_by_timers}
+use Rattle.rules.proofs.Play.{Played, higher, play}
+use Rattle.timers.specs.InOrder.{in_order}
+use Rattle.engine.specs.Engine.{marking}
+use Rattle.playing.specs.Playing.{PlayedBy}
+use Rattle.playing.specs.Stepping.{Light, state_of}
+use Rattle.ssa.proofs.Answered.{path_answered}
+use Rattle.playing.proofs.Playing.{shown_within}
+use Rattle.ssa.proofs.start.play.Goals as goal
+
+pub play_on-w-requires : goal.play_on-w-requires
+play_on-w-requires c =
+    let a = c in
+    let s = a.args in
+    let b = c.begin-s in
+    let none = b.ensures.2.list (replicate 256 zero64) (replicate 512 0) in (
+      record {
+        tidy = a.requires.0;
+        limits = a.requires.1;
+        small = a.requires.2;
+        light = subst Light (sym none) tt;
+        sound = λ t. ap in_order none;
+      },
+      record { most = omega arith; few = omega arith },
+      a.requires.4,
+      a.requires.5,
+      shown_within s.places s.instants.now _ _ 0 b.result.next s.table.now b.new.1.0 b.ensures.0 (omega arith),
+      a.requires.6,
+      omega (arith, a.requires.8, b.ensures.0.cells.long),
+      inl (omega (arith, b.ensures.3, b.ensures.4, ap taken_by_timers none)),
+      omega (arith, b.ensures.3, ap taken_by_timers none),
+    )
+
+pub returns : goal.returns
+returns c =
+    let a = c in
+    let s = a.args in
+    let b = c.begin-s in
+    let p = c.play_on-w in
+    let net = lent s.places s.transitions s.initial.now s.capacity.now s.rate.now s.delay.now s.arcs.now s.kind.now s.place.now s.weight.now in
+    let xs = s.instants.now in
+    let m = marking s.places s.counts.now in
+    let t = p.new.1.1.1.1.1.1.1.1.1.1.1.1.1.1.1.1.1.1.1.1.1.1.1.1.0 in
+    let none = b.ensures.2.list (replicate 256 zero64) (replicate 512 0) in
+    let left = state_of net p.new.1.1.1.1.1.1.1.1.1.1.1.1.1.1.1.1.0 p.new.1.1.1.1.1.1.1.1.1.1.1.1.1.1.1.1.1.0 p.new.1.1.1.1.1.1.1.1.1.1.1.1.1.1.1.1.1.1.0 p.result.timers p.result.clock p.result.rng.s in
+    c.answer.ensures t
+    ∙ path_answered (readable net) (words s.rng.s) xs s.steps s.places b.result.next b.result.peak m s.table.now b.new.1.0
+    a.requires.7 a.requires.3 (b.ensures.4 ∙ b.ensures.3) a.requires.8 b.ensures.0 p.result left t refl p.result.end
+    (subst (λ (v : Answer Played). PlayedBy v s.places xs b.result.next b.new.1.0 t left p.result p.result.end)
+    (λ i. higher b.result.peak (play 256 (readable net) (last_of xs) s.steps (drop b.result.next xs) (state (b.ensures.1 i) m (none i) (words (b.ensures.5 i).s))))
+    p.ensures)

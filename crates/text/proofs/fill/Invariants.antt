@@ -1,0 +1,19 @@
+-- `fill` meets its contract. The invariant: the k digits still to be written, placed in front of those that stand, are all of them placed.
+use borrow.Author.Rules.{rules}
+use native.Mathlib.Omega.{arith}
+use mathlib.Core.Path.{◌≡◌, refl, sym, ◌∙◌}
+use Prim.Native.Nat.{◌+◌, ◌-◌, ◌/◌, ◌%◌, ◌≤◌, ◌<◌}
+use lib.ListN.{length, set, length-set}
+use native.Mathlib.Nat.{mod-lt}
+use Rattle.text.specs.Numbers.{digit, low_digits}
+use Rattle.text.specs.Buffer.{placed}
+use Rattle.text.proofs.Places.{placed_none, placed_last}
+use Rattle.text.proofs.Digits.{low_length, low_last}
+use Rattle.text.proofs.fill.Given as goal
+
+abbrev pub invariant-loop-k : goal.invariant-loop-k
+invariant-loop-k l =
+    (placed l.out l.at (low_digits l.base l.k l.rest) ≡ placed l.initial.out l.at (low_digits l.base l.count l.n)) × (l.k ≤ l.count) × (length l.out ≡ length l.initial.out)
+
+abbrev pub decreases-loop-k : goal.decreases-loop-k
+decreases-loop-k l = l.k

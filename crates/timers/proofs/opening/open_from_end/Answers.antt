@@ -1,0 +1,60 @@
+-- Every timer passed completes later and has moved one place up; the first that does not ends it.
+use borrow.Author.Rules.{rules}
+use native.Mathlib.Omega.{arith}
+use mathlib.Core.Path.{◌≡◌, sym, ap, ◌∙◌}
+use mathlib.Core.Bool.{true}
+use Prim.Native.Nat.{◌+◌, ◌-◌, ◌≤◌}
+use lib.Ieee.{lt}
+use Rattle.rules.specs.Timers.{Timer}
+use Rattle.timers.specs.Slots.{EachLater, MovedUp}
+use Rattle.timers.specs.Turning.{held}
+use Rattle.timers.proofs.Places.{up_none, up_one, each_none, each_less, just_before, none_before}
+use Rattle.timers.proofs.opening.open_from_end.Goals as goal
+
+pub loop-i-init : goal.loop-i-init
+loop-i-init c = (search rules, each_none _ _ _ _, up_none _ _ _)
+
+pub loop-i-preserved : goal.loop-i-preserved
+loop-i-preserved c =
+    let l = c.before.loop in
+    let s = c in
+    let x = c.read-x.ensures in
+    let a = c.slot.ensures in
+    let j = s.args.start + (l.i - 1) in
+    let same = x ∙ ap (held l.ats l.owners) a ∙ l.invariant.2.below j (omega arith) (omega arith) in
+    let test = ap (λ (t : Timer). lt s.args.at t.at) (sym same) ∙ c.if-at-x.true in (
+      omega arith,
+      each_less true s.args.at s.args.ats.now (s.args.start + l.i) j _ (omega arith) l.invariant.1 test,
+      up_one s.args.start j (s.args.start + l.i) (s.args.start + s.args.n) _ (held l.ats l.owners) _
+          (omega arith) (omega arith) (omega arith) (omega arith) l.invariant.2 a x c.slot-then-at-x.ensures c.write.ensures,
+    )
+
+pub returns-else-at-x : goal.returns-else-at-x
+returns-else-at-x c =
+    let l = c.before.loop in
+    let s = c in
+    let x = c.read-x.ensures in
+    let a = c.slot.ensures in
+    let j = s.args.start + (l.i - 1) in
+    let same = x ∙ ap (held l.ats l.owners) a ∙ l.invariant.2.below j (omega arith) (omega arith) in
+    let test = ap (λ (t : Timer). lt s.args.at t.at) (sym same) ∙ c.if-at-x.false in (
+      record {
+        within = omega arith;
+        later = l.invariant.1;
+        earlier = just_before s.args.at s.args.start (s.args.start + l.i) j s.args.ats.now (omega arith) test;
+      },
+      l.invariant.2,
+    )
+
+pub returns : goal.returns
+returns c =
+    let l = c.loop-i in
+    let s = c in
+    let none : l.i ≡ 0 = omega arith in (
+      record {
+        within = omega arith;
+        later = rw none at l.invariant.1;
+        earlier = none_before s.args.at s.args.start (s.args.start + 0) s.args.ats.now (omega arith);
+      },
+      rw none at l.invariant.2,
+    )

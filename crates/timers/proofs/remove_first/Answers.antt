@@ -1,0 +1,13 @@
+-- The list from the next place on is the others; an empty list stays.
+use borrow.Author.Rules.{rules}
+use native.Mathlib.Omega.{arith}
+use Rattle.timers.proofs.Rings.{removed_none, removed_one}
+use Rattle.timers.proofs.remove_first.Goals as goal
+
+pub returns-then-n-eq0 : goal.returns-then-n-eq0
+returns-then-n-eq0 c = removed_none c.args.ring (omega arith)
+
+pub returns : goal.returns
+returns c =
+    let n = c.count-n in
+    removed_one c.args.ring n.result c.slot.result n.ensures c.if-n-eq0.false c.slot.ensures

@@ -1,0 +1,30 @@
+-- From the last one down, each timer goes one place up, into a slot that is free or whose timer has gone up already.
+use borrow.Author.Rules.{rules}
+use native.Mathlib.Omega.{arith}
+use mathlib.Core.Path.{◌≡◌}
+use Prim.Native.Nat.{◌+◌, ◌-◌, ◌≤◌}
+use Rattle.timers.specs.Turning.{held}
+use Rattle.timers.specs.Slots.{MovedUp}
+use Rattle.timers.proofs.Places.{up_none, up_one}
+use Rattle.timers.proofs.slots.make_room.Goals as goal
+
+pub loop-k-init : goal.loop-k-init
+loop-k-init c = (search rules, search rules, up_none _ _ _)
+
+pub loop-k-preserved : goal.loop-k-preserved
+loop-k-preserved c =
+    let l = c.before.loop in
+    let s = c in (
+      omega arith,
+      omega arith,
+      up_one s.args.start (s.args.start + (l.k - 1)) (s.args.start + l.k) (s.args.start + s.args.n) _ (held l.ats l.owners) _
+          (omega arith) (omega arith) (omega arith) (omega arith) l.invariant.2
+          c.slot.ensures c.read-x.ensures c.slot-in-loop-k.ensures c.write.ensures,
+    )
+
+pub returns : goal.returns
+returns c =
+    let l = c.loop-k in
+    let s = c in
+    let e : l.k ≡ s.args.i = omega arith in
+    rw e at l.invariant.2

@@ -1,0 +1,15 @@
+-- From the last one down, each timer goes one place up, into a slot that is free or whose timer has gone up already.
+use borrow.Author.Rules.{rules}
+use native.Mathlib.Omega.{arith}
+use mathlib.Core.Path.{◌≡◌}
+use Prim.Native.Nat.{◌+◌, ◌-◌, ◌≤◌}
+use Rattle.timers.specs.Turning.{held}
+use Rattle.timers.specs.Slots.{MovedUp}
+use Rattle.timers.proofs.Places.{up_none, up_one}
+use Rattle.timers.proofs.slots.make_room.Given as goal
+
+abbrev pub invariant-loop-k : goal.invariant-loop-k
+invariant-loop-k l = (l.i ≤ l.k) × (l.k ≤ l.n) × MovedUp l.start (l.start + l.k) (l.start + l.n) (held l.initial.ats l.initial.owners) (held l.ats l.owners)
+
+abbrev pub decreases-loop-k : goal.decreases-loop-k
+decreases-loop-k l = l.k

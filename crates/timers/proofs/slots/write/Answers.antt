@@ -1,0 +1,14 @@
+-- The arrays, seen as slices, are 256 and 512 long, so the three stores are read back.
+use borrow.Author.Rules.{rules}
+use mathlib.Core.Path.{◌≡◌}
+use lib.ListN.{length}
+use Rattle.timers.specs.Turning.{timer_of}
+use Rattle.timers.proofs.Stores.{stored}
+use Rattle.timers.proofs.slots.write.Goals as goal
+
+pub returns : goal.returns
+returns c =
+    let s = c in
+    let la : length s.args.ats.now ≡ 256 = search rules in
+    let lo : length s.args.owners.now ≡ 512 = search rules in
+    stored s.args.ats.now s.args.owners.now s.args.k (timer_of s.args.x) la lo s.requires

@@ -1,0 +1,18 @@
+-- Timer i of the list is the one of its slot, and past the end there is none.
+use borrow.Author.Rules.{rules}
+use native.Mathlib.Omega.{arith}
+use mathlib.Core.Path.{sym, ap, ◌∙◌}
+use Rattle.timers.specs.Turning.{held, running}
+use Rattle.timers.proofs.Places.{from_at, from_past}
+use Rattle.timers.proofs.timer_at.Goals as goal
+
+pub returns-then-count-i : goal.returns-then-count-i
+returns-then-count-i c =
+    let s = c in
+    c.idle.ensures ∙ sym (from_past (held s.args.ats.now s.args.owners.now) s.args.ring.start (running s.args.ring) s.args.i (omega arith))
+
+pub returns : goal.returns
+returns c =
+    let s = c in
+    let f = held s.args.ats.now s.args.owners.now in
+    c.read.ensures ∙ ap f c.slot.ensures ∙ sym (from_at f s.args.ring.start (running s.args.ring) s.args.i (omega arith))
