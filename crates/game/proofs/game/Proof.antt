@@ -27,10 +27,10 @@ prompt : (c : tie.Else-any_timed) → any_timed (start c.before).args.self.trans
 prompt c = sym c.any_timed.ensures ∙ c.if-any_timed.false
 
 sided : (c : tie.Else-not-sides_fit) → sides_fit (start c.before.before.before).args.self.transitions (start c.before.before.before).args.sides.now ≡ true
-sided c = sym c.sides_fit.ensures ∙ not-false _ c.if-not-sides_fit.false
+sided c = sym c.sides_fit.ensures ∙ c.if-not-sides_fit.false
 
 in_turns : (c : tie.Else-not-turns_fit) → turns_fit (start c.before.before.before.before.before).args.turns ≡ true
-in_turns c = sym c.turns_fit.ensures ∙ not-false _ c.if-not-turns_fit.false
+in_turns c = sym c.turns_fit.ensures ∙ c.if-not-turns_fit.false
 
 test-net-requires : tie.Need-test_net-requires
 test-net-requires c κs = search rules
@@ -71,7 +71,7 @@ returns-3 c =
     let p = s.before in
     let t = p.before in
     let a = (start t).args in (
-      by_sides a.t1 a.sides.now a.place a.count a.turns (accepted (told t)) (prompt p) (sym s.sides_fit.ensures ∙ not-true _ c.if-not-sides_fit.true),
+      by_sides a.t1 a.sides.now a.place a.count a.turns (accepted (told t)) (prompt p) (sym s.sides_fit.ensures ∙ c.if-not-sides_fit.true),
       λ x e. not_found e,
     )
 
@@ -85,7 +85,7 @@ returns-4 c =
     let p = s.before.before in
     let t = p.before in
     let a = (start t).args in (
-      by_turns a.t1 a.sides.now a.place a.count a.turns (accepted (told t)) (prompt p) (sided s) (sym k.turns_fit.ensures ∙ not-true _ c.if-not-turns_fit.true),
+      by_turns a.t1 a.sides.now a.place a.count a.turns (accepted (told t)) (prompt p) (sided s) (sym k.turns_fit.ensures ∙ c.if-not-turns_fit.true),
       λ x e. not_found e,
     )
 

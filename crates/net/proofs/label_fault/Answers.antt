@@ -16,20 +16,20 @@ returns-then-p-ge-MOST_PLACES c =
     stop 17 _ (ap not (behind s.label.now s.lengths.now s.p (omega arith)))
 
 pub returns-then-not-label_fits : goal.returns-then-not-label_fits
-returns-then-not-label_fits c = stop 17 _ (ap not (sym c.label_fits.ensures) ∙ c.if-not-label_fits.true)
+returns-then-not-label_fits c = stop 17 _ (ap not (sym c.label_fits.ensures ∙ c.if-not-label_fits.true))
 
 pub used_before-requires : goal.used_before-requires
 used_before-requires c =
     let s = c.args in
-    let fit = fit_lengths s.label.now s.lengths.now s.p (sym c.label_fits.ensures ∙ not-false _ c.if-not-label_fits.false) in
+    let fit = fit_lengths s.label.now s.lengths.now s.p (sym c.label_fits.ensures ∙ c.if-not-label_fits.false) in
     (search rules, search rules, fit.0, fit.1)
 
 pub returns-then-used_before : goal.returns-then-used_before
 returns-then-used_before c =
     let f = c in
-    pass 17 (ap not (sym f.label_fits.ensures) ∙ f.if-not-label_fits.false) (stop 18 _ (sym c.used_before.ensures ∙ c.if-used_before.true))
+    pass 17 (ap not (sym f.label_fits.ensures ∙ f.if-not-label_fits.false)) (stop 18 _ (sym c.used_before.ensures ∙ c.if-used_before.true))
 
 pub returns : goal.returns
 returns c =
     let f = c in
-    pass 17 (ap not (sym f.label_fits.ensures) ∙ f.if-not-label_fits.false) (pass 18 (sym c.used_before.ensures ∙ c.if-used_before.false) refl)
+    pass 17 (ap not (sym f.label_fits.ensures ∙ f.if-not-label_fits.false)) (pass 18 (sym c.used_before.ensures ∙ c.if-used_before.false) refl)

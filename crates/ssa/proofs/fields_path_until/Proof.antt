@@ -26,10 +26,10 @@ accepted : (c : tie.In_default) → fault (net_at c.before.before.before.before)
 accepted c = sym c.fields_fault.ensures ∙ ap meaning c.in_default.is
 
 timely : (c : tie.Else-not-instants_fit) → instants_fit c.args.instants.now ≡ true
-timely c = sym c.instants_fit.ensures ∙ not-false _ c.if-not-instants_fit.false
+timely c = sym c.instants_fit.ensures ∙ c.if-not-instants_fit.false
 
 limited : (c : tie.Else-not-limit_fits) → limit_fits c.args.limit ≡ true
-limited c = sym c.limit_fits.ensures ∙ not-false _ c.if-not-limit_fits.false
+limited c = sym c.limit_fits.ensures ∙ c.if-not-limit_fits.false
 
 fields-fault-requires : tie.Need-fields_fault-requires
 fields-fault-requires c κs = search rules
@@ -65,7 +65,7 @@ returns-2 c =
     let a = s.args in
     let tests = naming_tests (net_at s) (words a.generator.s) a.instants.now a.limit a.named a.table.now in
     c.refused-then-not-instants_fit.ensures a.places a.table.now
-    ∙ sym (tests.by_instants (accepted i.before) (sym i.instants_fit.ensures ∙ not-true _ c.if-not-instants_fit.true))
+    ∙ sym (tests.by_instants (accepted i.before) (sym i.instants_fit.ensures ∙ c.if-not-instants_fit.true))
 
 limit-fits-requires : tie.Need-limit_fits-requires
 limit-fits-requires c κs = search rules
@@ -81,7 +81,7 @@ returns-3 c =
     let a = s.args in
     let tests = naming_tests (net_at s) (words a.generator.s) a.instants.now a.limit a.named a.table.now in
     c.refused-then-not-limit_fits.ensures a.places a.table.now
-    ∙ sym (tests.by_limit (accepted e.before.before) (timely e) (sym l.limit_fits.ensures ∙ not-true _ c.if-not-limit_fits.true))
+    ∙ sym (tests.by_limit (accepted e.before.before) (timely e) (sym l.limit_fits.ensures ∙ c.if-not-limit_fits.true))
 
 mul-if3 : tie.Need-overflow_mul-places
 mul-if3 c =

@@ -74,7 +74,7 @@ returns c =
     let s = start i in
     let l = i.loop-j in
     ap given
-    (left_stop s.args.weights.now (net_at s) l.j s.args.transitions l.invariant i.loop-j-test.true (sym (even_at e) ∙ not-true _ c.if-not-slots_even.true))
+    (left_stop s.args.weights.now (net_at s) l.j s.args.transitions l.invariant i.loop-j-test.true (sym (even_at e) ∙ c.if-not-slots_even.true))
 
 add-j : tie.Need-overflow_add-j invariant-loop decreases-loop
 add-j c = omega (arith, (start c.before.before.before).pre.0.transitions)
@@ -88,7 +88,7 @@ loop-again c =
     let i = e.before.before in
     let s = start i in
     let l = i.loop-j in
-    left_go s.args.weights.now (net_at s) l.j s.args.transitions l.invariant i.loop-j-test.true (sym (even_at e) ∙ not-false _ c.if-not-slots_even.false)
+    left_go s.args.weights.now (net_at s) l.j s.args.transitions l.invariant i.loop-j-test.true (sym (even_at e) ∙ c.if-not-slots_even.false)
 
 returns-2 : tie.Need-returns invariant-loop decreases-loop
 returns-2 c =

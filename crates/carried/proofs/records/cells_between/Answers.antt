@@ -17,14 +17,14 @@ returns-then-not-cell_fits c =
     let l = c in
     let s = l in
     none_stop strange l.loop-c.invariant (part_next s.args.table.now l.loop-c.c s.args.to nan (omega arith) s.requires.1)
-    (ap not (sym c.cell_fits.ensures) ∙ c.if-not-cell_fits.true)
+    (ap not (sym c.cell_fits.ensures ∙ c.if-not-cell_fits.true))
 
 pub loop-c-preserved : goal.loop-c-preserved
 loop-c-preserved c =
     let l = c in
     let s = l in
     none_go strange l.loop-c.invariant (part_next s.args.table.now l.loop-c.c s.args.to nan (omega arith) s.requires.1)
-    (ap not (sym c.cell_fits.ensures) ∙ c.if-not-cell_fits.false)
+    (ap not (sym c.cell_fits.ensures ∙ c.if-not-cell_fits.false))
 
 pub returns : goal.returns
 returns c =

@@ -26,7 +26,7 @@ returns-then-not-goes_to c =
     λ ats takens.
     let f = amiss s.args.names.now s.args.delayed in
     let q = slot ats s.args.whos.now takens in
-    none_stop f (l.invariant ats takens) (from_next q l.i s.args.n s.requires t.loop-i-test.true) (ap not (sym c.goes_to.ensures) ∙ c.if-not-goes_to.true)
+    none_stop f (l.invariant ats takens) (from_next q l.i s.args.n s.requires t.loop-i-test.true) (ap not (sym c.goes_to.ensures ∙ c.if-not-goes_to.true))
 
 pub loop-i-preserved : goal.loop-i-preserved
 loop-i-preserved c =
@@ -36,7 +36,7 @@ loop-i-preserved c =
     λ ats takens.
     let f = amiss s.args.names.now s.args.delayed in
     let q = slot ats s.args.whos.now takens in
-    none_go f (l.invariant ats takens) (from_next q l.i s.args.n s.requires t.loop-i-test.true) (ap not (sym c.goes_to.ensures) ∙ c.if-not-goes_to.false)
+    none_go f (l.invariant ats takens) (from_next q l.i s.args.n s.requires t.loop-i-test.true) (ap not (sym c.goes_to.ensures ∙ c.if-not-goes_to.false))
 
 pub returns : goal.returns
 returns c =

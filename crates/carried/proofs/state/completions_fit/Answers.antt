@@ -17,7 +17,7 @@ returns-then-not-time_fits c =
     let s = c in
     λ whos takens.
     no_time l.last (l.invariant whos takens) (from_next (slot s.args.ats.now whos takens) l.i s.args.n s.requires (omega arith))
-    (sym c.time_fits.ensures ∙ not-true _ c.if-not-time_fits.true)
+    (sym c.time_fits.ensures ∙ c.if-not-time_fits.true)
 
 pub returns-then-at-last : goal.returns-then-at-last
 returns-then-at-last c =
@@ -32,7 +32,7 @@ loop-i-preserved c =
     let s = c in
     λ whos takens.
     later l.last (l.invariant whos takens) (from_next (slot s.args.ats.now whos takens) l.i s.args.n s.requires (omega arith))
-    (sym c.time_fits.ensures ∙ not-false _ c.if-not-time_fits.false) c.if-at-last.false
+    (sym c.time_fits.ensures ∙ c.if-not-time_fits.false) c.if-at-last.false
 
 pub returns : goal.returns
 returns c =

@@ -34,7 +34,7 @@ counts-fit-requires c κs = search rules
 returns-2 : tie.Need-returns-then-not-counts_fit
 returns-2 c =
     let s = c.before.before.before in
-    λ whos g peak xs shown. by_counts (carried s whos g peak xs shown) (sym c.counts_fit.ensures ∙ not-true _ c.if-not-counts_fit.true)
+    λ whos g peak xs shown. by_counts (carried s whos g peak xs shown) (sym c.counts_fit.ensures ∙ c.if-not-counts_fit.true)
 
 returns-3 : tie.Need-returns-then-limit-steps
 returns-3 c = λ whos g peak xs shown. by_limit (carried c.before.before.before.before whos g peak xs shown) c.if-limit-steps.true
@@ -48,7 +48,7 @@ time-fits-requires c κs = search rules
 returns-5 : tie.Need-returns-then-not-time_fits
 returns-5 c =
     let s = c.before.before.before.before.before.before.before in
-    λ whos g peak xs shown. by_clock (carried s whos g peak xs shown) (sym c.time_fits.ensures ∙ not-true _ c.if-not-time_fits.true)
+    λ whos g peak xs shown. by_clock (carried s whos g peak xs shown) (sym c.time_fits.ensures ∙ c.if-not-time_fits.true)
 
 completions-fit-requires : tie.Need-completions_fit-requires
 completions-fit-requires c κs = search rules
@@ -58,7 +58,7 @@ returns-6 c =
     let s = c.before.before.before.before.before.before.before.before.before in
     λ whos g peak xs shown.
     by_times (carried s whos g peak xs shown)
-    (sym (c.completions_fit.ensures whos s.args.takens.now) ∙ not-true _ c.if-not-completions_fit.true)
+    (sym (c.completions_fit.ensures whos s.args.takens.now) ∙ c.if-not-completions_fit.true)
 
 weights-fit-requires : tie.Need-weights_fit-requires
 weights-fit-requires c κs = search rules
@@ -73,11 +73,11 @@ returns-7 c =
     c.weights_fit.ensures s.args.ats.now whos
     ∙ by_weights (carried s whos g peak xs shown)
     (rw length_from (omega arith))
-    (sym j.counts_fit.ensures ∙ not-false _ j.if-not-counts_fit.false)
+    (sym j.counts_fit.ensures ∙ j.if-not-counts_fit.false)
     (omega arith)
     (omega arith)
-    (sym k.time_fits.ensures ∙ not-false _ k.if-not-time_fits.false)
-    (sym (i.completions_fit.ensures whos s.args.takens.now) ∙ not-false _ i.if-not-completions_fit.false)
+    (sym k.time_fits.ensures ∙ k.if-not-time_fits.false)
+    (sym (i.completions_fit.ensures whos s.args.takens.now) ∙ i.if-not-completions_fit.false)
 
 pub state_fits_spec : {M : Type 1} → statement M
 state_fits_spec =

@@ -78,7 +78,7 @@ returns c =
     let r = l.before.before.before in
     let s = r.args in
     from_last (lent s.places s.transitions s.initial.now s.capacity.now s.rate.now s.delay.now s.arcs.now s.kind.now s.place.now s.weight.now) r.requires.1 s.counts.now r.requires.3.small s.j l.loop-a.a (get_or s.limit.now l.loop-a.a 0) l.loop-a.invariant.0 l.loop-a-test.true
-    (r.requires.2 l.loop-a.a (omega (arith, l.loop-a-test.true, r.requires.0, r.requires.1.arcs s.j))) l.loop-a.invariant.1 (sym c.slot_open.ensures ∙ not-true _ c.if-not-slot_open.true)
+    (r.requires.2 l.loop-a.a (omega (arith, l.loop-a-test.true, r.requires.0, r.requires.1.arcs s.j))) l.loop-a.invariant.1 (sym c.slot_open.ensures ∙ c.if-not-slot_open.true)
 
 add_a : tie.Need-overflow_add-a invariant-loop decreases-loop
 add_a c = omega (arith, in_table c.before.before.before.before.before.before.before.before)
@@ -93,7 +93,7 @@ loop-again c =
     let s = r.args in (
       omega (arith, l.loop-a.invariant.0),
       from_open (lent s.places s.transitions s.initial.now s.capacity.now s.rate.now s.delay.now s.arcs.now s.kind.now s.place.now s.weight.now) r.requires.1 s.counts.now r.requires.3.small s.j l.loop-a.a (get_or s.limit.now l.loop-a.a 0) l.loop-a.invariant.0 l.loop-a-test.true
-          (r.requires.2 l.loop-a.a (omega (arith, l.loop-a-test.true, r.requires.0, r.requires.1.arcs s.j))) l.loop-a.invariant.1 (sym c.slot_open.ensures ∙ not-false _ c.if-not-slot_open.false),
+          (r.requires.2 l.loop-a.a (omega (arith, l.loop-a-test.true, r.requires.0, r.requires.1.arcs s.j))) l.loop-a.invariant.1 (sym c.slot_open.ensures ∙ c.if-not-slot_open.false),
     )
 
 returns-2 : tie.Need-returns invariant-loop decreases-loop

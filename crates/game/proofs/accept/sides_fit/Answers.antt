@@ -12,14 +12,14 @@ pub returns-then-not-each_side : goal.returns-then-not-each_side
 returns-then-not-each_side c =
     let e = c in
     let a = e.args in
-    not_each a.transitions a.sides.now e.if-sides-transitions.false (sym e.each_side.ensures ∙ not-true _ c.if-not-each_side.true)
+    not_each a.transitions a.sides.now e.if-sides-transitions.false (sym e.each_side.ensures ∙ c.if-not-each_side.true)
 
 pub returns-then-f-gt-MOST_OF_A_SIDE : goal.returns-then-f-gt-MOST_OF_A_SIDE
 returns-then-f-gt-MOST_OF_A_SIDE c =
     let f = c in
     let e = f in
     let a = e.args in
-    not_few a.transitions a.sides.now e.if-sides-transitions.false (sym e.each_side.ensures ∙ not-false _ f.if-not-each_side.false) f.faults-f.result
+    not_few a.transitions a.sides.now e.if-sides-transitions.false (sym e.each_side.ensures ∙ f.if-not-each_side.false) f.faults-f.result
     f.faults-f.ensures.0 c.if-f-gt-MOST_OF_A_SIDE.true
 
 pub returns : goal.returns
@@ -27,5 +27,5 @@ returns c =
     let f = c in
     let e = f in
     let a = e.args in
-    few_enough a.transitions a.sides.now e.if-sides-transitions.false (sym e.each_side.ensures ∙ not-false _ f.if-not-each_side.false) f.faults-f.result
+    few_enough a.transitions a.sides.now e.if-sides-transitions.false (sym e.each_side.ensures ∙ f.if-not-each_side.false) f.faults-f.result
     f.faults-f.ensures.0 c.if-f-gt-MOST_OF_A_SIDE.false

@@ -24,7 +24,7 @@ returns c =
     let s = e.before.before in
     let a = s.args in (
       not_fired (net s) (marking a.places a.counts) a.j s.requires.0 (marking a.places a.counts)
-          (sym e.enabled.ensures ∙ not-true _ c.if-not-enabled.true),
+          (sym e.enabled.ensures ∙ c.if-not-enabled.true),
       s.requires.3,
     )
 
@@ -40,7 +40,7 @@ returns-2 c =
     let s = e.before.before in
     let a = s.args in (
       is_fired (net s) (marking a.places a.counts) a.j s.requires.0 (marking a.places c.fire-f.new.1.1.1.1.1.1.0) c.fire-f.result.fits
-          (sym e.enabled.ensures ∙ not-false _ i.if-not-enabled.false) c.fire-f.ensures.0,
+          (sym e.enabled.ensures ∙ i.if-not-enabled.false) c.fire-f.ensures.0,
       c.fire-f.ensures.1,
     )
 

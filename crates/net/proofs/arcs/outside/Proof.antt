@@ -19,7 +19,7 @@ rate-fits-requires : tie.Need-rate_fits-requires
 rate-fits-requires c κs = search rules
 
 returns-2 : tie.Need-returns-then-not-rate_fits
-returns-2 c = let s = c.before.before.before in by_rate s.args.strange s.args.rate s.args.delay (ls s) (sym c.rate_fits.ensures ∙ not-true _ c.if-not-rate_fits.true)
+returns-2 c = let s = c.before.before.before in by_rate s.args.strange s.args.rate s.args.delay (ls s) (sym c.rate_fits.ensures ∙ c.if-not-rate_fits.true)
 
 delay-fits-requires : tie.Need-delay_fits-requires
 delay-fits-requires c κs = search rules
@@ -27,7 +27,7 @@ delay-fits-requires c κs = search rules
 returns-3 : tie.Need-returns-then-not-delay_fits
 returns-3 c =
     let s = c.before.before.before.before.before in
-    by_delay s.args.strange s.args.rate s.args.delay (ls s) (sym c.delay_fits.ensures ∙ not-true _ c.if-not-delay_fits.true)
+    by_delay s.args.strange s.args.rate s.args.delay (ls s) (sym c.delay_fits.ensures ∙ c.if-not-delay_fits.true)
 
 outside-arc-requires : tie.Need-outside_arc-requires
 outside-arc-requires c κs = search rules
@@ -38,7 +38,7 @@ returns-4 c =
     let d = e.before.before in
     let s = d.before.before.before in
     c.outside_arc.ensures
-    ∙ by_arcs s.args.strange s.args.rate s.args.delay (ls s) d.if-strange.false (sym d.rate_fits.ensures ∙ not-false _ d.if-not-rate_fits.false) (sym e.delay_fits.ensures ∙ not-false _ e.if-not-delay_fits.false)
+    ∙ by_arcs s.args.strange s.args.rate s.args.delay (ls s) d.if-strange.false (sym d.rate_fits.ensures ∙ d.if-not-rate_fits.false) (sym e.delay_fits.ensures ∙ e.if-not-delay_fits.false)
 
 pub outside_spec : {M : Type 1} → statement M
 outside_spec =

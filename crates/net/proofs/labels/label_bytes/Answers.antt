@@ -15,14 +15,14 @@ returns-then-not-label_byte c =
     let l = c in
     let s = l.args in
     and_stop _ _ (every_turn s.label.now l.loop-i.i (s.from + s.n) l.loop-i-test.true (search rules) l.loop-i.invariant)
-    (sym c.label_byte.ensures ∙ not-true _ c.if-not-label_byte.true)
+    (sym c.label_byte.ensures ∙ c.if-not-label_byte.true)
 
 pub loop-i-preserved : goal.loop-i-preserved
 loop-i-preserved c =
     let l = c in
     let s = l.args in
     and_go _ _ (every_turn s.label.now l.loop-i.i (s.from + s.n) l.loop-i-test.true (search rules) l.loop-i.invariant)
-    (sym c.label_byte.ensures ∙ not-false _ c.if-not-label_byte.false)
+    (sym c.label_byte.ensures ∙ c.if-not-label_byte.false)
 
 pub returns : goal.returns
 returns c =

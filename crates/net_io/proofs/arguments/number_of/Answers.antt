@@ -19,13 +19,13 @@ pub returns-then-not-is_digit : goal.returns-then-not-is_digit
 returns-then-not-is_digit c =
     let l = c in
     let ds = l.args.digits.now in
-    let none = no_digit ds l.loop-i.i l.loop-i.value l.loop-i.invariant.1 c.loop-i-test.true (sym c.is_digit.ensures ∙ not-true _ c.if-not-is_digit.true) in
+    let none = no_digit ds l.loop-i.i l.loop-i.value l.loop-i.invariant.1 c.loop-i-test.true (sym c.is_digit.ensures ∙ c.if-not-is_digit.true) in
     (sym none, sym (ap (λ (b : Bool). cond b (held (value_from 0 ds)) 0) none))
 
 pub with_digit-value-requires : goal.with_digit-value-requires
 with_digit-value-requires c =
     let l = c in
-    digit_bounds (get_or l.args.digits.now l.loop-i.i 0) (sym c.is_digit.ensures ∙ not-false _ c.if-not-is_digit.false)
+    digit_bounds (get_or l.args.digits.now l.loop-i.i 0) (sym c.is_digit.ensures ∙ c.if-not-is_digit.false)
 
 pub loop-i-preserved : goal.loop-i-preserved
 loop-i-preserved c =
@@ -37,7 +37,7 @@ loop-i-preserved c =
     let h = e.loop-i-test.true in (
       omega (arith, h),
       subst (λ (k : ℕ). Upto ds k c.with_digit-value.result) (sym (add-one i))
-          (one_more ds i l.loop-i.value u c.with_digit-value.result h (sym e.is_digit.ensures ∙ not-false _ e.if-not-is_digit.false) (c.with_digit-value.ensures u.v u.has)),
+          (one_more ds i l.loop-i.value u c.with_digit-value.result h (sym e.is_digit.ensures ∙ e.if-not-is_digit.false) (c.with_digit-value.ensures u.v u.has)),
     )
 
 pub returns : goal.returns

@@ -12,25 +12,25 @@ pub returns-then-not-word : goal.returns-then-not-word
 returns-then-not-word c =
     let s = c in
     let word = c.word in
-    let e = word_stop s.args.w.now s.args.line.now s.args.at word.result word.ensures decimal (not-true _ c.if-not-word.true) in
+    let e = word_stop s.args.w.now s.args.line.now s.args.at word.result word.ensures decimal (c.if-not-word.true) in
     record { is = ap (through seen) e; inside = s.requires }
 
 pub overflow_add-at : goal.overflow_add-at
 overflow_add-at c =
     let s = c in
     let word = c.word in
-    let h = word_ends s.args.w.now s.args.line.now s.args.at word.result word.ensures s.requires (not-false _ c.if-not-word.false) in
+    let h = word_ends s.args.w.now s.args.line.now s.args.at word.result word.ensures s.requires (c.if-not-word.false) in
     omega arith
 
 pub decimal-requires : goal.decimal-requires
 decimal-requires c =
     let s = c in
     let word = c.word in
-    word_ends s.args.w.now s.args.line.now s.args.at word.result word.ensures s.requires (not-false _ c.if-not-word.false)
+    word_ends s.args.w.now s.args.line.now s.args.at word.result word.ensures s.requires (c.if-not-word.false)
 
 pub returns : goal.returns
 returns c =
     let s = c in
     let word = c.word in
-    let e = word_met s.args.w.now s.args.line.now s.args.at word.result word.ensures (not-false _ c.if-not-word.false) in
+    let e = word_met s.args.w.now s.args.line.now s.args.at word.result word.ensures (c.if-not-word.false) in
     record { is = number_behind s.args.w.now s.args.line.now s.args.at c.decimal.result e c.decimal.ensures.0; inside = c.decimal.ensures.1 }

@@ -10,25 +10,25 @@ pub returns-then-not-word : goal.returns-then-not-word
 returns-then-not-word c =
     let s = c in
     let word = c.word in
-    let e = word_stop s.args.w.now s.args.line.now s.args.at word.result word.ensures hexadecimal (not-true _ c.if-not-word.true) in
+    let e = word_stop s.args.w.now s.args.line.now s.args.at word.result word.ensures hexadecimal (c.if-not-word.true) in
     record { is = e; inside = s.requires }
 
 pub overflow_add-at : goal.overflow_add-at
 overflow_add-at c =
     let s = c in
     let word = c.word in
-    let h = word_ends s.args.w.now s.args.line.now s.args.at word.result word.ensures s.requires (not-false _ c.if-not-word.false) in
+    let h = word_ends s.args.w.now s.args.line.now s.args.at word.result word.ensures s.requires (c.if-not-word.false) in
     omega arith
 
 pub hexadecimal-requires : goal.hexadecimal-requires
 hexadecimal-requires c =
     let s = c in
     let word = c.word in
-    word_ends s.args.w.now s.args.line.now s.args.at word.result word.ensures s.requires (not-false _ c.if-not-word.false)
+    word_ends s.args.w.now s.args.line.now s.args.at word.result word.ensures s.requires (c.if-not-word.false)
 
 pub returns : goal.returns
 returns c =
     let s = c in
     let word = c.word in
-    let e = word_met s.args.w.now s.args.line.now s.args.at word.result word.ensures (not-false _ c.if-not-word.false) in
+    let e = word_met s.args.w.now s.args.line.now s.args.at word.result word.ensures (c.if-not-word.false) in
     record { is = pattern_behind s.args.w.now s.args.line.now s.args.at c.hexadecimal.result e c.hexadecimal.ensures.0; inside = c.hexadecimal.ensures.1.0 }

@@ -15,7 +15,7 @@ pub returns-then-not-word : goal.returns-then-not-word
 returns-then-not-word c =
     let w = c in
     let s = w.args in (
-      arc_no_space s.line.now s.at w.word.result w.word.ensures (not-true _ c.if-not-word.true)
+      arc_no_space s.line.now s.at w.word.result w.word.ensures (c.if-not-word.true)
           ∙ arc_is_none s.line.now c.no_arc.result c.no_arc.ensures.0,
       omega arith,
     )
@@ -25,7 +25,7 @@ word-requires-2 c =
     let e1 = c in
     let s = e1.args in
     let l = s.line.now in
-    word_ends l (32 ∷ []) s.at e1.word.result e1.requires e1.word.ensures (not-false _ e1.if-not-word.false)
+    word_ends l (32 ∷ []) s.at e1.word.result e1.requires e1.word.ensures (e1.if-not-word.false)
 
 pub take_arc-requires : goal.take_arc-requires
 take_arc-requires c =
@@ -34,7 +34,7 @@ take_arc-requires c =
     let s = e1.args in
     let l = s.line.now in
     word_ends l (bytes "(take ") (s.at + 1) w2.word-2.result
-    (word_ends l (32 ∷ []) s.at e1.word.result e1.requires e1.word.ensures (not-false _ e1.if-not-word.false))
+    (word_ends l (32 ∷ []) s.at e1.word.result e1.requires e1.word.ensures (e1.if-not-word.false))
     w2.word-2.ensures c.if-word.true
 
 pub returns-then-word : goal.returns-then-word
@@ -44,7 +44,7 @@ returns-then-word c =
     let e1 = w2 in
     let s = e1.args in
     let l = s.line.now in (
-      arc_spaced l s.at e1.word.result e1.word.ensures (not-false _ e1.if-not-word.false)
+      arc_spaced l s.at e1.word.result e1.word.ensures (e1.if-not-word.false)
           ∙ is_take (drop (s.at + 1) l) (drop (s.at + 1 + 6) l) (w2.word-2.ensures ∙ found_yes l tt (s.at + 1 + 6) w2.word-2.result t.if-word.true)
           ∙ c.take_arc.ensures.0,
       c.take_arc.ensures.1,
@@ -57,7 +57,7 @@ word-requires-3 c =
     let e1 = w2 in
     let s = e1.args in
     let l = s.line.now in
-    word_ends l (32 ∷ []) s.at e1.word.result e1.requires e1.word.ensures (not-false _ e1.if-not-word.false)
+    word_ends l (32 ∷ []) s.at e1.word.result e1.requires e1.word.ensures (e1.if-not-word.false)
 
 pub plain_arc-requires : goal.plain_arc-requires
 plain_arc-requires c =
@@ -68,7 +68,7 @@ plain_arc-requires c =
     let s = e1.args in
     let l = s.line.now in
     word_ends l (bytes "(put ") (s.at + 1) w3.word-3.result
-    (word_ends l (32 ∷ []) s.at e1.word.result e1.requires e1.word.ensures (not-false _ e1.if-not-word.false))
+    (word_ends l (32 ∷ []) s.at e1.word.result e1.requires e1.word.ensures (e1.if-not-word.false))
     w3.word-3.ensures c.if-word-2.true
 
 pub returns-then-word-2 : goal.returns-then-word-2
@@ -80,7 +80,7 @@ returns-then-word-2 c =
     let e1 = w2 in
     let s = e1.args in
     let l = s.line.now in (
-      arc_spaced l s.at e1.word.result e1.word.ensures (not-false _ e1.if-not-word.false)
+      arc_spaced l s.at e1.word.result e1.word.ensures (e1.if-not-word.false)
           ∙ is_put_lem (drop (s.at + 1) l) (drop (s.at + 1 + 5) l) (w2.word-2.ensures ∙ found_no l tt (s.at + 1 + 6) w2.word-2.result e2.if-word.false) (w3.word-3.ensures ∙ found_yes l tt (s.at + 1 + 5) w3.word-3.result t.if-word-2.true)
           ∙ c.plain_arc.ensures.0,
       c.plain_arc.ensures.1,
@@ -95,7 +95,7 @@ word-requires-4 c =
     let e1 = w2 in
     let s = e1.args in
     let l = s.line.now in
-    word_ends l (32 ∷ []) s.at e1.word.result e1.requires e1.word.ensures (not-false _ e1.if-not-word.false)
+    word_ends l (32 ∷ []) s.at e1.word.result e1.requires e1.word.ensures (e1.if-not-word.false)
 
 pub plain_arc-requires-then-word-3 : goal.plain_arc-requires-then-word-3
 plain_arc-requires-then-word-3 c =
@@ -108,7 +108,7 @@ plain_arc-requires-then-word-3 c =
     let s = e1.args in
     let l = s.line.now in
     word_ends l (bytes "(read ") (s.at + 1) w4.word-4.result
-    (word_ends l (32 ∷ []) s.at e1.word.result e1.requires e1.word.ensures (not-false _ e1.if-not-word.false))
+    (word_ends l (32 ∷ []) s.at e1.word.result e1.requires e1.word.ensures (e1.if-not-word.false))
     w4.word-4.ensures c.if-word-3.true
 
 pub returns-then-word-3 : goal.returns-then-word-3
@@ -122,7 +122,7 @@ returns-then-word-3 c =
     let e1 = w2 in
     let s = e1.args in
     let l = s.line.now in (
-      arc_spaced l s.at e1.word.result e1.word.ensures (not-false _ e1.if-not-word.false)
+      arc_spaced l s.at e1.word.result e1.word.ensures (e1.if-not-word.false)
           ∙ is_read (drop (s.at + 1) l) (drop (s.at + 1 + 6) l) (w2.word-2.ensures ∙ found_no l tt (s.at + 1 + 6) w2.word-2.result e2.if-word.false) (w3.word-3.ensures ∙ found_no l tt (s.at + 1 + 5) w3.word-3.result e3.if-word-2.false) (w4.word-4.ensures ∙ found_yes l tt (s.at + 1 + 6) w4.word-4.result t.if-word-3.true)
           ∙ c.plain_arc-then-word-3.ensures.0,
       c.plain_arc-then-word-3.ensures.1,
@@ -139,7 +139,7 @@ word-requires-5 c =
     let e1 = w2 in
     let s = e1.args in
     let l = s.line.now in
-    word_ends l (32 ∷ []) s.at e1.word.result e1.requires e1.word.ensures (not-false _ e1.if-not-word.false)
+    word_ends l (32 ∷ []) s.at e1.word.result e1.requires e1.word.ensures (e1.if-not-word.false)
 
 pub plain_arc-requires-then-word-4 : goal.plain_arc-requires-then-word-4
 plain_arc-requires-then-word-4 c =
@@ -154,7 +154,7 @@ plain_arc-requires-then-word-4 c =
     let s = e1.args in
     let l = s.line.now in
     word_ends l (bytes "(block ") (s.at + 1) w5.word-5.result
-    (word_ends l (32 ∷ []) s.at e1.word.result e1.requires e1.word.ensures (not-false _ e1.if-not-word.false))
+    (word_ends l (32 ∷ []) s.at e1.word.result e1.requires e1.word.ensures (e1.if-not-word.false))
     w5.word-5.ensures c.if-word-4.true
 
 pub returns-then-word-4 : goal.returns-then-word-4
@@ -170,7 +170,7 @@ returns-then-word-4 c =
     let e1 = w2 in
     let s = e1.args in
     let l = s.line.now in (
-      arc_spaced l s.at e1.word.result e1.word.ensures (not-false _ e1.if-not-word.false)
+      arc_spaced l s.at e1.word.result e1.word.ensures (e1.if-not-word.false)
           ∙ is_block (drop (s.at + 1) l) (drop (s.at + 1 + 7) l) (w2.word-2.ensures ∙ found_no l tt (s.at + 1 + 6) w2.word-2.result e2.if-word.false) (w3.word-3.ensures ∙ found_no l tt (s.at + 1 + 5) w3.word-3.result e3.if-word-2.false) (w4.word-4.ensures ∙ found_no l tt (s.at + 1 + 6) w4.word-4.result e4.if-word-3.false) (w5.word-5.ensures ∙ found_yes l tt (s.at + 1 + 7) w5.word-5.result t.if-word-4.true)
           ∙ c.plain_arc-then-word-4.ensures.0,
       c.plain_arc-then-word-4.ensures.1,
@@ -189,7 +189,7 @@ returns c =
     let e1 = w2 in
     let s = e1.args in
     let l = s.line.now in (
-      arc_spaced l s.at e1.word.result e1.word.ensures (not-false _ e1.if-not-word.false)
+      arc_spaced l s.at e1.word.result e1.word.ensures (e1.if-not-word.false)
           ∙ is_none (drop (s.at + 1) l) (w2.word-2.ensures ∙ found_no l tt (s.at + 1 + 6) w2.word-2.result e2.if-word.false) (w3.word-3.ensures ∙ found_no l tt (s.at + 1 + 5) w3.word-3.result e3.if-word-2.false) (w4.word-4.ensures ∙ found_no l tt (s.at + 1 + 6) w4.word-4.result e4.if-word-3.false) (w5.word-5.ensures ∙ found_no l tt (s.at + 1 + 7) w5.word-5.result e5.if-word-4.false)
           ∙ arc_is_none l c.no_arc-2.result c.no_arc-2.ensures.0,
       omega arith,

@@ -12,7 +12,7 @@ pub returns-then-not-a : goal.returns-then-not-a
 returns-then-not-a c =
     let d = c in
     let s = d.args in (
-      plain_none s.line.now s.at d.two_numbers-a.result d.two_numbers-a.ensures.0 s.kind (not-true _ c.if-not-a.true)
+      plain_none s.line.now s.at d.two_numbers-a.result d.two_numbers-a.ensures.0 s.kind (c.if-not-a.true)
           ∙ arc_is_none s.line.now c.no_arc.result c.no_arc.ensures.0,
       omega arith,
     )
@@ -22,8 +22,8 @@ returns-then-not-word c =
     let w = c in
     let d = w in
     let s = d.args in (
-      plain_open s.line.now s.at d.two_numbers-a.result d.two_numbers-a.ensures.0 s.kind (not-false _ w.if-not-a.false) w.word.result
-          w.word.ensures (not-true _ c.if-not-word.true)
+      plain_open s.line.now s.at d.two_numbers-a.result d.two_numbers-a.ensures.0 s.kind (w.if-not-a.false) w.word.result
+          w.word.ensures (c.if-not-word.true)
           ∙ arc_is_none s.line.now c.no_arc-then-not-word.result c.no_arc-then-not-word.ensures.0,
       omega arith,
     )
@@ -33,7 +33,7 @@ returns c =
     let w = c in
     let d = w in
     let s = d.args in (
-      plain_whole s.line.now s.at d.two_numbers-a.result d.two_numbers-a.ensures.0 s.kind (not-false _ w.if-not-a.false) w.word.result
-          w.word.ensures (not-false _ c.if-not-word.false),
-      word_ends s.line.now (41 ∷ []) d.two_numbers-a.result.next w.word.result d.two_numbers-a.ensures.1 w.word.ensures (not-false _ c.if-not-word.false),
+      plain_whole s.line.now s.at d.two_numbers-a.result d.two_numbers-a.ensures.0 s.kind (w.if-not-a.false) w.word.result
+          w.word.ensures (c.if-not-word.false),
+      word_ends s.line.now (41 ∷ []) d.two_numbers-a.result.next w.word.result d.two_numbers-a.ensures.1 w.word.ensures (c.if-not-word.false),
     )

@@ -12,7 +12,7 @@ pub returns-then-not-a : goal.returns-then-not-a
 returns-then-not-a c =
     let d = c in
     let s = d.args in (
-      take_none s.line.now s.at d.two_numbers-a.result d.two_numbers-a.ensures.0 (not-true _ c.if-not-a.true)
+      take_none s.line.now s.at d.two_numbers-a.result d.two_numbers-a.ensures.0 (c.if-not-a.true)
           ∙ arc_is_none s.line.now c.no_arc.result c.no_arc.ensures.0,
       omega arith,
     )
@@ -22,8 +22,8 @@ returns-then-not-word c =
     let w = c in
     let d = w in
     let s = d.args in (
-      take_no_space s.line.now s.at d.two_numbers-a.result d.two_numbers-a.ensures.0 (not-false _ w.if-not-a.false) w.word.result w.word.ensures
-          (not-true _ c.if-not-word.true)
+      take_no_space s.line.now s.at d.two_numbers-a.result d.two_numbers-a.ensures.0 (w.if-not-a.false) w.word.result w.word.ensures
+          (c.if-not-word.true)
           ∙ arc_is_none s.line.now c.no_arc-then-not-word.result c.no_arc-then-not-word.ensures.0,
       omega arith,
     )
@@ -33,7 +33,7 @@ decimal-flag-requires c =
     let w = c in
     let d = w in
     let s = d.args in
-    word_ends s.line.now (32 ∷ []) d.two_numbers-a.result.next w.word.result d.two_numbers-a.ensures.1 w.word.ensures (not-false _ c.if-not-word.false)
+    word_ends s.line.now (32 ∷ []) d.two_numbers-a.result.next w.word.result d.two_numbers-a.ensures.1 w.word.ensures (c.if-not-word.false)
 
 pub returns-then-not-flag : goal.returns-then-not-flag
 returns-then-not-flag c =
@@ -41,8 +41,8 @@ returns-then-not-flag c =
     let w = k in
     let d = w in
     let s = d.args in (
-      take_no_flag s.line.now s.at d.two_numbers-a.result d.two_numbers-a.ensures.0 (not-false _ w.if-not-a.false) w.word.result w.word.ensures
-          (not-false _ k.if-not-word.false) k.decimal-flag.result k.decimal-flag.ensures.0 (not-true _ c.if-not-flag.true)
+      take_no_flag s.line.now s.at d.two_numbers-a.result d.two_numbers-a.ensures.0 (w.if-not-a.false) w.word.result w.word.ensures
+          (k.if-not-word.false) k.decimal-flag.result k.decimal-flag.ensures.0 (c.if-not-flag.true)
           ∙ arc_is_none s.line.now c.no_arc-then-not-flag.result c.no_arc-then-not-flag.ensures.0,
       omega arith,
     )
@@ -54,9 +54,9 @@ returns-then-not-word-2 c =
     let w = k in
     let d = w in
     let s = d.args in (
-      take_open s.line.now s.at d.two_numbers-a.result d.two_numbers-a.ensures.0 (not-false _ w.if-not-a.false) w.word.result w.word.ensures
-          (not-false _ k.if-not-word.false) k.decimal-flag.result k.decimal-flag.ensures.0 (not-false _ z.if-not-flag.false) z.word-2.result z.word-2.ensures
-          (not-true _ c.if-not-word-2.true)
+      take_open s.line.now s.at d.two_numbers-a.result d.two_numbers-a.ensures.0 (w.if-not-a.false) w.word.result w.word.ensures
+          (k.if-not-word.false) k.decimal-flag.result k.decimal-flag.ensures.0 (z.if-not-flag.false) z.word-2.result z.word-2.ensures
+          (c.if-not-word-2.true)
           ∙ arc_is_none s.line.now c.no_arc-then-not-word-2.result c.no_arc-then-not-word-2.ensures.0,
       omega arith,
     )
@@ -69,8 +69,8 @@ returns c =
     let w = k in
     let d = w in
     let s = d.args in (
-      rw c.take_kind.ensures (take_whole s.line.now s.at d.two_numbers-a.result d.two_numbers-a.ensures.0 (not-false _ w.if-not-a.false) w.word.result w.word.ensures
-          (not-false _ k.if-not-word.false) k.decimal-flag.result k.decimal-flag.ensures.0 (not-false _ z.if-not-flag.false) z.word-2.result z.word-2.ensures
-          (not-false _ e.if-not-word-2.false)),
-      word_ends s.line.now (41 ∷ []) k.decimal-flag.result.next z.word-2.result k.decimal-flag.ensures.1 z.word-2.ensures (not-false _ e.if-not-word-2.false),
+      rw c.take_kind.ensures (take_whole s.line.now s.at d.two_numbers-a.result d.two_numbers-a.ensures.0 (w.if-not-a.false) w.word.result w.word.ensures
+          (k.if-not-word.false) k.decimal-flag.result k.decimal-flag.ensures.0 (z.if-not-flag.false) z.word-2.result z.word-2.ensures
+          (e.if-not-word-2.false)),
+      word_ends s.line.now (41 ∷ []) k.decimal-flag.result.next z.word-2.result k.decimal-flag.ensures.1 z.word-2.ensures (e.if-not-word-2.false),
     )

@@ -12,7 +12,7 @@ pub returns-then-not-p : goal.returns-then-not-p
 returns-then-not-p c =
     let d = c in
     let s = d.args in (
-      pair_none s.line.now s.at d.decimal-p.result d.decimal-p.ensures.0 (not-true _ c.if-not-p.true)
+      pair_none s.line.now s.at d.decimal-p.result d.decimal-p.ensures.0 (c.if-not-p.true)
           ∙ pair_is_none s.line.now c.no_pair.result c.no_pair.ensures.0,
       omega arith,
     )
@@ -22,8 +22,8 @@ returns-then-not-word c =
     let w = c in
     let d = w in
     let s = d.args in (
-      pair_no_space s.line.now s.at d.decimal-p.result d.decimal-p.ensures.0 (not-false _ w.if-not-p.false) w.word.result w.word.ensures
-          (not-true _ c.if-not-word.true)
+      pair_no_space s.line.now s.at d.decimal-p.result d.decimal-p.ensures.0 (w.if-not-p.false) w.word.result w.word.ensures
+          (c.if-not-word.true)
           ∙ pair_is_none s.line.now c.no_pair-then-not-word.result c.no_pair-then-not-word.ensures.0,
       omega arith,
     )
@@ -33,7 +33,7 @@ decimal-w-requires c =
     let w = c in
     let d = w in
     let s = d.args in
-    word_ends s.line.now (32 ∷ []) d.decimal-p.result.next w.word.result d.decimal-p.ensures.1 w.word.ensures (not-false _ c.if-not-word.false)
+    word_ends s.line.now (32 ∷ []) d.decimal-p.result.next w.word.result d.decimal-p.ensures.1 w.word.ensures (c.if-not-word.false)
 
 pub returns-then-not-w : goal.returns-then-not-w
 returns-then-not-w c =
@@ -41,8 +41,8 @@ returns-then-not-w c =
     let w = d2 in
     let d = w in
     let s = d.args in (
-      pair_no_second s.line.now s.at d.decimal-p.result d.decimal-p.ensures.0 (not-false _ w.if-not-p.false) w.word.result w.word.ensures
-          (not-false _ d2.if-not-word.false) d2.decimal-w.result d2.decimal-w.ensures.0 (not-true _ c.if-not-w.true)
+      pair_no_second s.line.now s.at d.decimal-p.result d.decimal-p.ensures.0 (w.if-not-p.false) w.word.result w.word.ensures
+          (d2.if-not-word.false) d2.decimal-w.result d2.decimal-w.ensures.0 (c.if-not-w.true)
           ∙ pair_is_none s.line.now c.no_pair-then-not-w.result c.no_pair-then-not-w.ensures.0,
       omega arith,
     )
@@ -53,7 +53,7 @@ returns c =
     let w = d2 in
     let d = w in
     let s = d.args in (
-      pair_both s.line.now s.at d.decimal-p.result d.decimal-p.ensures.0 (not-false _ w.if-not-p.false) w.word.result w.word.ensures
-          (not-false _ d2.if-not-word.false) d2.decimal-w.result d2.decimal-w.ensures.0 (not-false _ c.if-not-w.false),
+      pair_both s.line.now s.at d.decimal-p.result d.decimal-p.ensures.0 (w.if-not-p.false) w.word.result w.word.ensures
+          (d2.if-not-word.false) d2.decimal-w.result d2.decimal-w.ensures.0 (c.if-not-w.false),
       d2.decimal-w.ensures.1,
     )

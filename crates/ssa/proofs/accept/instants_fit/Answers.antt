@@ -22,13 +22,13 @@ pub returns-then-not-instant_fits : goal.returns-then-not-instant_fits
 returns-then-not-instant_fits c =
     let l = c in
     instants_stop l.args.instants.now l.loop-i.i l.loop-i.low l.loop-i.invariant c.loop-i-test.true
-    (sym c.instant_fits.ensures ∙ not-true _ c.if-not-instant_fits.true)
+    (sym c.instant_fits.ensures ∙ c.if-not-instant_fits.true)
 
 pub loop-i-preserved : goal.loop-i-preserved
 loop-i-preserved c =
     let l = c in
     instants_go l.args.instants.now l.loop-i.i l.loop-i.low l.loop-i.invariant c.loop-i-test.true
-    (sym c.instant_fits.ensures ∙ not-false _ c.if-not-instant_fits.false)
+    (sym c.instant_fits.ensures ∙ c.if-not-instant_fits.false)
 
 pub returns : goal.returns
 returns c =

@@ -53,7 +53,7 @@ listed : (c : tie.Else-not-list_fits) (old : Net) → length old.transitions ≡
     → list_strange old (readable (net_at (start2 c))) (pairs_of (start2 c).args.pairs.now) ≡ false
 listed c old d =
     let n = net_at (start2 c) in
-    not-true _ (sym (c.list_fits.ensures old (readable n) d (transitions_length n)) ∙ not-false _ c.if-not-list_fits.false)
+    not-true _ (sym (c.list_fits.ensures old (readable n) d (transitions_length n)) ∙ c.if-not-list_fits.false)
 
 sent : (c : tie.After-timers_fit) (old : Net) (ats : List Float) (takens : List ℕ) {q : List Timer}
     → length old.transitions ≡ (start2 (list-passed c)).args.old-transitions
@@ -81,7 +81,7 @@ returns-2 c =
     let n = net_at s in
     λ (old : Net) (path : Carried) (ats : List Float) (takens : List ℕ) e d f.
     by_list old (readable n) path (pairs_of s.args.pairs.now) (as_many m old e)
-    (not-false _ (sym (c.list_fits.ensures old (readable n) d (transitions_length n)) ∙ not-true _ c.if-not-list_fits.true))
+    (not-false _ (sym (c.list_fits.ensures old (readable n) d (transitions_length n)) ∙ c.if-not-list_fits.true))
 
 names-of-requires : tie.Need-names_of-names-requires
 names-of-requires c κs = search rules

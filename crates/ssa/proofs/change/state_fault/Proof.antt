@@ -75,19 +75,19 @@ by_number c whos g peak =
 
 -- what is known once a test is passed
 plain : (c : tie.Else-not-state_fits) (whos : List ℕ) (g : Generator) (peak : ℕ) → state_strange 256 (path_at (start1 c) whos g peak) ≡ false
-plain c whos g peak = not-true _ (sym (by_fits c.before whos g peak) ∙ not-false _ c.if-not-state_fits.false)
+plain c whos g peak = not-true _ (sym (by_fits c.before whos g peak) ∙ c.if-not-state_fits.false)
 
 timely : (c : tie.Else-not-instants_fit) → instants_fit (start2 c).args.instants.now ≡ true
-timely c = sym c.instants_fit.ensures ∙ not-false _ c.if-not-instants_fit.false
+timely c = sym c.instants_fit.ensures ∙ c.if-not-instants_fit.false
 
 noted : (c : tie.Else-not-records_fit) (whos : List ℕ) (g : Generator) (peak : ℕ) → records_fit (path_at (start3 c) whos g peak) ≡ true
-noted c whos g peak = sym (by_number c.before whos g peak) ∙ not-false _ c.if-not-records_fit.false
+noted c whos g peak = sym (by_number c.before whos g peak) ∙ c.if-not-records_fit.false
 
 few_noted : (c : tie.Else-not-records_fit) → (start3 c).args.recorded ≤ length (start3 c).args.instants.now
-few_noted c = leb-true _ _ (both _ _ (sym c.records_fit.ensures ∙ not-false _ c.if-not-records_fit.false)).0
+few_noted c = leb-true _ _ (both _ _ (sym c.records_fit.ensures ∙ c.if-not-records_fit.false)).0
 
 limited : (c : tie.Else-not-limit_fits) → limit_fits (start4 c).args.limit ≡ true
-limited c = sym c.limit_fits.ensures ∙ not-false _ c.if-not-limit_fits.false
+limited c = sym c.limit_fits.ensures ∙ c.if-not-limit_fits.false
 
 state-fits-requires : tie.Need-state_fits-requires
 state-fits-requires c κs = search rules
@@ -96,7 +96,7 @@ returns : tie.Need-returns-then-not-state_fits
 returns c =
     let s = start0 c.before in
     λ (whos : List ℕ) (g : Generator) (peak : ℕ).
-    by_state (short_at s) (strange_at s) (path_at s whos g peak) (not-false _ (sym (by_fits c.before whos g peak) ∙ not-true _ c.if-not-state_fits.true))
+    by_state (short_at s) (strange_at s) (path_at s whos g peak) (not-false _ (sym (by_fits c.before whos g peak) ∙ c.if-not-state_fits.true))
 
 instants-fit-requires : tie.Need-instants_fit-requires
 instants-fit-requires c κs = search rules
@@ -106,7 +106,7 @@ returns-2 c =
     let p = c.before.before in
     let s = start1 p in
     λ (whos : List ℕ) (g : Generator) (peak : ℕ).
-    by_instants (short_at s) (strange_at s) (path_at s whos g peak) (plain p whos g peak) (sym c.instants_fit.ensures ∙ not-true _ c.if-not-instants_fit.true)
+    by_instants (short_at s) (strange_at s) (path_at s whos g peak) (plain p whos g peak) (sym c.instants_fit.ensures ∙ c.if-not-instants_fit.true)
 
 records-fit-requires : tie.Need-records_fit-requires
 records-fit-requires c κs = search rules
@@ -116,7 +116,7 @@ returns-3 c =
     let i = c.before.before in
     let s = start2 i in
     λ (whos : List ℕ) (g : Generator) (peak : ℕ).
-    by_records (short_at s) (strange_at s) (path_at s whos g peak) (plain i.before.before whos g peak) (timely i) (sym (by_number c.before whos g peak) ∙ not-true _ c.if-not-records_fit.true)
+    by_records (short_at s) (strange_at s) (path_at s whos g peak) (plain i.before.before whos g peak) (timely i) (sym (by_number c.before whos g peak) ∙ c.if-not-records_fit.true)
 
 limit-fits-requires : tie.Need-limit_fits-requires
 limit-fits-requires c κs = search rules
@@ -128,7 +128,7 @@ returns-4 c =
     let s = start3 r in
     λ (whos : List ℕ) (g : Generator) (peak : ℕ).
     by_limit (short_at s) (strange_at s) (path_at s whos g peak) (plain i.before.before whos g peak) (timely i) (noted r whos g peak)
-    (sym c.limit_fits.ensures ∙ not-true _ c.if-not-limit_fits.true)
+    (sym c.limit_fits.ensures ∙ c.if-not-limit_fits.true)
 
 mul-if5 : tie.Need-overflow_mul-places
 mul-if5 c =
@@ -159,7 +159,7 @@ returns-6 c =
     let s = start4 l in
     λ (whos : List ℕ) (g : Generator) (peak : ℕ).
     by_cells (short_at s) (strange_at s) (path_at s whos g peak) (plain i.before.before whos g peak) (timely i) (noted r whos g peak) (limited l) (ap not (le-leb _ _ t.if-table-places.false))
-    (not-false _ (sym c.cells_fit.ensures ∙ not-true _ c.if-not-cells_fit.true))
+    (not-false _ (sym c.cells_fit.ensures ∙ c.if-not-cells_fit.true))
 
 returns-7 : tie.Need-returns
 returns-7 c =
@@ -170,7 +170,7 @@ returns-7 c =
     let s = start4 l in
     λ (whos : List ℕ) (g : Generator) (peak : ℕ).
     by_none (short_at s) (strange_at s) (path_at s whos g peak) (plain i.before.before whos g peak) (timely i) (noted r whos g peak) (limited l) (ap not (le-leb _ _ t.if-table-places.false))
-    (not-true _ (sym c.cells_fit.ensures ∙ not-false _ c.if-not-cells_fit.false))
+    (not-true _ (sym c.cells_fit.ensures ∙ c.if-not-cells_fit.false))
 
 pub state_fault_spec : {M : Type 1} → statement M
 state_fault_spec =
