@@ -23,7 +23,7 @@ pub other_log-requires : goal.other_log-requires
 other_log-requires c = (
   c.if-x.false,
   λ g. elim c.if-e-ge1.branch [
-    | inl t ↦ t.1.left
-    | inr t ↦ absurd (lt_irrefl 1 (lt_of_le_of_lt g t.left))
+    | goal.then-e-ge1+else-e-lt2047 w ↦ w.if-e-lt2047.false
+    | goal.else-e-ge1 w ↦ absurd (lt_irrefl 1 (lt_of_le_of_lt g w.if-e-ge1.false))
   ],
 )
