@@ -54,7 +54,7 @@ reached_none t xs i h = ap (reached_by t) (drop_of_length-le xs h)
 pub shows_none : (places : ℕ) (xs : List Float) (clock : Float) (m : Marking) (next : ℕ) (t : List Float) → reached_by clock (drop next xs) ≡ 0
     → ShownBy places xs clock m next next t t
 shows_none places xs clock m next t e =
-    record { up_to_lem = omega (arith, e); cells = filled_none places (length xs) next next m t (omega arith) }
+    record { up_to = omega (arith, e); cells = filled_none places (length xs) next next m t (omega arith) }
 
 module _ (places : ℕ) (xs : List Float) (clock : Float) (m : Marking) (next next' : ℕ) (t t' : List Float)
     (s : ShownBy places xs clock m next next' t t') where

@@ -60,7 +60,7 @@ pub record Filled (places n from to : ℕ) (counts : List ℕ) (before after : L
 
 -- the instants that the clock has reached and that were not shown yet are shown with the counts m
 pub record ShownBy (places : ℕ) (xs : List Float) (clock : Float) (m : Marking) (next next' : ℕ) (before after : List Float) : Type 0 where
-  pub up_to_lem : next' ≡ next + reached_by clock (drop next xs)
+  pub up_to : next' ≡ next + reached_by clock (drop next xs)
   pub cells : Filled places (length xs) next next' m before after
 
 -- nothing was shown

@@ -119,7 +119,7 @@ module _ (n : Net) (c : Carried) (named : ℕ) (rise : Rises (unrecorded c)) {ha
       ∙ onward_from_lem c (play_within (out_of (ltb named (c.limit - c.steps))) 256 n (last_of c.instants) (steps_for c named) (unrecorded c) c.now)
       ∙ (λ i. onward_from c (ahead n c.instants (sym h i) (sym m i) (sym at i) (sym most i) (sym now i)))
 
-  module _ (left : State) (w : Walked) (e : End) (sh : List Marking) (up_to_lem : w.next ≡ next + length sh)
+  module _ (left : State) (w : Walked) (e : End) (sh : List Marking) (up_to : w.next ≡ next + length sh)
       (whole : ahead n c.instants halts steps next peak s
       ≡ add_done sh (length sh) w.peak w.rounded w.steps (given (over e left (drop w.next c.instants)))) where
     given_on : play_on 256 n c named ≡ given (answering e (left_by c left w sh))
