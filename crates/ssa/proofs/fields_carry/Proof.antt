@@ -44,7 +44,7 @@ abbrev pairs_at : tie.Start → List Pair
 pairs_at s = pairs_of s.args.pairs.now
 
 abbrev handed_at : tie.Start → Halted
-handed_at s = s.args.t26
+handed_at s = s.args.path
 
 abbrev path_at : tie.Start → Carried
 path_at s = let a = s.args in carried_from a.old-places (standing_of a.old-places (handed_at s)) a.instants.now a.table.now

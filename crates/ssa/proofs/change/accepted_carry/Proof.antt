@@ -51,18 +51,18 @@ abbrev counted : tie.After-resume-arg-1 → tie.After-first_counts-counts
 counted c = c.before.before.before.before.before.before.before.before.before.before.before
 
 -- what the path brings
-brings : (s : tie.Start) → Carries s.args.places s.args.t14 s.args.instants.now s.args.table.now
+brings : (s : tie.Start) → Carries s.args.places s.args.path s.args.instants.now s.args.table.now
 brings s =
     let a = s.args in
     brought (net_at s) s.requires.0 a.places (pairs_at s) a.t14 a.instants.now a.table.now s.requires.1
 
 -- the array of its counts is 32 long
-long : (s : tie.Start) → length s.args.t14.counts ≡ 32
-long s = sym (length-map s.args.t14.counts (λ v. v)) ∙ s.well_formed.1.1.1.1.1.1.1.1.1.1.1.1.1.0.1.1.1.0.1.0.1
+long : (s : tie.Start) → length s.args.path.counts ≡ 32
+long s = sym (length-map s.args.path.counts (λ v. v)) ∙ s.well_formed.1.1.1.1.1.1.1.1.1.1.1.1.1.0.1.1.1.0.1.0.1
 
 -- its timers in the ring
 timers_are : (c : tie.After-hand_in-ring)
-    → timers_of c.hand_in-ring.new.0 c.hand_in-ring.new.1.0 c.hand_in-ring.result ≡ map (renamed_timer (pairs_at (start2 c))) (timers_at (start2 c).args.t14)
+    → timers_of c.hand_in-ring.new.0 c.hand_in-ring.new.1.0 c.hand_in-ring.result ≡ map (renamed_timer (pairs_at (start2 c))) (timers_at (start2 c).args.path)
 timers_are c =
     let w = c.new_numbers in
     let m = c.names_of-names in
@@ -77,7 +77,7 @@ abbrev state_at : tie.After-first_counts-counts → State
 state_at c =
     let i = c.hand_in-ring in
     let s = start3 c in
-    state_of (net_at s) c.first_counts-counts.result i.new.0 i.new.1.0 i.result s.args.t14.clock s.args.t14.generator.s
+    state_of (net_at s) c.first_counts-counts.result i.new.0 i.new.1.0 i.result s.args.path.clock s.args.path.generator.s
 
 now_is : (c : tie.After-first_counts-counts) → state_at c ≡ (moved_at (start3 c)).now
 now_is c =
@@ -139,7 +139,7 @@ resume-requires c κs =
     let h = (counted c).before.before.before in
     let i = h.hand_in in
     let s = start2 h in
-    let q = s.args.t14.timers in
+    let q = s.args.path.timers in
     let b = brings s in (
       s.pre.0,
       resumes b (pairs_at s) k.result i.last.0 i.last.1.0 i.result (timers_are h) k.ensures.1 i.ensures.sound,

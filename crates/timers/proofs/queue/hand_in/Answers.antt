@@ -19,7 +19,7 @@ pub loop-i-preserved : goal.loop-i-preserved
 loop-i-preserved c =
     let l = c.loop-i in
     let s = c in
-    (omega arith, loaded_more s.args.t3 l.i _ (held l.ats l.owners) _ l.invariant.1 c.write.ensures)
+    (omega arith, loaded_more s.args.queue l.i _ (held l.ats l.owners) _ l.invariant.1 c.write.ensures)
 
 pub returns : goal.returns
 returns c =
@@ -27,7 +27,7 @@ returns c =
     let n = c.capped-n in
     let s = c in
     let f = held l.ats l.owners in
-    let list = loaded_all s.args.t3 l.i n.result (min n.result 256) _ f (omega arith) (omega arith) n.ensures l.invariant.1 in
+    let list = loaded_all s.args.queue l.i n.result (min n.result 256) _ f (omega arith) (omega arith) n.ensures l.invariant.1 in
     let all : min n.result 256 ≡ n.result = omega (arith, n.ensures) in
     let ordered = c.order_of.ensures l.owners ∙ ap (λ (k : ℕ). pick (in_order (from f 0 k)) 1 0) (sym all) in
     record {
