@@ -1,8 +1,6 @@
 -- The word is met or not; behind it the scanner's own answer is the answer.
-use borrow.Author.Rules.{rules}
 use native.Mathlib.Omega.{arith}
 use mathlib.Core.Path.{ap}
-use borrow.Author.Tests.{not-true, not-false}
 use Rattle.net_text.specs.Forms.{decimal}
 use Rattle.net_text.specs.Scanned.{through, seen}
 use Rattle.net_text.proofs.Lined.{word_met, word_stop, word_ends, number_behind}
@@ -33,4 +31,4 @@ returns c =
     let s = c in
     let word = c.word in
     let e = word_met s.args.w.now s.args.line.now s.args.at word.result word.ensures (c.if-not-word.false) in
-    record { is = number_behind s.args.w.now s.args.line.now s.args.at c.decimal.result e c.decimal.ensures.0; inside = c.decimal.ensures.1 }
+    record { is = number_behind s.args.w.now s.args.line.now s.args.at c.decimal.result e c.decimal.ensures.is; inside = c.decimal.ensures.within }

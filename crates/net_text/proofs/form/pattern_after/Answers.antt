@@ -1,7 +1,5 @@
 -- The word is met or not; behind it the scanner's own answer is the answer.
-use borrow.Author.Rules.{rules}
 use native.Mathlib.Omega.{arith}
-use borrow.Author.Tests.{not-true, not-false}
 use Rattle.net_text.specs.Forms.{hexadecimal}
 use Rattle.net_text.proofs.Lined.{word_met, word_stop, word_ends, pattern_behind}
 use Rattle.net_text.proofs.form.pattern_after.Goals as goal
@@ -31,4 +29,4 @@ returns c =
     let s = c in
     let word = c.word in
     let e = word_met s.args.w.now s.args.line.now s.args.at word.result word.ensures (c.if-not-word.false) in
-    record { is = pattern_behind s.args.w.now s.args.line.now s.args.at c.hexadecimal.result e c.hexadecimal.ensures.0; inside = c.hexadecimal.ensures.1.0 }
+    record { is = pattern_behind s.args.w.now s.args.line.now s.args.at c.hexadecimal.result e c.hexadecimal.ensures.is; inside = c.hexadecimal.ensures.within }
