@@ -15,7 +15,6 @@ use Rattle.net.specs.declared.Net.{Net as NetRecord}
 use Rattle.net.specs.Net.{Take, Transition, Net, Marking, pick, amount, held, moved, taken_by}
 use Rattle.net.specs.Readable as Record
 use Rattle.net.specs.Readable.{Slot, slot_at, slots, slots_of, takes_of, arcs_of, is_put, is_read, is_block, places_from, transitions_from, readable}
-use Rattle.rules.specs.Enabled.{enabled}
 use Rattle.rules.specs.Propensity.{ways, factored}
 use Rattle.rules.specs.Exact.{exact_ways, some_inexact}
 use Rattle.rules.specs.Moves.{without_arcs, transition}
@@ -27,7 +26,6 @@ use Rattle.engine.specs.Limits.{slot_open, no_limit, room_limit, bound, arc_limi
 use Rattle.engine.specs.Guards.{threshold, kinetic_on}
 use Rattle.engine.proofs.Arcs.{on_bool}
 use Rattle.engine.proofs.Limits.{open_from, enabled_at, open_all}
-use Rattle.engine.proofs.Marks.{takes, puts}
 
 -- ---- tests
 

@@ -1,6 +1,6 @@
 -- A table of guards has the words of the transitions that a change of one count may touch, and the words of several changes unite. In them are only transitions
 -- that are listed for a place whose count is changed. Assumes nothing.
-use Prim.Native.Nat.{ℕ, zero, suc, ◌+◌, ◌-◌, ◌*◌, ◌^◌, ◌≤◌, ◌<◌, min}
+use Prim.Native.Nat.{ℕ, zero, suc, ◌+◌, ◌*◌, ◌^◌, ◌≤◌, ◌<◌, min}
 use mathlib.Core.Path.{◌≡◌, refl, sym, ap, ap₂, ◌∙◌, subst, subst⁻¹}
 use mathlib.Core.Bool.{Bool, true, false, ◌&&◌, ◌||◌, false≢true}
 use mathlib.Core.List.{List, [], ◌∷◌}
@@ -21,7 +21,6 @@ use Rattle.net.specs.Readable as Record
 use Rattle.net.specs.Readable.{Slot, slots, takes_of, arcs_of, is_put, readable}
 use Rattle.net.proofs.Lengths.{places_length, transitions_length}
 use Rattle.rules.specs.Enabled.{enabled}
-use Rattle.rules.specs.Propensity.{ways}
 use Rattle.rules.specs.Moves.{transition}
 use Rattle.rules.specs.Demand3.{takes_from}
 use Rattle.rules.specs.Index.{on, capacity_of, raises, listed, any_below}

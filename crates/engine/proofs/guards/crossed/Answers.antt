@@ -1,5 +1,4 @@
 -- The bits of a union. Assumes nothing.
-use borrow.Author.Rules.{rules}
 use Rattle.words.proofs.Bits.{bit_or_lem}
 use Rattle.engine.proofs.guards.crossed.Goals as goal
 

@@ -1,6 +1,5 @@
 -- Each return is the arm of the definition that the test leaves. Assumes nothing.
 use borrow.Author.Tests.{eq-eqb, ne_eqb}
-use borrow.Author.Rules.{rules}
 use Rattle.words.proofs.Bits.{bit_none}
 use Rattle.engine.proofs.guards.edge.Goals as goal
 

@@ -1,6 +1,5 @@
 -- Each return is the arm of the definition that the tests leave. Assumes nothing.
 use borrow.Author.Tests.{le-leb, lt-leb, lt-ltb, le-ltb}
-use borrow.Author.Rules.{rules}
 use Rattle.words.proofs.Bits.{bit_none}
 use Rattle.engine.proofs.guards.range.Goals as goal
 

@@ -1,6 +1,5 @@
 -- The slots that are left are open where the transition is enabled. Assumes nothing.
 use lib.ListN.{get_or}
-use borrow.Author.Tests.{not-true, not-false}
 use Rattle.net.specs.Readable.{readable, transition}
 use Rattle.net.specs.Record.{lent}
 use Rattle.rules.specs.Enabled.{enabled}

@@ -176,32 +176,32 @@ loop-again c =
     ⊎_elim
     (λ w. (
       firing_put _ _ _ _ _ _ _ _ _ _ _ l.loop-a.invariant.0 i.loop-a-test.true s.requires.1 (s.requires.3 l.loop-a.a) (s.requires.4 l.loop-a.a)
-          (eq-eqb _ 2 w.0.taken) w.2.result w.2.ensures w.3.left _ _ _ w.6 w.7 w.8,
-      told_more moves_on _ _ _ _ _ _ _ _ _ _ _ l.loop-a.invariant.1 l.loop-a.invariant.0.good p (count + w.2.result) count (count + w.2.result) w.5.result
+          (eq-eqb _ 2 w.if-k-eq2.true) w.amount-x.result w.amount-x.ensures w.if-d-gt9007199254740992.false _ _ _ w.counts-is w.less-is w.more-is,
+      told_more moves_on _ _ _ _ _ _ _ _ _ _ _ l.loop-a.invariant.1 l.loop-a.invariant.0.good p (count + w.amount-x.result) count (count + w.amount-x.result) w.crossed-crossed.result
           (λ transitions initial capacity rate delay. fire_puts s.args.arcs.now s.args.kind.now s.args.place.now s.args.weight.now
-          s.args.j l.loop-a.a l.loop-a.invariant.2 i.loop-a-test.true (eq-eqb _ 2 w.0.taken))
-          (s.requires.3 l.loop-a.a) (omega arith) (omega arith) (omega arith) (omega arith) w.3.left w.5.ensures _ _ _ w.6 w.9 w.10,
+          s.args.j l.loop-a.a l.loop-a.invariant.2 i.loop-a-test.true (eq-eqb _ 2 w.if-k-eq2.true))
+          (s.requires.3 l.loop-a.a) (omega arith) (omega arith) (omega arith) (omega arith) w.if-d-gt9007199254740992.false w.crossed-crossed.ensures _ _ _ w.counts-is w.moved-is w.crossed-is,
       omega (arith, l.loop-a.invariant.2),
     ))
     (⊎_elim
     (λ w. (
       firing_take _ _ _ _ _ _ _ _ _ _ _ l.loop-a.invariant.0 i.loop-a-test.true s.requires.1 (s.requires.3 l.loop-a.a) (s.requires.4 l.loop-a.a)
-          (ne_eqb _ 2 w.0.left) w.2.result w.2.ensures _ _ _ w.6 w.7 w.8,
-      told_more moves_on _ _ _ _ _ _ _ _ _ _ _ l.loop-a.invariant.1 l.loop-a.invariant.0.good p (count - w.2.result) (count - w.2.result) count w.5.result
+          (ne_eqb _ 2 w.if-k-eq2.false) w.taken_from-y.result w.taken_from-y.ensures _ _ _ w.counts-is w.less-is w.more-is,
+      told_more moves_on _ _ _ _ _ _ _ _ _ _ _ l.loop-a.invariant.1 l.loop-a.invariant.0.good p (count - w.taken_from-y.result) (count - w.taken_from-y.result) count w.crossed-crossed-then-y-gt0.result
           (λ transitions initial capacity rate delay. fire_takes s.args.arcs.now s.args.kind.now s.args.place.now s.args.weight.now
-          s.args.j l.loop-a.a l.loop-a.invariant.2 i.loop-a-test.true count w.2.result w.3.taken w.2.ensures)
-          (s.requires.3 l.loop-a.a) (omega arith) (omega arith) (omega arith) (omega arith) small w.5.ensures _ _ _ w.6 w.9 w.10,
+          s.args.j l.loop-a.a l.loop-a.invariant.2 i.loop-a-test.true count w.taken_from-y.result w.if-y-gt0.true w.taken_from-y.ensures)
+          (s.requires.3 l.loop-a.a) (omega arith) (omega arith) (omega arith) (omega arith) small w.crossed-crossed-then-y-gt0.ensures _ _ _ w.counts-is w.moved-is w.crossed-is,
       omega (arith, l.loop-a.invariant.2),
     ))
     (λ w.
-    let none : count - w.2.result ≡ count = omega (arith, w.3.left) in (
+    let none : count - w.taken_from-y.result ≡ count = omega (arith, w.if-y-gt0.false) in (
       firing_take _ _ _ _ _ _ _ _ _ _ _ l.loop-a.invariant.0 i.loop-a-test.true s.requires.1 (s.requires.3 l.loop-a.a) (s.requires.4 l.loop-a.a)
-          (ne_eqb _ 2 w.0.left) w.2.result w.2.ensures _ _ _ (w.4 ∙ sym (set_same l.loop-a.counts p (count - w.2.result) none))
-          (omega (arith, w.3.left, w.5)) w.6,
-      told_same moves_on _ _ _ _ _ _ _ _ _ _ _ l.loop-a.invariant.1 _ _ _ w.4 w.7 w.8,
+          (ne_eqb _ 2 w.if-k-eq2.false) w.taken_from-y.result w.taken_from-y.ensures _ _ _ (w.counts-is ∙ sym (set_same l.loop-a.counts p (count - w.taken_from-y.result) none))
+          (omega (arith, w.if-y-gt0.false, w.less-is)) w.more-is,
+      told_same moves_on _ _ _ _ _ _ _ _ _ _ _ l.loop-a.invariant.1 _ _ _ w.counts-is w.moved-is w.crossed-is,
       omega (arith, l.loop-a.invariant.2),
     )))
-    c.if-k-eq2.branch
+    c.if-k-eq2.branch-raw
 
 returns-2 : tie.Need-returns invariant-loop decreases-loop
 returns-2 c =

@@ -1,6 +1,5 @@
 -- Each return is the arm of the definition that the test leaves. Assumes nothing.
 use borrow.Author.Tests.{eq-eqb, ne_eqb}
-use borrow.Author.Rules.{rules}
 use Rattle.engine.proofs.marking.given.Goals as goal
 
 pub returns-then-kind-eq2 : goal.returns-then-kind-eq2

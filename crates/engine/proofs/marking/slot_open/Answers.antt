@@ -1,6 +1,5 @@
 -- Each arm of the code is the arm of the definition that the test leaves.
 use borrow.Author.Tests.{lt-ltb, le-ltb}
-use borrow.Author.Rules.{rules}
 use Rattle.engine.proofs.marking.slot_open.Goals as goal
 
 pub returns-then-limit-lt9223372036854775808 : goal.returns-then-limit-lt9223372036854775808

@@ -11,7 +11,6 @@ use mir.Syntax.{w64}
 use mir.Val.{to_z}
 use mir.Facts.{to_z_pos}
 use borrow.Author.Tests.{eq-eqb, ne_eqb}
-use borrow.Author.Rules.{rules}
 use Rattle.net.specs.Net.{pick}
 use Rattle.rules.specs.Propensity.{ways}
 use Rattle.engine.specs.Limits.{at_least}

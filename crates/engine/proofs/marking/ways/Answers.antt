@@ -1,6 +1,5 @@
 -- Each case of the answer says its float, and 0 over 0 is the NaN of a refusal; the casts keep the two numbers. Assumes nothing.
 use mathlib.Core.Path.{sym, ap, ◌∙◌}
-use borrow.Author.Rules.{rules}
 use Rattle.combinations.specs.declared.RealWays.{RealWays}
 use Rattle.combinations.specs.Real.{meaning}
 use Rattle.engine.proofs.Factors.{alone, ways_answer, no_number}

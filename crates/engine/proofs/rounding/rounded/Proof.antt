@@ -1,7 +1,6 @@
 -- By the test whether the propensity is above 0. Assumes nothing.
 use mathlib.Core.Path.{sym, ap, ◌∙◌}
 use mathlib.Core.Bool.{Bool, ◌&&◌}
-use borrow.Author.Rules.{rules}
 use Rattle.net.specs.Record.{lent}
 use Rattle.net.specs.Readable.{transition}
 use Rattle.rules.specs.Exact.{some_inexact}

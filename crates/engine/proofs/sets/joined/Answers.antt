@@ -5,7 +5,6 @@ use mathlib.Core.Bool.{Bool, ◌&&◌, ◌||◌, or-false}
 use lib.Dec.{eqb}
 use Rattle.words.specs.Bits.{bit}
 use Rattle.words.proofs.Bits.{bit_or_lem, bit_one, one_shifted}
-use borrow.Author.Rules.{rules}
 use Rattle.engine.proofs.sets.joined.Goals as goal
 
 pub returns-then-on : goal.returns-then-on

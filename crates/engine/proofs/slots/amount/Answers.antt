@@ -1,5 +1,4 @@
 -- Weight 0 is 1, and any other is itself. Assumes nothing.
-use borrow.Author.Rules.{rules}
 use mathlib.Core.Path.{sym}
 use Rattle.engine.proofs.Arcs.{amount_pos}
 use Rattle.engine.proofs.slots.amount.Goals as goal

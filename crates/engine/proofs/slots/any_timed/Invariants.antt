@@ -1,7 +1,6 @@
 -- A delay from number j on is above 0 just where one of all is, since none before j is. Assumes nothing.
 use Rattle.engine.specs.Engine.{any_timed}
-use Rattle.engine.proofs.Lists.{above_from, above_all, above_stop, above_go, above_end}
-use borrow.Author.Rules.{rules}
+use Rattle.engine.proofs.Lists.{above_from}
 use mathlib.Core.Path.{◌≡◌}
 use Prim.Native.Nat.{◌-◌}
 use Rattle.engine.proofs.slots.any_timed.Given as goal

@@ -1,7 +1,6 @@
 -- Each return is the definition's arm by the test on the way. Assumes nothing.
 use native.Mathlib.Omega.{arith}
 use borrow.Author.Tests.{le-leb, lt-leb}
-use borrow.Author.Rules.{rules}
 use Rattle.engine.proofs.Arcs.{amount_above, amount_most}
 use Rattle.engine.proofs.slots.arc_limit.Goals as goal
 

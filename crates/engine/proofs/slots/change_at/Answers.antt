@@ -5,10 +5,9 @@ use Rattle.net.specs.Net.{moved, taken_by}
 use Rattle.net.specs.Readable.{Slot, slots, takes_of, arcs_of, is_put}
 use Rattle.engine.specs.Arcs.{put_slot, taken_slot}
 use Rattle.engine.proofs.Arcs.{slots_end, moved_turn, taken_turn, put_most, taken_most}
-use borrow.Author.Rules.{rules}
 use native.Mathlib.Omega.{arith}
 use mathlib.Core.Path.{◌≡◌, ap}
-use Prim.Native.Nat.{◌+◌, ◌-◌, ◌*◌, ◌≤◌, ◌<◌}
+use Prim.Native.Nat.{◌-◌, ◌<◌}
 use Rattle.engine.proofs.slots.change_at.Goals as goal
 
 pub loop-a-init : goal.loop-a-init

@@ -1,14 +1,8 @@
 -- The sums so far with what the slots from a on move are the whole. They fit, since a slot moves at most 1,000,000. Assumes nothing.
-use lib.ListN.{get_or}
-use mathlib.Core.List.{List}
 use Rattle.net.specs.Net.{moved, taken_by}
-use Rattle.net.specs.Readable.{Slot, slots, takes_of, arcs_of, is_put}
-use Rattle.engine.specs.Arcs.{put_slot, taken_slot}
-use Rattle.engine.proofs.Arcs.{slots_end, moved_turn, taken_turn, put_most, taken_most}
-use borrow.Author.Rules.{rules}
-use native.Mathlib.Omega.{arith}
-use mathlib.Core.Path.{◌≡◌, ap}
-use Prim.Native.Nat.{◌+◌, ◌-◌, ◌*◌, ◌≤◌, ◌<◌}
+use Rattle.net.specs.Readable.{slots, takes_of, arcs_of, is_put}
+use mathlib.Core.Path.{◌≡◌}
+use Prim.Native.Nat.{◌+◌, ◌-◌, ◌*◌, ◌≤◌}
 use Rattle.engine.proofs.slots.change_at.Given as goal
 
 abbrev pub invariant-loop-a : goal.invariant-loop-a

@@ -1,13 +1,8 @@
 -- What is copied, then what is left of the group, is the whole group (proofs/Copying). Assumes nothing.
-use borrow.Author.Rules.{rules}
-use native.Mathlib.Omega.{arith}
-use mathlib.Core.Path.{◌∙◌, subst, subst⁻¹}
-use mathlib.Core.List.{List}
-use Prim.Native.Nat.{◌+◌, ◌-◌, ◌≤◌}
-use Rattle.net.specs.Readable.{Slot, slot_at, slots}
+use Prim.Native.Nat.{◌-◌, ◌≤◌}
+use Rattle.net.specs.Readable.{slots}
 use Rattle.engine.specs.Arcs.{of_group}
-use Rattle.engine.proofs.Arcs.{slots_whole, slots_end}
-use Rattle.engine.proofs.Copying.{Copying, copying_none, copying_turn, copying_fits, copying_one, copied_all}
+use Rattle.engine.proofs.Copying.{Copying}
 use Rattle.engine.proofs.slots.copy_slots.Given as goal
 
 abbrev pub invariant-loop-a : goal.invariant-loop-a

@@ -1,5 +1,4 @@
 -- The limits of the slots, some of them marked, are what the table says (Limits, says-limits). Assumes nothing.
-use borrow.Author.Rules.{rules}
 use Rattle.net.specs.Record.{lent}
 use Rattle.engine.proofs.Limits.{says_limits}
 use Rattle.engine.proofs.slots.fill_limits.Goals as goal

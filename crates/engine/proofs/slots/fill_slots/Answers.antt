@@ -1,13 +1,10 @@
 -- The table says the limits of the slots below a. Assumes nothing.
 use Rattle.net.specs.Record.{lent}
 use Rattle.engine.proofs.Limits.{limits_more}
-use lib.ListN.{length, get_or, length-set}
+use lib.ListN.{length-set}
 use borrow.Author.Count.{below_none}
-use Rattle.engine.specs.Limits.{limit_at}
-use borrow.Author.Rules.{rules}
 use native.Mathlib.Omega.{arith}
-use mathlib.Core.Path.{◌≡◌, ◌∙◌}
-use Prim.Native.Nat.{ℕ, ◌-◌, ◌<◌}
+use mathlib.Core.Path.{◌∙◌}
 use Rattle.engine.proofs.slots.fill_slots.Goals as goal
 
 pub overflow_mul-end : goal.overflow_mul-end

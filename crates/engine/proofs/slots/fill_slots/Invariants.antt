@@ -1,12 +1,8 @@
 -- The table says the limits of the slots below a. Assumes nothing.
 use Rattle.net.specs.Record.{lent}
-use Rattle.engine.proofs.Limits.{limits_more}
-use lib.ListN.{length, get_or, length-set}
-use borrow.Author.Count.{below_none}
+use lib.ListN.{length, get_or}
 use Rattle.engine.specs.Limits.{limit_at}
-use borrow.Author.Rules.{rules}
-use native.Mathlib.Omega.{arith}
-use mathlib.Core.Path.{◌≡◌, ◌∙◌}
+use mathlib.Core.Path.{◌≡◌}
 use Prim.Native.Nat.{ℕ, ◌-◌, ◌<◌}
 use Rattle.engine.proofs.slots.fill_slots.Given as goal
 

@@ -3,12 +3,10 @@ use lib.ListN.{length, get_or, set, length-set, length-replicate}
 use lib.Seq.{get_or-set_same, get_or-set_other}
 use native.Mathlib.Nat.{ne_of_lt}
 use borrow.Author.Count.{below_none, below_more}
-use Rattle.engine.specs.Engine.{AtMost}
 use Rattle.engine.proofs.Lists.{each_zero, each_set, first_all}
-use borrow.Author.Rules.{rules}
 use native.Mathlib.Omega.{arith}
 use mathlib.Core.Path.{◌≡◌, ◌∙◌}
-use Prim.Native.Nat.{ℕ, ◌-◌, ◌^◌, ◌≤◌, ◌<◌}
+use Prim.Native.Nat.{ℕ, ◌^◌, ◌≤◌, ◌<◌}
 use Rattle.engine.proofs.slots.first_counts.Goals as goal
 
 pub loop-p-init : goal.loop-p-init

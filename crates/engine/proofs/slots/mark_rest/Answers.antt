@@ -2,9 +2,8 @@
 use borrow.Author.Rules.{rules}
 use native.Mathlib.Omega.{arith}
 use mathlib.Core.Path.{◌≡◌}
-use Prim.Native.Nat.{◌+◌, ◌-◌, ◌≤◌, ◌<◌}
+use Prim.Native.Nat.{◌+◌, ◌-◌, ◌<◌}
 use lib.ListN.{length}
-use Rattle.engine.specs.Limits.{Rest}
 use Rattle.engine.proofs.Limits.{rest_none, rest_more}
 use Rattle.engine.proofs.slots.mark_rest.Goals as goal
 

@@ -1,11 +1,6 @@
 -- The slots from a on had no limit and are marked, and those before a stand as they did; a turn marks the one before a. Assumes nothing.
-use borrow.Author.Rules.{rules}
-use native.Mathlib.Omega.{arith}
-use mathlib.Core.Path.{◌≡◌}
-use Prim.Native.Nat.{◌+◌, ◌-◌, ◌≤◌, ◌<◌}
-use lib.ListN.{length}
+use Prim.Native.Nat.{◌≤◌}
 use Rattle.engine.specs.Limits.{Rest}
-use Rattle.engine.proofs.Limits.{rest_none, rest_more}
 use Rattle.engine.proofs.slots.mark_rest.Given as goal
 
 abbrev pub invariant-loop-a : goal.invariant-loop-a

@@ -1,11 +1,8 @@
 -- The table says of every slot its limit, or that a test may end there; from transition j on it is as it was. Assumes nothing.
-use borrow.Author.Rules.{rules}
 use native.Mathlib.Omega.{arith}
-use mathlib.Core.Path.{◌≡◌, refl, ◌∙◌}
+use mathlib.Core.Path.{refl, ◌∙◌}
 use mathlib.Core.Logic.{inr}
-use Prim.Native.Nat.{ℕ, ◌-◌, ◌*◌, ◌≤◌}
-use lib.ListN.{length, get_or}
-use Rattle.engine.specs.Limits.{Says, its}
+use Rattle.engine.specs.Limits.{its}
 use Rattle.engine.proofs.Limits.{says_more}
 use Rattle.engine.proofs.slots.mark_rests.Goals as goal
 

@@ -1,6 +1,5 @@
 -- Each arm is the arm of the definition that the tests leave. Assumes nothing.
 use borrow.Author.Tests.{eq-eqb, ne_eqb}
-use borrow.Author.Rules.{rules}
 use Rattle.engine.proofs.slots.put_slot.Goals as goal
 
 pub returns-then-place-p : goal.returns-then-place-p

@@ -1,7 +1,6 @@
 -- Each arm is the arm of the definition that the tests leave; where q is below what is put in excess, the difference is 0. Assumes nothing.
 use native.Mathlib.Omega.{arith}
 use borrow.Author.Tests.{eq-eqb, ne_eqb, le-leb, lt-leb}
-use borrow.Author.Rules.{rules}
 use Rattle.engine.proofs.slots.room_limit.Goals as goal
 
 pub returns-then-q-eq0 : goal.returns-then-q-eq0

@@ -5,7 +5,6 @@ use Prim.Native.Nat.{◌/◌}
 use borrow.Author.Tests.{ne_eqb}
 use Rattle.net.specs.Record.{lent}
 use Rattle.engine.proofs.Limits.{limit_made, limit_free}
-use borrow.Author.Rules.{rules}
 use Rattle.engine.proofs.slots.slot_limit.Goals as goal
 
 pub arc_limit-requires : goal.arc_limit-requires

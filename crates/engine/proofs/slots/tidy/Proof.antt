@@ -57,7 +57,7 @@ copy-slots-requires c κs =
     let s = sound_net l.before.before.before in
     let d = l.loop-j.invariant in (
       omega (arith, s.arcs l.loop-j.j i.loop-j-test.true, in_record i.before.before),
-      omega (arith, group_lengths (net_at l.before) s l.loop-j.j i.loop-j-test.true, s.arcs l.loop-j.j i.loop-j-test.true, in_record i.before.before),
+      omega (arith, group_lengths (net_at l.before.before.before) s l.loop-j.j i.loop-j-test.true, s.arcs l.loop-j.j i.loop-j-test.true, in_record i.before.before),
       d.long_kind,
       d.long_place,
       d.long_weight,
@@ -72,7 +72,7 @@ copy-slots-requires-2 c κs =
     let d = l.loop-j.invariant in
     let e = f.copy_slots-to.ensures in (
       omega (arith, s.arcs l.loop-j.j i.loop-j-test.true, in_record i.before.before),
-      omega (arith, second_room (net_at l.before) s l.loop-j.j i.loop-j-test.true e, s.arcs l.loop-j.j i.loop-j-test.true, in_record i.before.before),
+      omega (arith, second_room (net_at l.before.before.before) s l.loop-j.j i.loop-j-test.true e, s.arcs l.loop-j.j i.loop-j-test.true, in_record i.before.before),
       e.long_kind ∙ d.long_kind,
       e.long_place ∙ d.long_place,
       e.long_weight ∙ d.long_weight,
@@ -89,7 +89,7 @@ loop-again c =
     let f = c.before.before.before.before in
     let i = f.before.before.before.before.before in
     let l = i.before in
-    done_more (net_at l.before) (sound_net l.before.before.before) l.loop-j.j i.loop-j-test.true f.copy_slots-to.ensures c.copy_slots.ensures l.loop-j.invariant
+    done_more (net_at l.before.before.before) (sound_net l.before.before.before) l.loop-j.j i.loop-j-test.true f.copy_slots-to.ensures c.copy_slots.ensures l.loop-j.invariant
 
 returns : tie.Need-returns invariant-loop decreases-loop
 returns c =
