@@ -1,8 +1,6 @@
 -- Invariant: after the turn of i the result is the product of the first i + 1 factors, the first of which is m (`first_factor`). Assumes nothing.
-use borrow.Author.Rules.{rules}
 use native.Mathlib.Omega.{arith}
 use mathlib.Core.Path.{◌≡◌, ap, ◌∙◌}
-use Prim.Native.Nat.{◌-◌, ◌≤◌}
 use lib.IntN.{pos}
 use lib.Ieee.{binary64, of_int}
 use Rattle.combinations.specs.Combinations.{product, whole_factor}

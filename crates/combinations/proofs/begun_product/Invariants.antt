@@ -1,13 +1,8 @@
 -- Invariant: after the turn of i the result is the product of the first i + 1 factors, the first of which is m (`first_factor`). Assumes nothing.
-use borrow.Author.Rules.{rules}
-use native.Mathlib.Omega.{arith}
-use mathlib.Core.Path.{◌≡◌, ap, ◌∙◌}
+use mathlib.Core.Path.{◌≡◌}
 use Prim.Native.Nat.{◌-◌, ◌≤◌}
 use lib.IntN.{pos}
-use lib.Ieee.{binary64, of_int}
 use Rattle.combinations.specs.Combinations.{product, whole_factor}
-use Rattle.combinations.proofs.Product.{in_f64, next_factor, minus_pos}
-use Rattle.combinations.proofs.Steps.{first_factor}
 use Rattle.combinations.proofs.begun_product.Given as goal
 
 abbrev pub invariant-loop-i : goal.invariant-loop-i

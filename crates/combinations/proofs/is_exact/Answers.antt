@@ -1,5 +1,4 @@
 -- `is_exact` is `exact`: up to the table's bound by `product_exact`, above it by the decision in whole numbers. Assumes nothing.
-use borrow.Author.Rules.{rules}
 use mathlib.Core.Path.{sym, ap, ◌∙◌, subst}
 use Prim.Native.Nat.{ℕ, ◌≤◌}
 use lib.Ieee.{Float}

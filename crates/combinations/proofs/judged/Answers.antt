@@ -1,5 +1,4 @@
 -- `judged` is the product with its flag. Assumes nothing.
-use borrow.Author.Rules.{rules}
 use mathlib.Core.Path.{ap, ◌∙◌}
 use lib.Ieee.{Float}
 use Rattle.combinations.specs.Binomial.{exact}

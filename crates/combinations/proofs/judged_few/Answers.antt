@@ -1,6 +1,5 @@
 -- Up to the bound of two a product of one or two factors is the whole number (`product_is`), exactly (`product_exact`); above it `pairs` and `exact_pairs` say
 -- what it is, or `judged` does. Assumes nothing.
-use borrow.Author.Rules.{rules}
 use native.Mathlib.Omega.{arith}
 use mathlib.Core.Path.{sym, ap, ◌∙◌}
 use Prim.Native.Nat.{ℕ, zero, suc, ◌≤◌}

@@ -1,5 +1,4 @@
 -- The first factor is m (`first_factor`), and one turn more is `next_factor`. Assumes nothing.
-use borrow.Author.Rules.{rules}
 use native.Mathlib.Omega.{arith}
 use mathlib.Core.Path.{ap, ◌∙◌}
 use Prim.Native.Nat.{◌≤◌}

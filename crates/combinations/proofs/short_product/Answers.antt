@@ -1,6 +1,5 @@
 -- Two factors by `pairs`, others from the first on. Assumes nothing.
 use mathlib.Core.Path.{sym, ap, ◌∙◌}
-use borrow.Author.Rules.{rules}
 use lib.IntN.{pos}
 use Rattle.combinations.specs.Combinations.{product, whole_factor}
 use Rattle.combinations.proofs.short_product.Goals as goal

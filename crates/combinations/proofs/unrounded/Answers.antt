@@ -5,7 +5,6 @@ use mathlib.Core.Logic.{⊎_elim}
 use native.Mathlib.Nat.{eq-zero-or-pos}
 use native.Mathlib.Omega.{arith}
 use lib.ListN.{get_or-eq_default}
-use borrow.Author.Rules.{rules}
 use Rattle.combinations.specs.Theorems.{unrounded}
 use Rattle.combinations.proofs.Tables.{no_others}
 use Rattle.combinations.proofs.unrounded.Goals as goal

@@ -1,8 +1,6 @@
 -- Invariant: after i turns the result is the product of the first i factors. One turn is `next_factor`.
-use borrow.Author.Rules.{rules}
 use native.Mathlib.Omega.{arith}
 use mathlib.Core.Path.{◌≡◌, refl, ap, ◌∙◌}
-use Prim.Native.Nat.{◌-◌, ◌≤◌}
 use lib.IntN.{pos}
 use lib.Ieee.{binary64, of_int}
 use Rattle.combinations.specs.Combinations.{product, whole_factor}

@@ -1,12 +1,8 @@
 -- Invariant: after i turns the result is the product of the first i factors. One turn is `next_factor`.
-use borrow.Author.Rules.{rules}
-use native.Mathlib.Omega.{arith}
-use mathlib.Core.Path.{◌≡◌, refl, ap, ◌∙◌}
+use mathlib.Core.Path.{◌≡◌}
 use Prim.Native.Nat.{◌-◌, ◌≤◌}
 use lib.IntN.{pos}
-use lib.Ieee.{binary64, of_int}
 use Rattle.combinations.specs.Combinations.{product, whole_factor}
-use Rattle.combinations.proofs.Product.{in_f64, next_factor, minus_pos}
 use Rattle.combinations.proofs.whole_product.Given as goal
 
 abbrev pub invariant-loop-i : goal.invariant-loop-i

@@ -1,6 +1,5 @@
 -- The operations are the definition's; i + 1 is at most 2^53, so it is a float.
 use native.Mathlib.Omega.{arith}
-use borrow.Author.Rules.{rules}
 use Rattle.combinations.proofs.Product.{in_f64}
 use Rattle.combinations.proofs.with_factor.Goals as goal
 

@@ -3,7 +3,6 @@ use mathlib.Core.Path.{sym, ap, ◌∙◌}
 use borrow.Author.Tests.{eq-eqb, ne_eqb}
 use Rattle.portable_log.specs.Log.{frexp}
 use Rattle.portable_log.proofs.Laws.{nan_of_ne, no_nan, frexp_nan, scaled_number}
-use borrow.Author.Rules.{rules}
 use Rattle.portable_log.proofs.frexp.Goals as goal
 
 pub returns-then-x : goal.returns-then-x

@@ -6,7 +6,6 @@ use mir.Syntax.{w32}
 use mir.Facts.{to_z-of_z}
 use native.Mathlib.Omega.{arith}
 use Rattle.portable_log.proofs.Laws.{field_lt}
-use borrow.Author.Rules.{rules}
 use Rattle.portable_log.proofs.parts_of.Goals as goal
 
 pub difference-requires : goal.difference-requires

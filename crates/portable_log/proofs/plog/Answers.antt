@@ -1,11 +1,9 @@
 -- A NaN is the definition's first case. Where the pattern shows a normal number above 0, the definition goes by the pattern's parts (`at_normal`). Where one of
 -- the two tests on the field fails, x is no such number.
 use mathlib.Core.Path.{◌∙◌}
-use mathlib.Core.Logic.{inl, inr}
 use native.Mathlib.Nat.{lt_irrefl, lt_of_le_of_lt}
 use native.Mathlib.Omega.{arith}
 use Rattle.portable_log.proofs.Laws.{no_nan, at_nan, at_normal}
-use borrow.Author.Rules.{rules}
 use Rattle.portable_log.proofs.plog.Goals as goal
 
 pub returns-then-x : goal.returns-then-x

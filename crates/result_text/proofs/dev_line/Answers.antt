@@ -1,6 +1,4 @@
 -- `dev_line` meets its contract: it is `row_line` at its word.
-use borrow.Author.Rules.{rules}
-use mathlib.Core.Path.{refl}
 use Rattle.result_text.proofs.dev_line.Goals as goal
 
 pub returns : goal.returns

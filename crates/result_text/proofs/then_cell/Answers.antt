@@ -1,6 +1,5 @@
 -- `then_cell` meets its contract: a space, and then the float.
-use borrow.Author.Rules.{rules}
-use mathlib.Core.Path.{refl, ap, ◌∙◌}
+use mathlib.Core.Path.{ap, ◌∙◌}
 use Rattle.text.specs.Text.{Bytes}
 use Rattle.text.specs.Numbers.{float_text}
 use Rattle.text.specs.Buffer.{and_then}

@@ -1,16 +1,8 @@
 -- `then_cells` meets its contract. The invariant: what is left of the row, written from here, is the whole row written.
-use borrow.Author.Rules.{rules}
-use native.Mathlib.Omega.{arith}
-use mathlib.Core.Path.{◌≡◌, refl, sym, ap, ◌∙◌}
-use Prim.Native.Nat.{◌+◌, ◌-◌, ◌≤◌, ◌<◌}
-use mathlib.Core.List.{[]}
-use native.Mathlib.Numerals.{add-one}
-use lib.ListN.{length, get_or, drop, drop_of_length-le}
-use lib.Ieee.{nan}
-use Rattle.text.specs.Text.{Bytes}
-use Rattle.text.specs.declared.Written.{Written}
-use lib.Seq.{drop-cons}
-use Rattle.result_text.specs.Parts.{then_cell, then_cells}
+use mathlib.Core.Path.{◌≡◌}
+use Prim.Native.Nat.{◌-◌, ◌≤◌}
+use lib.ListN.{length, drop}
+use Rattle.result_text.specs.Parts.{then_cells}
 use Rattle.result_text.proofs.then_cells.Given as goal
 
 abbrev pub invariant-loop-i : goal.invariant-loop-i

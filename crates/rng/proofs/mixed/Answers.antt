@@ -1,5 +1,4 @@
 -- `rng::mixed` meets its contract: what the two products ensure, put together. Assumes nothing.
-use Rattle.std.proofs.Common.{rules}
 use Rattle.rng.proofs.mixed.Goals as goal
 
 pub returns : goal.returns

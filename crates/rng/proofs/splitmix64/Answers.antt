@@ -1,5 +1,4 @@
 -- `rng::splitmix64` meets its contract: what its helpers ensure, word by word. Assumes nothing.
-use Rattle.std.proofs.Common.{rules}
 use Rattle.rng.proofs.splitmix64.Goals as goal
 
 pub returns : goal.returns

@@ -1,5 +1,5 @@
 -- `judged` meets its contract: where it answers true, its tests are what `reached` asks. Assumes nothing.
-use Rattle.std.proofs.Common.{sym, ◌∙◌, arith, rules, ltb-true, leb-true}
+use Rattle.std.proofs.Common.{sym, ◌∙◌, arith, ltb-true, leb-true}
 use mathlib.Core.Bool.{false≢true}
 use Rattle.root.proofs.Squares.{reached}
 use Rattle.root.proofs.judged.Goals as goal

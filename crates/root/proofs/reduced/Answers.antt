@@ -1,5 +1,5 @@
 -- `reduced` halves m << 11 once where the exponent's field is odd, so the power of two that is left has the other parity. Assumes nothing.
-use Rattle.std.proofs.Common.{◌≡◌, ℕ, ◌+◌, ◌*◌, ◌/◌, ◌%◌, ◌^◌, ◌<◌, ◌⊎◌, inl, inr, arith, rules}
+use Rattle.std.proofs.Common.{◌≡◌, ℕ, ◌+◌, ◌*◌, ◌/◌, ◌%◌, ◌^◌, ◌<◌, ◌⊎◌, inl, inr, arith}
 use Rattle.root.proofs.Scaled.{parity}
 use Rattle.root.proofs.reduced.Goals as goal
 

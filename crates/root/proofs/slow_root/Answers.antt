@@ -1,5 +1,5 @@
 -- `slow_root` is nearest: n << 10 makes `whole_root` cut the root of 4 * (n * 2 ^ 52), and half of that, rounded, is nearest. Assumes nothing.
-use Rattle.std.proofs.Common.{◌*◌, ◌^◌, arith, rules}
+use Rattle.std.proofs.Common.{◌*◌, ◌^◌, arith}
 use Rattle.root.proofs.Squares.{CutRoot, root_and_rest, root_pos, nearest_half}
 use Rattle.root.proofs.slow_root.Goals as goal
 

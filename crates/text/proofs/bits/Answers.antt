@@ -1,5 +1,4 @@
 -- `bits` meets its contract: the NaN alone differs from itself, and the pattern written for it is the definition's.
-use borrow.Author.Rules.{rules}
 use Rattle.text.proofs.Nan.{number, no_number}
 use Rattle.text.proofs.bits.Goals as goal
 

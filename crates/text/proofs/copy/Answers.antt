@@ -1,11 +1,9 @@
 -- `copy` meets its contract. The invariant: the first i bytes are placed, which is `lib.Seq`'s `paste`.
-use borrow.Author.Rules.{rules}
 use native.Mathlib.Omega.{arith}
 use mathlib.Core.Path.{◌≡◌, refl}
-use Prim.Native.Nat.{◌-◌, ◌≤◌}
 use native.Mathlib.Numerals.{add-one}
 use lib.ListN.{length, length-set}
-use lib.Seq.{paste, paste-zero, paste-suc, take-length}
+use lib.Seq.{paste-zero, paste-suc, take-length}
 use Rattle.text.proofs.copy.Goals as goal
 
 pub loop-i-init : goal.loop-i-init

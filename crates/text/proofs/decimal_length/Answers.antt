@@ -1,11 +1,7 @@
 -- `decimal_length` meets its contract. The invariant: the digits counted and those of what is left are the decimal's.
 -- That the count fits follows from its sum with what is left, which does not grow.
-use borrow.Author.Rules.{rules}
 use native.Mathlib.Omega.{arith}
 use mathlib.Core.Path.{◌≡◌, ap}
-use Prim.Native.Nat.{◌+◌, ◌/◌, ◌≤◌}
-use lib.ListN.{length}
-use Rattle.text.specs.Numbers.{decimal_text}
 use Rattle.text.proofs.Digits.{count_of, count_tenth, decimal_length}
 use Rattle.text.proofs.decimal_length.Goals as goal
 

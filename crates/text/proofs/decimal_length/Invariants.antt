@@ -1,12 +1,10 @@
 -- `decimal_length` meets its contract. The invariant: the digits counted and those of what is left are the decimal's.
 -- That the count fits follows from its sum with what is left, which does not grow.
-use borrow.Author.Rules.{rules}
-use native.Mathlib.Omega.{arith}
-use mathlib.Core.Path.{◌≡◌, ap}
+use mathlib.Core.Path.{◌≡◌}
 use Prim.Native.Nat.{◌+◌, ◌/◌, ◌≤◌}
 use lib.ListN.{length}
 use Rattle.text.specs.Numbers.{decimal_text}
-use Rattle.text.proofs.Digits.{count_of, count_tenth, decimal_length}
+use Rattle.text.proofs.Digits.{count_of}
 use Rattle.text.proofs.decimal_length.Given as goal
 
 abbrev pub invariant-loop-rest : goal.invariant-loop-rest

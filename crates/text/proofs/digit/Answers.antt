@@ -1,5 +1,4 @@
 -- `digit` meets its contract: the test on d is the definition's.
-use borrow.Author.Rules.{rules}
 use borrow.Author.Tests.{lt-ltb, le-ltb}
 use Rattle.text.proofs.digit.Goals as goal
 

@@ -1,8 +1,7 @@
 -- `fill` meets its contract. The invariant: the k digits still to be written, placed in front of those that stand, are all of them placed.
-use borrow.Author.Rules.{rules}
 use native.Mathlib.Omega.{arith}
 use mathlib.Core.Path.{◌≡◌, refl, sym, ◌∙◌}
-use Prim.Native.Nat.{◌+◌, ◌-◌, ◌/◌, ◌%◌, ◌≤◌, ◌<◌}
+use Prim.Native.Nat.{◌+◌, ◌-◌, ◌/◌, ◌%◌, ◌<◌}
 use lib.ListN.{length, set, length-set}
 use native.Mathlib.Nat.{mod-lt}
 use Rattle.text.specs.Numbers.{digit, low_digits}

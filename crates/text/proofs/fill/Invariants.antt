@@ -1,14 +1,9 @@
 -- `fill` meets its contract. The invariant: the k digits still to be written, placed in front of those that stand, are all of them placed.
-use borrow.Author.Rules.{rules}
-use native.Mathlib.Omega.{arith}
-use mathlib.Core.Path.{◌≡◌, refl, sym, ◌∙◌}
-use Prim.Native.Nat.{◌+◌, ◌-◌, ◌/◌, ◌%◌, ◌≤◌, ◌<◌}
-use lib.ListN.{length, set, length-set}
-use native.Mathlib.Nat.{mod-lt}
-use Rattle.text.specs.Numbers.{digit, low_digits}
+use mathlib.Core.Path.{◌≡◌}
+use Prim.Native.Nat.{◌≤◌}
+use lib.ListN.{length}
+use Rattle.text.specs.Numbers.{low_digits}
 use Rattle.text.specs.Buffer.{placed}
-use Rattle.text.proofs.Places.{placed_none, placed_last}
-use Rattle.text.proofs.Digits.{low_length, low_last}
 use Rattle.text.proofs.fill.Given as goal
 
 abbrev pub invariant-loop-k : goal.invariant-loop-k

@@ -1,5 +1,4 @@
 -- `then_bytes` meets its contract: each arm is one case of `and_then`.
-use borrow.Author.Rules.{rules}
 use Rattle.text.proofs.Places.{then_next, then_short}
 use Rattle.text.proofs.then_bytes.Goals as goal
 

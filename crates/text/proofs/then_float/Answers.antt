@@ -1,5 +1,4 @@
 -- `then_float` meets its contract: each arm is one case of `and_then`.
-use borrow.Author.Rules.{rules}
 use Rattle.text.specs.Numbers.{float_text}
 use Rattle.text.proofs.Places.{then_next, then_short}
 use Rattle.text.proofs.then_float.Goals as goal

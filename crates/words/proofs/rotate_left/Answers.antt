@@ -1,5 +1,5 @@
 -- `words::rotate_left` meets its contract: a shift by 1 and one by 63 - d are the shift by 64 - d. Assumes nothing.
-use Rattle.std.proofs.Common.{ℕ, ◌-◌, ◌*◌, ◌/◌, ◌%◌, ◌^◌, ap, ◌∙◌, arith, shr-shr, rules}
+use Rattle.std.proofs.Common.{ℕ, ◌-◌, ◌*◌, ◌/◌, ◌%◌, ◌^◌, ap, ◌∙◌, arith, shr-shr}
 use lib.Bits.{bit_or}
 use Rattle.words.proofs.rotate_left.Goals as goal
 

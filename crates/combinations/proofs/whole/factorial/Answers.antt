@@ -1,5 +1,4 @@
 -- `factorial` is 1 * 2 * .. * w, entry by entry; past 16 there is none. Assumes nothing.
-use borrow.Author.Rules.{rules}
 use Rattle.combinations.proofs.Tables.{no_others}
 use Rattle.combinations.proofs.whole.factorial.Goals as goal
 

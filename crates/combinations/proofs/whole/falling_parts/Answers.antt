@@ -1,10 +1,9 @@
 -- Invariant: after i turns the parts hold the product of the first i factors. Assumes nothing.
-use borrow.Author.Rules.{rules}
 use Rattle.combinations.specs.Binomial.{falling}
 use Rattle.combinations.specs.Parts.{Holds}
 use native.Mathlib.Omega.{arith}
 use mathlib.Core.Path.{◌≡◌, refl, sym, subst}
-use Prim.Native.Nat.{ℕ, ◌-◌, ◌*◌, ◌≤◌}
+use Prim.Native.Nat.{ℕ}
 use native.Mathlib.Numerals.{add-one}
 use Rattle.combinations.proofs.Parts.{word}
 use Rattle.combinations.proofs.whole.falling_parts.Goals as goal

@@ -1,12 +1,7 @@
 -- Invariant: after i turns the parts hold the product of the first i factors. Assumes nothing.
-use borrow.Author.Rules.{rules}
 use Rattle.combinations.specs.Binomial.{falling}
 use Rattle.combinations.specs.Parts.{Holds}
-use native.Mathlib.Omega.{arith}
-use mathlib.Core.Path.{◌≡◌, refl, sym, subst}
-use Prim.Native.Nat.{ℕ, ◌-◌, ◌*◌, ◌≤◌}
-use native.Mathlib.Numerals.{add-one}
-use Rattle.combinations.proofs.Parts.{word}
+use Prim.Native.Nat.{◌-◌, ◌*◌, ◌≤◌}
 use Rattle.combinations.proofs.whole.falling_parts.Given as goal
 
 abbrev pub invariant-loop-i : goal.invariant-loop-i

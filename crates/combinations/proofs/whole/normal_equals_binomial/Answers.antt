@@ -1,5 +1,4 @@
 -- `normal_equals_binomial` is `exact`: the words and the twos are the same if the values are (`Decided`). Assumes nothing.
-use borrow.Author.Rules.{rules}
 use native.Mathlib.Omega.{arith}
 use Rattle.combinations.proofs.Decided.{alike, unlike, apart}
 use Rattle.combinations.proofs.whole.normal_equals_binomial.Goals as goal

@@ -1,6 +1,5 @@
 -- `times` keeps the number: its odd part times that of n, by columns, and the twos of both. Where the upper column outgrows a word, both sides have passed
 -- 2 ^ 100, and it is no longer followed. Assumes nothing.
-use borrow.Author.Rules.{rules}
 use native.Mathlib.Omega.{arith}
 use mathlib.Core.Path.{◌≡◌, sym}
 use Prim.Native.Nat.{◌*◌}

@@ -1,9 +1,7 @@
 -- The parts of n, times w!, which is above 0. Assumes nothing.
-use borrow.Author.Rules.{rules}
 use native.Mathlib.Omega.{arith}
 use mathlib.Core.Path.{sym, subst}
 use Prim.Native.Nat.{ℕ, ◌*◌, ◌<◌}
-use Rattle.combinations.specs.Binomial.{factorial}
 use Rattle.combinations.specs.Parts.{Holds}
 use Rattle.combinations.proofs.Binomial.{factorial_pos}
 use Rattle.combinations.proofs.Parts.{word}

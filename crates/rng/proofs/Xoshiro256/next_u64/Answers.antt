@@ -1,5 +1,4 @@
 -- `rng::Xoshiro256::next_u64` meets its contract: what the products and rotations ensure, put together. Assumes nothing.
-use Rattle.std.proofs.Common.{rules}
 use Rattle.rng.proofs.Xoshiro256.next_u64.Goals as goal
 
 pub returns : goal.returns

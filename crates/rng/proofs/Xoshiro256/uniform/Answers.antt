@@ -1,5 +1,5 @@
 -- `rng::Xoshiro256::uniform` meets its contract: 53 bits are exact in binary64, and the rest is what `next_u64` ensures. Assumes nothing.
-use Rattle.std.proofs.Common.{arith, rules}
+use Rattle.std.proofs.Common.{arith}
 use Rattle.rng.proofs.Floats.{in_f64}
 use Rattle.rng.proofs.Xoshiro256.uniform.Goals as goal
 
