@@ -10,7 +10,7 @@ pub returns-then-not-r : goal.returns-then-not-r
 returns-then-not-r c =
     let s = c in
     let pattern-after = c.pattern_after-r in
-    rw c.no_move.ensures (no_move s.args.line.now s.args.base s.args.kind.now s.args.place.now s.args.weight.now _ _ _ (untouched s.args.base s.args.kind.now s.args.place.now s.args.weight.now s.requires.1 s.requires.2 s.requires.3) (move_first s.args.line.now pattern-after.result pattern-after.ensures (c.if-not-r.true)))
+    rw c.no_move.ensures (no_move s.args.line.now s.args.base s.args.kind.now s.args.place.now s.args.weight.now _ _ _ (untouched s.args.base s.args.kind.now s.args.place.now s.args.weight.now s.requires.1 s.requires.2 s.requires.3) (move_first s.args.line.now pattern-after.result pattern-after.ensures (not-true _ c.if-not-r.true)))
 
 pub pattern_after-d-requires : goal.pattern_after-d-requires
 pattern_after-d-requires c =
@@ -23,7 +23,7 @@ returns-then-not-d c =
     let pattern-after = c.pattern_after-r in
     let if1 = c.if-not-r in
     let pattern-after2 = c.pattern_after-d in
-    rw c.no_move-then-not-d.ensures (no_move s.args.line.now s.args.base s.args.kind.now s.args.place.now s.args.weight.now _ _ _ (untouched s.args.base s.args.kind.now s.args.place.now s.args.weight.now s.requires.1 s.requires.2 s.requires.3) (move_second s.args.line.now pattern-after.result pattern-after.ensures (not-false _ if1.false) pattern-after2.result pattern-after2.ensures (c.if-not-d.true)))
+    rw c.no_move-then-not-d.ensures (no_move s.args.line.now s.args.base s.args.kind.now s.args.place.now s.args.weight.now _ _ _ (untouched s.args.base s.args.kind.now s.args.place.now s.args.weight.now s.requires.1 s.requires.2 s.requires.3) (move_second s.args.line.now pattern-after.result pattern-after.ensures (not-false _ if1.false) pattern-after2.result pattern-after2.ensures (not-true _ c.if-not-d.true)))
 
 pub arcs-s-requires : goal.arcs-s-requires
 arcs-s-requires c =

@@ -33,4 +33,4 @@ returns c =
     let s = c in
     let word = c.word in
     let e = word_met s.args.w.now s.args.line.now s.args.at word.result word.ensures (c.if-not-word.false) in
-    record { is = number_behind s.args.w.now s.args.line.now s.args.at c.decimal.result e c.decimal.ensures.0; inside = c.decimal.ensures.1 }
+    record { is = number_behind s.args.w.now s.args.line.now s.args.at c.decimal.result e c.decimal.ensures.is; inside = c.decimal.ensures.within }

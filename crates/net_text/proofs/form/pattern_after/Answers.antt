@@ -31,4 +31,4 @@ returns c =
     let s = c in
     let word = c.word in
     let e = word_met s.args.w.now s.args.line.now s.args.at word.result word.ensures (c.if-not-word.false) in
-    record { is = pattern_behind s.args.w.now s.args.line.now s.args.at c.hexadecimal.result e c.hexadecimal.ensures.0; inside = c.hexadecimal.ensures.1.0 }
+    record { is = pattern_behind s.args.w.now s.args.line.now s.args.at c.hexadecimal.result e c.hexadecimal.ensures.is; inside = c.hexadecimal.ensures.within }

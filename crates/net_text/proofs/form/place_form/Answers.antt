@@ -8,7 +8,7 @@ pub returns-then-not-i : goal.returns-then-not-i
 returns-then-not-i c =
     let s = c in
     let number-after = c.number_after-i in
-    rw c.no_place.ensures (no_place s.args.line.now (place_first s.args.line.now number-after.result number-after.ensures (c.if-not-i.true)))
+    rw c.no_place.ensures (no_place s.args.line.now (place_first s.args.line.now number-after.result number-after.ensures (not-true _ c.if-not-i.true)))
 
 pub number_after-c-requires : goal.number_after-c-requires
 number_after-c-requires c =
@@ -21,7 +21,7 @@ returns-then-not-c c =
     let number-after = c.number_after-i in
     let if1 = c.if-not-i in
     let number-after2 = c.number_after-c in
-    rw c.no_place-then-not-c.ensures (no_place s.args.line.now (place_second s.args.line.now number-after.result number-after.ensures (not-false _ if1.false) number-after2.result number-after2.ensures (c.if-not-c.true)))
+    rw c.no_place-then-not-c.ensures (no_place s.args.line.now (place_second s.args.line.now number-after.result number-after.ensures (not-false _ if1.false) number-after2.result number-after2.ensures (not-true _ c.if-not-c.true)))
 
 pub label_form-l-requires : goal.label_form-l-requires
 label_form-l-requires c =
@@ -36,7 +36,7 @@ returns-then-not-l c =
     let number-after2 = c.number_after-c in
     let if2 = c.if-not-c in
     let label-form = c.label_form-l in
-    rw c.no_place-then-not-l.ensures (no_place s.args.line.now (place_third s.args.line.now number-after.result number-after.ensures (not-false _ if1.false) number-after2.result number-after2.ensures (not-false _ if2.false) label-form.result label-form.ensures (c.if-not-l.true)))
+    rw c.no_place-then-not-l.ensures (no_place s.args.line.now (place_third s.args.line.now number-after.result number-after.ensures (not-false _ if1.false) number-after2.result number-after2.ensures (not-false _ if2.false) label-form.result label-form.ensures (not-true _ c.if-not-l.true)))
 
 pub returns : goal.returns
 returns c =
@@ -46,4 +46,4 @@ returns c =
     let number-after2 = c.number_after-c in
     let if2 = c.if-not-c in
     let label-form = c.label_form-l in
-    place_found s.args.line.now number-after.result number-after.ensures (not-false _ if1.false) number-after2.result number-after2.ensures (not-false _ if2.false) label-form.result label-form.ensures (c.if-not-l.false)
+    place_found s.args.line.now number-after.result number-after.ensures (not-false _ if1.false) number-after2.result number-after2.ensures (not-false _ if2.false) label-form.result label-form.ensures (not-false _ c.if-not-l.false)

@@ -9,7 +9,7 @@ pub returns-then-not-s : goal.returns-then-not-s
 returns-then-not-s c =
     let s = c in
     let number-after = c.number_after-s in
-    rw c.no_run.ensures (no_run_lem s.args.line.now (run_first s.args.line.now number-after.result number-after.ensures (c.if-not-s.true)))
+    rw c.no_run.ensures (no_run_lem s.args.line.now (run_first s.args.line.now number-after.result number-after.ensures (not-true _ c.if-not-s.true)))
 
 pub number_after-k-requires : goal.number_after-k-requires
 number_after-k-requires c =
@@ -22,7 +22,7 @@ returns-then-not-k c =
     let number-after = c.number_after-s in
     let if1 = c.if-not-s in
     let number-after2 = c.number_after-k in
-    rw c.no_run-then-not-k.ensures (no_run_lem s.args.line.now (run_second s.args.line.now number-after.result number-after.ensures (not-false _ if1.false) number-after2.result number-after2.ensures (c.if-not-k.true)))
+    rw c.no_run-then-not-k.ensures (no_run_lem s.args.line.now (run_second s.args.line.now number-after.result number-after.ensures (not-false _ if1.false) number-after2.result number-after2.ensures (not-true _ c.if-not-k.true)))
 
 pub number_after-seed-requires : goal.number_after-seed-requires
 number_after-seed-requires c =
@@ -37,7 +37,7 @@ returns-then-not-seed c =
     let number-after2 = c.number_after-k in
     let if2 = c.if-not-k in
     let number-after3 = c.number_after-seed in
-    rw c.no_run-then-not-seed.ensures (no_run_lem s.args.line.now (run_third s.args.line.now number-after.result number-after.ensures (not-false _ if1.false) number-after2.result number-after2.ensures (not-false _ if2.false) number-after3.result number-after3.ensures (c.if-not-seed.true)))
+    rw c.no_run-then-not-seed.ensures (no_run_lem s.args.line.now (run_third s.args.line.now number-after.result number-after.ensures (not-false _ if1.false) number-after2.result number-after2.ensures (not-false _ if2.false) number-after3.result number-after3.ensures (not-true _ c.if-not-seed.true)))
 
 pub pattern_after-h-requires : goal.pattern_after-h-requires
 pattern_after-h-requires c =
@@ -54,7 +54,7 @@ returns-then-not-h c =
     let number-after3 = c.number_after-seed in
     let if3 = c.if-not-seed in
     let pattern-after = c.pattern_after-h in
-    rw c.no_run-then-not-h.ensures (no_run_lem s.args.line.now (run_fourth s.args.line.now number-after.result number-after.ensures (not-false _ if1.false) number-after2.result number-after2.ensures (not-false _ if2.false) number-after3.result number-after3.ensures (not-false _ if3.false) pattern-after.result pattern-after.ensures (c.if-not-h.true)))
+    rw c.no_run-then-not-h.ensures (no_run_lem s.args.line.now (run_fourth s.args.line.now number-after.result number-after.ensures (not-false _ if1.false) number-after2.result number-after2.ensures (not-false _ if2.false) number-after3.result number-after3.ensures (not-false _ if3.false) pattern-after.result pattern-after.ensures (not-true _ c.if-not-h.true)))
 
 pub word-requires : goal.word-requires
 word-requires c =
@@ -84,7 +84,7 @@ overflow_add-result c =
     record {
       fits =
           next_fits pattern-after.result.next _
-          (word_ends (bytes ")") s.args.line.now pattern-after.result.next word.result word.ensures pattern-after.ensures.inside (not-false _ if5.false))
+          (word_ends (bytes ")") s.args.line.now pattern-after.result.next word.result word.ensures pattern-after.ensures.inside if5.false)
           s.well_formed.0.0;
     }
 
@@ -101,4 +101,4 @@ returns c =
     let if4 = c.if-not-h in
     let word = c.word in
     let if5 = c.if-not-word in
-    run_found s.args.line.now number-after.result number-after.ensures (not-false _ if1.false) number-after2.result number-after2.ensures (not-false _ if2.false) number-after3.result number-after3.ensures (not-false _ if3.false) pattern-after.result pattern-after.ensures (not-false _ if4.false) word.result word.ensures (not-false _ if5.false)
+    run_found s.args.line.now number-after.result number-after.ensures (not-false _ if1.false) number-after2.result number-after2.ensures (not-false _ if2.false) number-after3.result number-after3.ensures (not-false _ if3.false) pattern-after.result pattern-after.ensures (not-false _ if4.false) word.result word.ensures if5.false

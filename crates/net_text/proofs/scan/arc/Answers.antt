@@ -14,11 +14,11 @@ use Rattle.net_text.proofs.scan.arc.Goals as goal
 pub returns-then-not-word : goal.returns-then-not-word
 returns-then-not-word c =
     let w = c in
-    let s = w.args in (
-      arc_no_space s.line.now s.at w.word.result w.word.ensures (c.if-not-word.true)
-          ∙ arc_is_none s.line.now c.no_arc.result c.no_arc.ensures.0,
-      omega arith,
-    )
+    let s = w.args in record {
+      is = arc_no_space s.line.now s.at w.word.result w.word.ensures (c.if-not-word.true)
+          ∙ arc_is_none s.line.now c.no_arc.result c.no_arc.ensures.0;
+      within = omega arith;
+    }
 
 pub word-requires-2 : goal.word-requires-2
 word-requires-2 c =
@@ -43,12 +43,12 @@ returns-then-word c =
     let w2 = t in
     let e1 = w2 in
     let s = e1.args in
-    let l = s.line.now in (
-      arc_spaced l s.at e1.word.result e1.word.ensures (e1.if-not-word.false)
+    let l = s.line.now in record {
+      is = arc_spaced l s.at e1.word.result e1.word.ensures (e1.if-not-word.false)
           ∙ is_take (drop (s.at + 1) l) (drop (s.at + 1 + 6) l) (w2.word-2.ensures ∙ found_yes l tt (s.at + 1 + 6) w2.word-2.result t.if-word.true)
-          ∙ c.take_arc.ensures.0,
-      c.take_arc.ensures.1,
-    )
+          ∙ c.take_arc.ensures.is;
+      within = c.take_arc.ensures.within;
+    }
 
 pub word-requires-3 : goal.word-requires-3
 word-requires-3 c =
@@ -79,12 +79,12 @@ returns-then-word-2 c =
     let w2 = e2 in
     let e1 = w2 in
     let s = e1.args in
-    let l = s.line.now in (
-      arc_spaced l s.at e1.word.result e1.word.ensures (e1.if-not-word.false)
+    let l = s.line.now in record {
+      is = arc_spaced l s.at e1.word.result e1.word.ensures (e1.if-not-word.false)
           ∙ is_put_lem (drop (s.at + 1) l) (drop (s.at + 1 + 5) l) (w2.word-2.ensures ∙ found_no l tt (s.at + 1 + 6) w2.word-2.result e2.if-word.false) (w3.word-3.ensures ∙ found_yes l tt (s.at + 1 + 5) w3.word-3.result t.if-word-2.true)
-          ∙ c.plain_arc.ensures.0,
-      c.plain_arc.ensures.1,
-    )
+          ∙ c.plain_arc.ensures.is;
+      within = c.plain_arc.ensures.within;
+    }
 
 pub word-requires-4 : goal.word-requires-4
 word-requires-4 c =
@@ -121,12 +121,12 @@ returns-then-word-3 c =
     let w2 = e2 in
     let e1 = w2 in
     let s = e1.args in
-    let l = s.line.now in (
-      arc_spaced l s.at e1.word.result e1.word.ensures (e1.if-not-word.false)
+    let l = s.line.now in record {
+      is = arc_spaced l s.at e1.word.result e1.word.ensures (e1.if-not-word.false)
           ∙ is_read (drop (s.at + 1) l) (drop (s.at + 1 + 6) l) (w2.word-2.ensures ∙ found_no l tt (s.at + 1 + 6) w2.word-2.result e2.if-word.false) (w3.word-3.ensures ∙ found_no l tt (s.at + 1 + 5) w3.word-3.result e3.if-word-2.false) (w4.word-4.ensures ∙ found_yes l tt (s.at + 1 + 6) w4.word-4.result t.if-word-3.true)
-          ∙ c.plain_arc-then-word-3.ensures.0,
-      c.plain_arc-then-word-3.ensures.1,
-    )
+          ∙ c.plain_arc-then-word-3.ensures.is;
+      within = c.plain_arc-then-word-3.ensures.within;
+    }
 
 pub word-requires-5 : goal.word-requires-5
 word-requires-5 c =
@@ -169,12 +169,12 @@ returns-then-word-4 c =
     let w2 = e2 in
     let e1 = w2 in
     let s = e1.args in
-    let l = s.line.now in (
-      arc_spaced l s.at e1.word.result e1.word.ensures (e1.if-not-word.false)
+    let l = s.line.now in record {
+      is = arc_spaced l s.at e1.word.result e1.word.ensures (e1.if-not-word.false)
           ∙ is_block (drop (s.at + 1) l) (drop (s.at + 1 + 7) l) (w2.word-2.ensures ∙ found_no l tt (s.at + 1 + 6) w2.word-2.result e2.if-word.false) (w3.word-3.ensures ∙ found_no l tt (s.at + 1 + 5) w3.word-3.result e3.if-word-2.false) (w4.word-4.ensures ∙ found_no l tt (s.at + 1 + 6) w4.word-4.result e4.if-word-3.false) (w5.word-5.ensures ∙ found_yes l tt (s.at + 1 + 7) w5.word-5.result t.if-word-4.true)
-          ∙ c.plain_arc-then-word-4.ensures.0,
-      c.plain_arc-then-word-4.ensures.1,
-    )
+          ∙ c.plain_arc-then-word-4.ensures.is;
+      within = c.plain_arc-then-word-4.ensures.within;
+    }
 
 pub returns : goal.returns
 returns c =
@@ -188,9 +188,9 @@ returns c =
     let w2 = e2 in
     let e1 = w2 in
     let s = e1.args in
-    let l = s.line.now in (
-      arc_spaced l s.at e1.word.result e1.word.ensures (e1.if-not-word.false)
+    let l = s.line.now in record {
+      is = arc_spaced l s.at e1.word.result e1.word.ensures (e1.if-not-word.false)
           ∙ is_none (drop (s.at + 1) l) (w2.word-2.ensures ∙ found_no l tt (s.at + 1 + 6) w2.word-2.result e2.if-word.false) (w3.word-3.ensures ∙ found_no l tt (s.at + 1 + 5) w3.word-3.result e3.if-word-2.false) (w4.word-4.ensures ∙ found_no l tt (s.at + 1 + 6) w4.word-4.result e4.if-word-3.false) (w5.word-5.ensures ∙ found_no l tt (s.at + 1 + 7) w5.word-5.result e5.if-word-4.false)
-          ∙ arc_is_none l c.no_arc-2.result c.no_arc-2.ensures.0,
-      omega arith,
-    )
+          ∙ arc_is_none l c.no_arc-2.result c.no_arc-2.ensures.0;
+      within = omega arith;
+    }

@@ -19,21 +19,21 @@ loop-a-smaller c =
     let a = c in
     let l = a in
     let s = l.args in
-    let ok = c.if-not-a.false in
+    let ok = not-false _ c.if-not-a.false in
     let less = walk_less s.line.now s.at s.base s.kind.now s.place.now s.weight.now l.loop-a.kind l.loop-a.place l.loop-a.weight l.loop-a.count l.loop-a.strange
-    l.loop-a.next l.loop-a.invariant a.arc-a.result a.arc-a.ensures.0 ok a.arc-a.ensures.1 in
-    omega (arith, less, a.arc-a.ensures.1)
+    l.loop-a.next l.loop-a.invariant a.arc-a.result a.arc-a.ensures.is ok a.arc-a.ensures.within in
+    omega (arith, less, a.arc-a.ensures.within)
 
 pub loop-a-preserved : goal.loop-a-preserved
 loop-a-preserved c =
     let a = c in
     let l = a in
     let s = l.args in
-    let ok = c.if-not-a.false in
+    let ok = not-false _ c.if-not-a.false in
     let t = c.store in
     walk_more s.line.now s.at s.base s.kind.now s.place.now s.weight.now l.loop-a.kind l.loop-a.place l.loop-a.weight l.loop-a.count l.loop-a.strange
-    l.loop-a.next l.loop-a.invariant a.arc-a.result a.arc-a.ensures.0 ok a.arc-a.ensures.1 l.requires.1
-    t.new.0 t.new.1.0 t.new.1.1.0 t.ensures.0 t.ensures.1 t.ensures.2
+    l.loop-a.next l.loop-a.invariant a.arc-a.result a.arc-a.ensures.is ok a.arc-a.ensures.within l.requires.1
+    t.new.kind t.new.place t.new.weight t.ensures.0 t.ensures.1 t.ensures.2
 
 pub returns : goal.returns
 returns c =
@@ -41,4 +41,4 @@ returns c =
     let l = a in
     let s = l.args in
     walk_end s.line.now s.at s.base s.kind.now s.place.now s.weight.now l.loop-a.kind l.loop-a.place l.loop-a.weight l.loop-a.count l.loop-a.strange
-    l.loop-a.next l.loop-a.invariant a.arc-a.result a.arc-a.ensures.0 (c.if-not-a.true)
+    l.loop-a.next l.loop-a.invariant a.arc-a.result a.arc-a.ensures.is (not-true _ c.if-not-a.true)

@@ -11,41 +11,41 @@ use Rattle.net_text.proofs.scan.take_arc.Goals as goal
 pub returns-then-not-a : goal.returns-then-not-a
 returns-then-not-a c =
     let d = c in
-    let s = d.args in (
-      take_none s.line.now s.at d.two_numbers-a.result d.two_numbers-a.ensures.0 (c.if-not-a.true)
-          ∙ arc_is_none s.line.now c.no_arc.result c.no_arc.ensures.0,
-      omega arith,
-    )
+    let s = d.args in record {
+      is = take_none s.line.now s.at d.two_numbers-a.result d.two_numbers-a.ensures.is (not-true _ c.if-not-a.true)
+          ∙ arc_is_none s.line.now c.no_arc.result c.no_arc.ensures.0;
+      within = omega arith;
+    }
 
 pub returns-then-not-word : goal.returns-then-not-word
 returns-then-not-word c =
     let w = c in
     let d = w in
-    let s = d.args in (
-      take_no_space s.line.now s.at d.two_numbers-a.result d.two_numbers-a.ensures.0 (w.if-not-a.false) w.word.result w.word.ensures
+    let s = d.args in record {
+      is = take_no_space s.line.now s.at d.two_numbers-a.result d.two_numbers-a.ensures.is (not-false _ w.if-not-a.false) w.word.result w.word.ensures
           (c.if-not-word.true)
-          ∙ arc_is_none s.line.now c.no_arc-then-not-word.result c.no_arc-then-not-word.ensures.0,
-      omega arith,
-    )
+          ∙ arc_is_none s.line.now c.no_arc-then-not-word.result c.no_arc-then-not-word.ensures.0;
+      within = omega arith;
+    }
 
 pub decimal-flag-requires : goal.decimal-flag-requires
 decimal-flag-requires c =
     let w = c in
     let d = w in
     let s = d.args in
-    word_ends s.line.now (32 ∷ []) d.two_numbers-a.result.next w.word.result d.two_numbers-a.ensures.1 w.word.ensures (c.if-not-word.false)
+    word_ends s.line.now (32 ∷ []) d.two_numbers-a.result.next w.word.result d.two_numbers-a.ensures.within w.word.ensures (c.if-not-word.false)
 
 pub returns-then-not-flag : goal.returns-then-not-flag
 returns-then-not-flag c =
     let k = c in
     let w = k in
     let d = w in
-    let s = d.args in (
-      take_no_flag s.line.now s.at d.two_numbers-a.result d.two_numbers-a.ensures.0 (w.if-not-a.false) w.word.result w.word.ensures
-          (k.if-not-word.false) k.decimal-flag.result k.decimal-flag.ensures.0 (c.if-not-flag.true)
-          ∙ arc_is_none s.line.now c.no_arc-then-not-flag.result c.no_arc-then-not-flag.ensures.0,
-      omega arith,
-    )
+    let s = d.args in record {
+      is = take_no_flag s.line.now s.at d.two_numbers-a.result d.two_numbers-a.ensures.is (not-false _ w.if-not-a.false) w.word.result w.word.ensures
+          (k.if-not-word.false) k.decimal-flag.result k.decimal-flag.ensures.is (not-true _ c.if-not-flag.true)
+          ∙ arc_is_none s.line.now c.no_arc-then-not-flag.result c.no_arc-then-not-flag.ensures.0;
+      within = omega arith;
+    }
 
 pub returns-then-not-word-2 : goal.returns-then-not-word-2
 returns-then-not-word-2 c =
@@ -53,13 +53,13 @@ returns-then-not-word-2 c =
     let k = z in
     let w = k in
     let d = w in
-    let s = d.args in (
-      take_open s.line.now s.at d.two_numbers-a.result d.two_numbers-a.ensures.0 (w.if-not-a.false) w.word.result w.word.ensures
-          (k.if-not-word.false) k.decimal-flag.result k.decimal-flag.ensures.0 (z.if-not-flag.false) z.word-2.result z.word-2.ensures
+    let s = d.args in record {
+      is = take_open s.line.now s.at d.two_numbers-a.result d.two_numbers-a.ensures.is (not-false _ w.if-not-a.false) w.word.result w.word.ensures
+          (k.if-not-word.false) k.decimal-flag.result k.decimal-flag.ensures.is (not-false _ z.if-not-flag.false) z.word-2.result z.word-2.ensures
           (c.if-not-word-2.true)
-          ∙ arc_is_none s.line.now c.no_arc-then-not-word-2.result c.no_arc-then-not-word-2.ensures.0,
-      omega arith,
-    )
+          ∙ arc_is_none s.line.now c.no_arc-then-not-word-2.result c.no_arc-then-not-word-2.ensures.0;
+      within = omega arith;
+    }
 
 pub returns : goal.returns
 returns c =
@@ -68,9 +68,9 @@ returns c =
     let k = z in
     let w = k in
     let d = w in
-    let s = d.args in (
-      rw c.take_kind.ensures (take_whole s.line.now s.at d.two_numbers-a.result d.two_numbers-a.ensures.0 (w.if-not-a.false) w.word.result w.word.ensures
-          (k.if-not-word.false) k.decimal-flag.result k.decimal-flag.ensures.0 (z.if-not-flag.false) z.word-2.result z.word-2.ensures
-          (e.if-not-word-2.false)),
-      word_ends s.line.now (41 ∷ []) k.decimal-flag.result.next z.word-2.result k.decimal-flag.ensures.1 z.word-2.ensures (e.if-not-word-2.false),
-    )
+    let s = d.args in record {
+      is = rw c.take_kind.ensures (take_whole s.line.now s.at d.two_numbers-a.result d.two_numbers-a.ensures.is (not-false _ w.if-not-a.false) w.word.result w.word.ensures
+          (k.if-not-word.false) k.decimal-flag.result k.decimal-flag.ensures.is (not-false _ z.if-not-flag.false) z.word-2.result z.word-2.ensures
+          (e.if-not-word-2.false));
+      within = word_ends s.line.now (41 ∷ []) k.decimal-flag.result.next z.word-2.result k.decimal-flag.ensures.within z.word-2.ensures (e.if-not-word-2.false);
+    }

@@ -11,49 +11,49 @@ use Rattle.net_text.proofs.scan.two_numbers.Goals as goal
 pub returns-then-not-p : goal.returns-then-not-p
 returns-then-not-p c =
     let d = c in
-    let s = d.args in (
-      pair_none s.line.now s.at d.decimal-p.result d.decimal-p.ensures.0 (c.if-not-p.true)
-          ∙ pair_is_none s.line.now c.no_pair.result c.no_pair.ensures.0,
-      omega arith,
-    )
+    let s = d.args in record {
+      is = pair_none s.line.now s.at d.decimal-p.result d.decimal-p.ensures.is (not-true _ c.if-not-p.true)
+          ∙ pair_is_none s.line.now c.no_pair.result c.no_pair.ensures.0;
+      within = omega arith;
+    }
 
 pub returns-then-not-word : goal.returns-then-not-word
 returns-then-not-word c =
     let w = c in
     let d = w in
-    let s = d.args in (
-      pair_no_space s.line.now s.at d.decimal-p.result d.decimal-p.ensures.0 (w.if-not-p.false) w.word.result w.word.ensures
+    let s = d.args in record {
+      is = pair_no_space s.line.now s.at d.decimal-p.result d.decimal-p.ensures.is (not-false _ w.if-not-p.false) w.word.result w.word.ensures
           (c.if-not-word.true)
-          ∙ pair_is_none s.line.now c.no_pair-then-not-word.result c.no_pair-then-not-word.ensures.0,
-      omega arith,
-    )
+          ∙ pair_is_none s.line.now c.no_pair-then-not-word.result c.no_pair-then-not-word.ensures.0;
+      within = omega arith;
+    }
 
 pub decimal-w-requires : goal.decimal-w-requires
 decimal-w-requires c =
     let w = c in
     let d = w in
     let s = d.args in
-    word_ends s.line.now (32 ∷ []) d.decimal-p.result.next w.word.result d.decimal-p.ensures.1 w.word.ensures (c.if-not-word.false)
+    word_ends s.line.now (32 ∷ []) d.decimal-p.result.next w.word.result d.decimal-p.ensures.within w.word.ensures (c.if-not-word.false)
 
 pub returns-then-not-w : goal.returns-then-not-w
 returns-then-not-w c =
     let d2 = c in
     let w = d2 in
     let d = w in
-    let s = d.args in (
-      pair_no_second s.line.now s.at d.decimal-p.result d.decimal-p.ensures.0 (w.if-not-p.false) w.word.result w.word.ensures
-          (d2.if-not-word.false) d2.decimal-w.result d2.decimal-w.ensures.0 (c.if-not-w.true)
-          ∙ pair_is_none s.line.now c.no_pair-then-not-w.result c.no_pair-then-not-w.ensures.0,
-      omega arith,
-    )
+    let s = d.args in record {
+      is = pair_no_second s.line.now s.at d.decimal-p.result d.decimal-p.ensures.is (not-false _ w.if-not-p.false) w.word.result w.word.ensures
+          (d2.if-not-word.false) d2.decimal-w.result d2.decimal-w.ensures.is (not-true _ c.if-not-w.true)
+          ∙ pair_is_none s.line.now c.no_pair-then-not-w.result c.no_pair-then-not-w.ensures.0;
+      within = omega arith;
+    }
 
 pub returns : goal.returns
 returns c =
     let d2 = c in
     let w = d2 in
     let d = w in
-    let s = d.args in (
-      pair_both s.line.now s.at d.decimal-p.result d.decimal-p.ensures.0 (w.if-not-p.false) w.word.result w.word.ensures
-          (d2.if-not-word.false) d2.decimal-w.result d2.decimal-w.ensures.0 (c.if-not-w.false),
-      d2.decimal-w.ensures.1,
-    )
+    let s = d.args in record {
+      is = pair_both s.line.now s.at d.decimal-p.result d.decimal-p.ensures.is (not-false _ w.if-not-p.false) w.word.result w.word.ensures
+          (d2.if-not-word.false) d2.decimal-w.result d2.decimal-w.ensures.is (not-false _ c.if-not-w.false);
+      within = d2.decimal-w.ensures.within;
+    }
