@@ -5,7 +5,6 @@ use mathlib.Core.Bool.{Bool, true, false, ◌||◌}
 use mathlib.Core.List.{List, []}
 use native.Mathlib.Omega.{arith}
 use lib.ListN.{length, get_or, drop}
-use Rattle.net.specs.Readable.{slots}
 use Rattle.text.specs.Text.{Bytes, bytes}
 use Rattle.net_text.specs.Forms.{Met, wrong, met, Form, say, behind, many, ◌>>=◌, ◌>>◌, exactly, quoted, decimal, hexadecimal, Decimal, RawArc, RawLine, raw_place, raw_move, raw_run, next_arc, label_form, place_form, move_form, run_form}
 use Rattle.net_text.specs.Scanned.{through, found, seen, number_is, pattern_is, ArcsRead}

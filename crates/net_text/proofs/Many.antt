@@ -1,6 +1,6 @@
 -- "As often as it is met" (Forms, many): its bound is never felt, since an arc takes a byte or more (takes-arc). So it is one arc and then the
 -- rest (many-next), or none (many-end). Assumes nothing.
-use Prim.Native.Nat.{ℕ, zero, suc, ◌+◌, ◌≤◌, ◌<◌}
+use Prim.Native.Nat.{ℕ, zero, suc, ◌≤◌, ◌<◌}
 use Prim.Native.String.{String}
 use mathlib.Core.Path.{◌≡◌, refl, sym, ap, ◌∙◌}
 use mathlib.Core.Bool.{Bool, true, false}

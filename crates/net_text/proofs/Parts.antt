@@ -13,7 +13,7 @@ use borrow.Author.Tests.{ne_eqb, eqb-true}
 use Rattle.net.specs.Net.{pick}
 use Rattle.net.proofs.Twice.{eqb_swap}
 use Rattle.text.specs.Text.{Bytes, bytes, same}
-use Rattle.net_text.specs.Forms.{Met, wrong, met, Form, behind, alone, exactly, decimal, Decimal, RawLine, place_form, move_form, run_form, line_of}
+use Rattle.net_text.specs.Forms.{Met, wrong, met, Form, behind, alone, exactly, Decimal, RawLine, place_form, move_form, run_form, line_of}
 use Rattle.net_text.specs.Reading.{badly}
 use Rattle.net_text.specs.Scanned.{through, found, held, Seen, seen, number_is}
 use Rattle.net_text.specs.declared.scan.Number.{Number}

@@ -2,7 +2,7 @@
 -- The forms of the lines stand at the end. Each lists the parts of its line in order: a part in quotes stands there as it is, and
 -- `x ← part` gives the name x to what that part says. Nothing else may stand between the parts, so a space is one space.
 -- A form says what is written and judges no value: numbers of any size, places that there are not and labels of any bytes have the right form.
-use Rattle.std.specs.Prelude.{ℕ, zero, suc, ◌+◌, ◌-◌, ◌*◌, Bool, true, false, ◌&&◌, List, [], ◌∷◌, eqb, leb, length}
+use Rattle.std.specs.Prelude.{ℕ, zero, suc, ◌+◌, ◌-◌, ◌*◌, Bool, false, ◌&&◌, List, [], ◌∷◌, eqb, leb, length}
 use Prim.Native.String.{String}
 use Rattle.std.proofs.Math.Option.{Option, none, some}
 use Rattle.net.specs.Net.{pick}

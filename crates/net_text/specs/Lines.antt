@@ -1,5 +1,5 @@
 -- A text cut into lines. Document 01, "Net text (added, house format)": "One form a line, …, newline after each".
-use Rattle.std.specs.Prelude.{ℕ, Bool, true, false, List, [], ◌∷◌, eqb, ltb, length}
+use Rattle.std.specs.Prelude.{ℕ, Bool, List, [], ◌∷◌, eqb, ltb, length}
 use Rattle.net.specs.Net.{pick}
 use Rattle.text.specs.Text.{Bytes, newline}
 

@@ -1,13 +1,13 @@
 -- Reading a net text: the net, the labels of its places and the run line, or a refusal's number and its line. Document 01, "Each operation's
 -- turn-downs: Net text" and "Net text (added, house format)", and document 02, order 1. Labels stand beside the net.
-use Rattle.std.specs.Prelude.{ℕ, zero, suc, ◌^◌, Bool, true, false, ◌||◌, not, List, [], ◌∷◌, ◌++◌, eqb, leb, ltb, length}
+use Rattle.std.specs.Prelude.{ℕ, suc, ◌^◌, Bool, ◌||◌, not, List, [], ◌∷◌, ◌++◌, eqb, leb, ltb, length}
 use Rattle.std.proofs.Math.Option.{Option, none, some}
 use Rattle.std.specs.Float.{binary64}
 use Rattle.std.specs.Float.Ieee.{of_bits}
 use Rattle.refusals.specs as Refusal
 use Rattle.net.specs.Net.{Place, Arc, Take, Transition, Net, pick}
 use Rattle.text.specs.Text.{Bytes, bytes, same}
-use Rattle.net_text.specs.Lines.{Lines, lines, too_long}
+use Rattle.net_text.specs.Lines.{lines, too_long}
 use Rattle.net_text.specs.Forms.{Decimal, RawArc, raw_take, raw_put, raw_read, raw_block, RawLine, raw_place, raw_move, raw_run, line_of}
 use Rattle.net.specs.Tests.{Test, first_of, any, empty, place_tests, move_tests}
 use Rattle.net.specs.Labels.{label_tests}

@@ -1,5 +1,4 @@
 -- A NaN's pattern is one above the infinity's, its sign bit taken off.
-use borrow.Author.Rules.{rules}
 use Rattle.net_text.proofs.Patterns.{nan_pattern, number_pattern}
 use Rattle.net_text.proofs.float_of.Goals as goal
 

@@ -1,5 +1,4 @@
 -- Over 8,192 bytes nothing is looked at; else what the lines give is the answer.
-use borrow.Author.Rules.{rules}
 use mathlib.Core.Path.{refl}
 use Rattle.net_text.specs.Position.{tables}
 use Rattle.net_text.proofs.Whole.{too_long, whole_refused, whole_given}

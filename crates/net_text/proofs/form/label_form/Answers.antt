@@ -1,5 +1,4 @@
 -- A space or a bracket stands behind the capacity; behind a space the line's last byte decides.
-use borrow.Author.Rules.{rules}
 use native.Mathlib.Omega.{arith}
 use Rattle.net_text.proofs.Labels.{space_inside, no_label_lem, nothing_behind, other_end, label_found, label_absent, neither}
 use Rattle.net_text.proofs.form.label_form.Goals as goal

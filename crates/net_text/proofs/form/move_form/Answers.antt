@@ -1,5 +1,4 @@
 -- Part by part: the form is not met where a part is not, and else it says what the parts say. Only the arcs touch the slots.
-use borrow.Author.Rules.{rules}
 use native.Mathlib.Omega.{arith}
 use borrow.Author.Tests.{not-true, not-false}
 use Rattle.net_text.proofs.Lined.{untouched, no_move, move_first, move_second, arcs_kept, move_fourth, move_found, word_ends}

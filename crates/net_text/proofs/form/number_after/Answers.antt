@@ -1,8 +1,6 @@
 -- The word is met or not; behind it the scanner's own answer is the answer.
-use borrow.Author.Rules.{rules}
 use native.Mathlib.Omega.{arith}
 use mathlib.Core.Path.{ap}
-use borrow.Author.Tests.{not-true, not-false}
 use Rattle.net_text.specs.Forms.{decimal}
 use Rattle.net_text.specs.Scanned.{through, seen}
 use Rattle.net_text.proofs.Lined.{word_met, word_stop, word_ends, number_behind}

@@ -1,7 +1,5 @@
 -- The word is met or not; behind it the scanner's own answer is the answer.
-use borrow.Author.Rules.{rules}
 use native.Mathlib.Omega.{arith}
-use borrow.Author.Tests.{not-true, not-false}
 use Rattle.net_text.specs.Forms.{hexadecimal}
 use Rattle.net_text.proofs.Lined.{word_met, word_stop, word_ends, pattern_behind}
 use Rattle.net_text.proofs.form.pattern_after.Goals as goal

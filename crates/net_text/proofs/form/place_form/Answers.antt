@@ -1,5 +1,4 @@
 -- Part by part: the form is not met where a part is not, and else it says what the parts say.
-use borrow.Author.Rules.{rules}
 use borrow.Author.Tests.{not-true, not-false}
 use Rattle.net_text.proofs.Lined.{no_place, place_first, place_second, place_third, place_found}
 use Rattle.net_text.proofs.form.place_form.Goals as goal

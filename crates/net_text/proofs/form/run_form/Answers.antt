@@ -1,5 +1,4 @@
 -- Part by part: the form is not met where a part is not, and else it says what the parts say.
-use borrow.Author.Rules.{rules}
 use borrow.Author.Tests.{not-true, not-false}
 use Rattle.net_text.proofs.Lined.{no_run_lem, run_first, run_second, run_third, run_fourth, run_fifth, run_found, word_ends, next_fits}
 use Rattle.text.specs.Text.{bytes}

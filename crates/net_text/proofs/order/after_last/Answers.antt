@@ -1,5 +1,4 @@
 -- A line is missing at every stage but the last.
-use borrow.Author.Rules.{rules}
 use mathlib.Core.Path.{refl}
 use Rattle.net_text.proofs.Turns.{missing, complete}
 use Rattle.net_text.proofs.order.after_last.Goals as goal

@@ -1,7 +1,6 @@
 -- The first form that is met decides what the line is; each return cites the law of its case.
-use borrow.Author.Rules.{rules}
 use native.Mathlib.Omega.{arith}
-use Rattle.net_text.specs.Position.{Tables, tables}
+use Rattle.net_text.specs.Position.{tables}
 use Rattle.net_text.proofs.Parts.{no_form}
 use Rattle.net_text.proofs.Taking.{wrong_line, place_wrong, place_behind, place_refused, place_accepted, run_wrong, run_behind, run_refused, run_accepted, move_wrong, move_behind, move_refused, move_accepted}
 use Rattle.net_text.proofs.order.inside_line.Goals as goal

@@ -1,6 +1,4 @@
 -- The word in front, and nothing behind it.
-use borrow.Author.Rules.{rules}
-use borrow.Author.Tests.{not-true, not-false}
 use Rattle.net_text.proofs.Parts.{same_not, same_is}
 use Rattle.net_text.proofs.Lined.{word_met, word_wrong}
 use Rattle.net_text.proofs.order.is_word.Goals as goal

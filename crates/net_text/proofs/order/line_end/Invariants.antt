@@ -1,10 +1,7 @@
 -- The loop's invariant: no newline stands between the line's begin and i.
-use borrow.Author.Rules.{rules}
-use native.Mathlib.Omega.{arith}
 use Prim.Native.Nat.{◌-◌, ◌≤◌}
 use lib.ListN.{length, take, drop}
 use Rattle.net_text.specs.Position.{plain}
-use Rattle.net_text.proofs.Cut.{plain_more, plain_none}
 use Rattle.net_text.proofs.order.line_end.Given as goal
 
 abbrev pub invariant-loop-i : goal.invariant-loop-i

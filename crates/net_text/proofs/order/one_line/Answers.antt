@@ -1,6 +1,5 @@
 -- By what is due; each return cites the law of its case.
-use borrow.Author.Rules.{rules}
-use Rattle.net_text.specs.Position.{Tables, tables}
+use Rattle.net_text.specs.Position.{tables}
 use mathlib.Core.Path.{sym, ◌∙◌}
 use Rattle.net_text.proofs.Turns.{opened, not_opened, between, closed, not_closed, behind_all}
 use Rattle.net_text.proofs.order.one_line.Goals as goal

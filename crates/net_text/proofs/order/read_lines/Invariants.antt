@@ -1,10 +1,8 @@
 -- The loop's invariant: what is read from here on is what is read of the whole text (Turns, Reading).
-use borrow.Author.Rules.{rules}
-use native.Mathlib.Omega.{arith}
 use Prim.Native.Nat.{◌-◌}
 use lib.ListN.{length}
-use Rattle.net_text.specs.Position.{Tables, tables}
-use Rattle.net_text.proofs.Turns.{Reading, begin, cut_short, refused_there, one_more, at_the_end}
+use Rattle.net_text.specs.Position.{tables}
+use Rattle.net_text.proofs.Turns.{Reading}
 use Rattle.net_text.proofs.order.read_lines.Given as goal
 
 abbrev pub invariant-loop-at : goal.invariant-loop-at

@@ -1,5 +1,4 @@
 -- A label over 16 bytes is 17; else its slots read as it is written, and the net's own test decides.
-use borrow.Author.Rules.{rules}
 use mathlib.Core.Path.{refl, ap, ◌∙◌}
 use mathlib.Core.List.{List}
 use Prim.Native.Nat.{ℕ}

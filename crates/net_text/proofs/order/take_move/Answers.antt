@@ -1,5 +1,4 @@
 -- The transition's own test decides, and an accepted transition is below 64.
-use borrow.Author.Rules.{rules}
 use native.Mathlib.Omega.{arith}
 use mathlib.Core.Path.{refl, sym, ap, ◌∙◌}
 use Prim.Native.Nat.{◌*◌, ◌<◌}

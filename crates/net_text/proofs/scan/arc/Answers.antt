@@ -1,12 +1,10 @@
 -- `arc` meets its contract: the word that stands there decides which of the four forms can be met (Arcs). Assumes nothing.
-use borrow.Author.Rules.{rules}
 use native.Mathlib.Omega.{arith}
 use mathlib.Core.Path.{◌∙◌}
 use Prim.Native.Nat.{◌+◌}
 use mathlib.Core.List.{[], ◌∷◌}
 use lib.ListN.{drop}
 use Rattle.text.specs.Text.{bytes}
-use borrow.Author.Tests.{not-true, not-false}
 use Rattle.net_text.proofs.Forms.{word_ends, found_yes, found_no}
 use Rattle.net_text.proofs.Arcs.{arc_no_space, arc_spaced, is_take, is_put_lem, is_read, is_block, is_none, arc_is_none}
 use Rattle.net_text.proofs.scan.arc.Goals as goal

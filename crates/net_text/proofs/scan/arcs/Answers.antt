@@ -1,11 +1,8 @@
 -- `arcs` meets its contract. The invariant is Walk: the arcs so far, behind which the rest of the line is still to be read. An arc takes a byte
 -- or more, so the loop ends. Assumes nothing.
-use borrow.Author.Rules.{rules}
 use native.Mathlib.Omega.{arith}
-use Prim.Native.Nat.{◌-◌}
-use lib.ListN.{length}
 use borrow.Author.Tests.{not-true, not-false}
-use Rattle.net_text.proofs.Walk.{Walk, walk_none, walk_more, walk_less, walk_end}
+use Rattle.net_text.proofs.Walk.{walk_none, walk_more, walk_less, walk_end}
 use Rattle.net_text.proofs.scan.arcs.Goals as goal
 
 pub loop-a-init : goal.loop-a-init

@@ -1,5 +1,4 @@
 -- `hex_digit` meets its contract: the five ranges of a byte (Hexadecimal). Assumes nothing.
-use borrow.Author.Rules.{rules}
 use native.Mathlib.Omega.{arith}
 use Rattle.net_text.proofs.Hexadecimal.{hex_below, hex_decimal, hex_between, hex_letter, hex_above}
 use Rattle.net_text.proofs.scan.hex_digit.Goals as goal

@@ -1,11 +1,9 @@
 -- `hexadecimal` meets its contract: the digits that are left, behind the value so far, give the number; i digits are below 16 ^ i (Hexadecimal). Assumes nothing.
-use borrow.Author.Rules.{rules}
 use native.Mathlib.Omega.{arith}
 use mathlib.Core.Path.{◌≡◌, sym, ◌∙◌}
-use Prim.Native.Nat.{◌+◌, ◌-◌, ◌^◌, ◌≤◌, ◌<◌}
-use lib.ListN.{length, drop, length-drop}
+use Prim.Native.Nat.{◌<◌}
+use lib.ListN.{drop, length-drop}
 use native.Mathlib.Nat.{add-zero}
-use Rattle.net_text.specs.Forms.{hex_from, hexadecimal}
 use Rattle.net_text.proofs.Hexadecimal.{hex_short, hex_more, hex_stop, ne_below, room, wider}
 use Rattle.net_text.proofs.scan.hexadecimal.Goals as goal
 

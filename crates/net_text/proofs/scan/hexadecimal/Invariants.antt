@@ -1,12 +1,8 @@
 -- `hexadecimal` meets its contract: the digits that are left, behind the value so far, give the number; i digits are below 16 ^ i (Hexadecimal). Assumes nothing.
-use borrow.Author.Rules.{rules}
-use native.Mathlib.Omega.{arith}
-use mathlib.Core.Path.{◌≡◌, sym, ◌∙◌}
+use mathlib.Core.Path.{◌≡◌}
 use Prim.Native.Nat.{◌+◌, ◌-◌, ◌^◌, ◌≤◌, ◌<◌}
-use lib.ListN.{length, drop, length-drop}
-use native.Mathlib.Nat.{add-zero}
+use lib.ListN.{length, drop}
 use Rattle.net_text.specs.Forms.{hex_from, hexadecimal}
-use Rattle.net_text.proofs.Hexadecimal.{hex_short, hex_more, hex_stop, ne_below, room, wider}
 use Rattle.net_text.proofs.scan.hexadecimal.Given as goal
 
 abbrev pub invariant-loop-i : goal.invariant-loop-i

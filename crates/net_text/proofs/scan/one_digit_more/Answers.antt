@@ -1,5 +1,4 @@
 -- `one_digit_more` meets its contract: the three cases of a value that is kept in 64 bits (Decimals). Assumes nothing.
-use borrow.Author.Rules.{rules}
 use native.Mathlib.Omega.{arith}
 use Prim.Native.Nat.{◌+◌, ◌*◌}
 use Rattle.net_text.proofs.Decimals.{more_small, kept_large, small_if, large_if}

@@ -1,5 +1,4 @@
 -- `store` meets its contract: each table is set at the slot, or is left (Walk). Assumes nothing.
-use borrow.Author.Rules.{rules}
 use Rattle.net_text.proofs.Walk.{stored_yes, stored_no}
 use Rattle.net_text.proofs.scan.store.Goals as goal
 

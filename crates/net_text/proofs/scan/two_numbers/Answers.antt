@@ -1,5 +1,4 @@
 -- `two_numbers` meets its contract: each part that is missed makes the form wrong (Arcs). Assumes nothing.
-use borrow.Author.Rules.{rules}
 use native.Mathlib.Omega.{arith}
 use mathlib.Core.Path.{◌∙◌}
 use mathlib.Core.List.{[], ◌∷◌}

@@ -1,11 +1,8 @@
 -- `word` meets its contract: what is left of the word, against what is left of the line, gives the same as the whole word (Forms). Assumes nothing.
-use borrow.Author.Rules.{rules}
 use native.Mathlib.Omega.{arith}
-use mathlib.Core.Path.{◌≡◌, sym, ◌∙◌}
-use Prim.Native.Nat.{◌+◌, ◌-◌, ◌≤◌}
-use lib.ListN.{length, drop, length-drop}
+use mathlib.Core.Path.{sym, ◌∙◌}
+use lib.ListN.{drop, length-drop}
 use native.Mathlib.Nat.{add-zero}
-use Rattle.net_text.specs.Forms.{exactly}
 use Rattle.net_text.proofs.Forms.{word_short, word_same, word_other, word_whole}
 use Rattle.net_text.proofs.scan.word.Goals as goal
 

@@ -1,12 +1,8 @@
 -- `word` meets its contract: what is left of the word, against what is left of the line, gives the same as the whole word (Forms). Assumes nothing.
-use borrow.Author.Rules.{rules}
-use native.Mathlib.Omega.{arith}
-use mathlib.Core.Path.{◌≡◌, sym, ◌∙◌}
+use mathlib.Core.Path.{◌≡◌}
 use Prim.Native.Nat.{◌+◌, ◌-◌, ◌≤◌}
-use lib.ListN.{length, drop, length-drop}
-use native.Mathlib.Nat.{add-zero}
+use lib.ListN.{length, drop}
 use Rattle.net_text.specs.Forms.{exactly}
-use Rattle.net_text.proofs.Forms.{word_short, word_same, word_other, word_whole}
 use Rattle.net_text.proofs.scan.word.Given as goal
 
 abbrev pub invariant-loop-i : goal.invariant-loop-i
