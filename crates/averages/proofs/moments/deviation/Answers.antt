@@ -3,7 +3,7 @@ use Rattle.std.proofs.Common.{rules}
 use Rattle.averages.proofs.moments.deviation.Goals as goal
 
 pub returns-then-v : goal.returns-then-v
-returns-then-v c = simp c.if-v.true c.sqrt.ensures.1
+returns-then-v c = simp c.if-v.true c.sqrt.ensures.worked
 
 pub returns : goal.returns
-returns c = simp c.if-v.false c.sqrt-2.ensures.1
+returns c = simp c.if-v.false c.sqrt-2.ensures.worked

@@ -3,7 +3,7 @@ use Rattle.std.proofs.Common.{rules, eq-eqb, ne_eqb}
 use Rattle.averages.proofs.request.seed_of.Goals as goal
 
 pub returns-then-seed-eq0 : goal.returns-then-seed-eq0
-returns-then-seed-eq0 c = simp (eq-eqb _ _ c.if-seed-eq0.true) c.wrapping_add_u64.ensures
+returns-then-seed-eq0 c = simp (eq-eqb _ _ c.if-seed-eq0.true) c.wrapping_add_u64.ensures.value
 
 pub returns : goal.returns
-returns c = simp (ne_eqb _ _ c.if-seed-eq0.false) c.wrapping_add_u64-2.ensures
+returns c = simp (ne_eqb _ _ c.if-seed-eq0.false) c.wrapping_add_u64-2.ensures.value
