@@ -1,6 +1,6 @@
 -- Means and deviations over paths. A path is the list of its table's cells, so cell c is the same place and instant in each. Document 01, "Ensemble":
 -- "Mean = sum / n; deviation = root of (sum of squares / n − mean × mean), negative read as 0". Sums run in path order, from +0.
-use Rattle.std.specs.Prelude.{ℕ, zero, suc, Bool, List, [], ◌∷◌, ◌++◌, length, drop, ◌==◌, slice_index_or, Float}
+use Rattle.std.specs.Prelude.{ℕ, zero, suc, List, [], ◌∷◌, ◌++◌, length, drop, ◌==◌, slice_index_or, Float}
 use Rattle.std.specs.Float.{nan, binary64}
 use Rattle.std.specs.Float.Ieee.{add, sub, mul, div, lt}
 use Rattle.net.specs.Net.{pick, zero64}

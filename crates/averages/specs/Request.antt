@@ -1,6 +1,6 @@
 -- What an ensemble or a diffusion is asked for, its tests, its seeds and its instants. Document 01, "Ensemble", "Domain" and "Each operation's
 -- turn-downs: Ensemble, diffusion".
-use Rattle.std.specs.Prelude.{ℕ, zero, suc, ◌+◌, ◌-◌, ◌*◌, ◌%◌, ◌^◌, Bool, true, false, not, ◌&&◌, List, [], ◌∷◌, length, ◌==◌, from_bits, nat_le, Float}
+use Rattle.std.specs.Prelude.{ℕ, zero, suc, ◌+◌, ◌-◌, ◌%◌, ◌^◌, Bool, not, ◌&&◌, List, [], ◌∷◌, ◌==◌, from_bits, nat_le, Float}
 use Rattle.std.proofs.Math.Option.{Option}
 use Rattle.std.specs.Float.{binary64}
 use Rattle.std.specs.Float.Ieee.{mul, div, lt, le}

@@ -1,6 +1,5 @@
 -- The invariant: the first c cells have their sum of squares, and the others stay (Fronts). Assumes nothing.
-use Rattle.std.proofs.Common.{◌≡◌, ◌-◌, ◌≤◌, length, refl, ◌∙◌, arith, length-set, rules}
-use Rattle.averages.specs.Front as Front
+use Rattle.std.proofs.Common.{refl, ◌∙◌, arith, length-set}
 use Rattle.averages.specs.Moments as Moments
 use Rattle.averages.proofs.Fronts.{with_more, with_end}
 use Rattle.averages.proofs.moments.add_squares.Goals as goal

@@ -1,8 +1,7 @@
 -- The invariant: the first c cells have their sum of squares, and the others stay (Fronts). Assumes nothing.
-use Rattle.std.proofs.Common.{◌≡◌, ◌-◌, ◌≤◌, length, refl, ◌∙◌, arith, length-set, rules}
+use Rattle.std.proofs.Common.{◌≡◌, ◌-◌, ◌≤◌, length}
 use Rattle.averages.specs.Front as Front
 use Rattle.averages.specs.Moments as Moments
-use Rattle.averages.proofs.Fronts.{with_more, with_end}
 use Rattle.averages.proofs.moments.add_squares.Given as goal
 
 abbrev pub invariant-loop-c : goal.invariant-loop-c

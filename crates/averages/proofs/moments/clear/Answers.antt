@@ -1,8 +1,7 @@
 -- The invariant: the first c cells are +0, and the others stay (Fronts). Assumes nothing.
-use Rattle.std.proofs.Common.{◌≡◌, ◌-◌, ◌≤◌, length, refl, ◌∙◌, arith, length-set, rules}
+use Rattle.std.proofs.Common.{refl, ◌∙◌, arith, length-set}
 use lib.Ieee.{Float}
 use Rattle.net.specs.Net.{zero64}
-use Rattle.averages.specs.Front as Front
 use Rattle.averages.proofs.Fronts.{on_more, on_end}
 use Rattle.averages.proofs.moments.clear.Goals as goal
 

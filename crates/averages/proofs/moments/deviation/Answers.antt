@@ -1,5 +1,4 @@
 -- Each return rewrites the test by the branch that led there; the root is as worked. Assumes nothing.
-use Rattle.std.proofs.Common.{rules}
 use Rattle.averages.proofs.moments.deviation.Goals as goal
 
 pub returns-then-v : goal.returns-then-v

@@ -1,6 +1,5 @@
 -- The invariant: the first c cells are means, and the others stay (Fronts). Assumes nothing.
-use Rattle.std.proofs.Common.{◌≡◌, ◌-◌, ◌≤◌, length, refl, ◌∙◌, arith, length-set, rules}
-use Rattle.averages.specs.Front as Front
+use Rattle.std.proofs.Common.{refl, ◌∙◌, arith, length-set}
 use Rattle.averages.specs.Moments as Moments
 use Rattle.averages.proofs.Fronts.{on_more, on_end}
 use Rattle.averages.proofs.moments.to_means.Goals as goal

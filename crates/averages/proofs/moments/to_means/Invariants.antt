@@ -1,8 +1,7 @@
 -- The invariant: the first c cells are means, and the others stay (Fronts). Assumes nothing.
-use Rattle.std.proofs.Common.{◌≡◌, ◌-◌, ◌≤◌, length, refl, ◌∙◌, arith, length-set, rules}
+use Rattle.std.proofs.Common.{◌≡◌, ◌-◌, ◌≤◌, length}
 use Rattle.averages.specs.Front as Front
 use Rattle.averages.specs.Moments as Moments
-use Rattle.averages.proofs.Fronts.{on_more, on_end}
 use Rattle.averages.proofs.moments.to_means.Given as goal
 
 abbrev pub invariant-loop-c : goal.invariant-loop-c

@@ -1,6 +1,5 @@
 -- The invariant: the first i cells are instants by their numbers, and the others stay (Fronts). Assumes nothing.
-use Rattle.std.proofs.Common.{◌≡◌, ◌-◌, ◌≤◌, length, refl, ◌∙◌, arith, length-set, rules}
-use Rattle.averages.specs.Front as Front
+use Rattle.std.proofs.Common.{refl, ◌∙◌, arith, length-set}
 use Rattle.averages.specs.Request as Spec
 use Rattle.averages.proofs.Fronts.{by_more, by_end}
 use Rattle.averages.proofs.request.fill_grid.Goals as goal

@@ -1,8 +1,7 @@
 -- The invariant: the first i cells are instants by their numbers, and the others stay (Fronts). Assumes nothing.
-use Rattle.std.proofs.Common.{◌≡◌, ◌-◌, ◌≤◌, length, refl, ◌∙◌, arith, length-set, rules}
+use Rattle.std.proofs.Common.{◌≡◌, ◌-◌, ◌≤◌, length}
 use Rattle.averages.specs.Front as Front
 use Rattle.averages.specs.Request as Spec
-use Rattle.averages.proofs.Fronts.{by_more, by_end}
 use Rattle.averages.proofs.request.fill_grid.Given as goal
 
 abbrev pub invariant-loop-i : goal.invariant-loop-i

@@ -1,5 +1,5 @@
 -- No samples: one fewer than none is none, and its float is +0. Otherwise the quotient is as defined. Assumes nothing.
-use Rattle.std.proofs.Common.{◌≡◌, ℕ, ◌-◌, ap, arith, rules}
+use Rattle.std.proofs.Common.{◌≡◌, ℕ, ◌-◌, ap, arith}
 use lib.Ieee.{binary64, div, of_bits, of_int}
 use Rattle.rules.specs.Propensity.{float}
 use Rattle.averages.proofs.request.interval.Goals as goal

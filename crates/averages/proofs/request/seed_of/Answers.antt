@@ -1,5 +1,5 @@
 -- Each return rewrites the test of the seed, and the sum wraps. Assumes nothing.
-use Rattle.std.proofs.Common.{rules, eq-eqb, ne_eqb}
+use Rattle.std.proofs.Common.{eq-eqb, ne_eqb}
 use Rattle.averages.proofs.request.seed_of.Goals as goal
 
 pub returns-then-seed-eq0 : goal.returns-then-seed-eq0
