@@ -1,5 +1,5 @@
 -- The row of a place: part of the lent mean table or of the lent deviation table. Document 01, "Row".
-use Rattle.std.specs.Prelude.{ℕ, ◌*◌, Bool, not, ◌&&◌, List, [], ◌∷◌, leb, ltb, length, take, drop, Float}
+use Rattle.std.specs.Prelude.{ℕ, ◌*◌, not, ◌&&◌, List, [], ◌∷◌, leb, ltb, length, take, drop, Float}
 use Rattle.std.proofs.Math.Option.{Option, none, some}
 use Rattle.refusals.specs as Refusal
 use Rattle.net.specs.Tests.{first_of}

@@ -1,5 +1,4 @@
 -- The table named is the one whose length was asked for. Assumes nothing.
-use borrow.Author.Rules.{rules}
 use Rattle.rows.proofs.row_fault.Goals as goal
 
 pub returns-in-Mean : goal.returns-in-Mean
