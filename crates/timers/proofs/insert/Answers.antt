@@ -23,9 +23,9 @@ returns c =
     let x = timer_of s.args.x in
     let few : n.result < min s.args.room 256 = omega (arith, tested.if-capped-n.false, tested.capped.ensures) in
     let put =
-    filled r.start (r.start + p.result) (r.start + n.result) (held s.args.ats.now s.args.owners.now) _ _ (omega arith) p.ensures.0.within
-    (omega arith) p.ensures.1 c.slot.ensures c.write.ensures in
+    filled r.start (r.start + p.result) (r.start + n.result) (held s.args.ats.now s.args.owners.now) _ _ (omega arith) p.ensures.place.within
+    (omega arith) p.ensures.moved c.slot.ensures c.write.ensures in
     taken s.args.room n.result x s.args.ats.now s.args.owners.now r _ _ _ (sym n.ensures) few refl c.still_ordered.ensures
     (λ k l u. put.beyond k (omega arith) u)
     (inserted (says_ordered r) r.start n.result p.result (running r) (min (n.result + 1) 256) x s.args.ats.now s.args.owners.now _
-    (sym n.ensures) (omega arith) p.ensures.0 put)
+    (sym n.ensures) (omega arith) p.ensures.place put)

@@ -16,7 +16,7 @@ loop-i-init c = (search rules, each_none _ _ _ _, up_none _ _ _)
 
 pub loop-i-preserved : goal.loop-i-preserved
 loop-i-preserved c =
-    let l = c.before.loop in
+    let l = c.loop-i in
     let s = c in
     let x = c.read-x.ensures in
     let a = c.slot.ensures in
@@ -31,30 +31,30 @@ loop-i-preserved c =
 
 pub returns-else-at-x : goal.returns-else-at-x
 returns-else-at-x c =
-    let l = c.before.loop in
+    let l = c.loop-i in
     let s = c in
     let x = c.read-x.ensures in
     let a = c.slot.ensures in
     let j = s.args.start + (l.i - 1) in
     let same = x ∙ ap (held l.ats l.owners) a ∙ l.invariant.2.below j (omega arith) (omega arith) in
-    let test = ap (λ (t : Timer). lt s.args.at t.at) (sym same) ∙ c.if-at-x.false in (
-      record {
+    let test = ap (λ (t : Timer). lt s.args.at t.at) (sym same) ∙ c.if-at-x.false in record {
+      place = record {
         within = omega arith;
         later = l.invariant.1;
         earlier = just_before s.args.at s.args.start (s.args.start + l.i) j s.args.ats.now (omega arith) test;
-      },
-      l.invariant.2,
-    )
+      };
+      moved = l.invariant.2;
+    }
 
 pub returns : goal.returns
 returns c =
     let l = c.loop-i in
     let s = c in
-    let none : l.i ≡ 0 = omega arith in (
-      record {
+    let none : l.i ≡ 0 = omega arith in record {
+      place = record {
         within = omega arith;
         later = rw none at l.invariant.1;
         earlier = none_before s.args.at s.args.start (s.args.start + 0) s.args.ats.now (omega arith);
-      },
-      rw none at l.invariant.2,
-    )
+      };
+      moved = rw none at l.invariant.2;
+    }

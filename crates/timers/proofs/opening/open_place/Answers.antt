@@ -9,7 +9,7 @@ pub returns-then-ordered : goal.returns-then-ordered
 returns-then-ordered c =
     let p = c.open_from_end.ensures in
     let asked = c.if-ordered.true in
-    (record { within = p.0.within; back = λ e. p.0; front = λ e. never (sym e ∙ asked) }, p.1)
+    record { place = record { within = p.place.within; back = λ e. p.place; front = λ e. never (sym e ∙ asked) }; moved = p.moved }
 
 pub make_room-requires : goal.make_room-requires
 make_room-requires c = (omega (arith, c.front_place-i.ensures.within), search rules)
@@ -18,4 +18,4 @@ pub returns : goal.returns
 returns c =
     let p = c.front_place-i.ensures in
     let asked = c.if-ordered.false in
-    (record { within = p.within; back = λ e. never (sym asked ∙ e); front = λ e. p }, c.make_room.ensures)
+    record { place = record { within = p.within; back = λ e. never (sym asked ∙ e); front = λ e. p }; moved = c.make_room.ensures }

@@ -13,7 +13,7 @@ loop-k-init c = (search rules, search rules, up_none _ _ _)
 
 pub loop-k-preserved : goal.loop-k-preserved
 loop-k-preserved c =
-    let l = c.before.loop in
+    let l = c.loop-k in
     let s = c in (
       omega arith,
       omega arith,
