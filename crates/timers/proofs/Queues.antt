@@ -2,7 +2,7 @@
 use Prim.Native.Nat.{ℕ, zero, suc, ◌+◌, ◌-◌, ◌%◌, ◌≤◌, ◌<◌, min}
 use mathlib.Core.Path.{◌≡◌, refl, sym, ap, ap₂, ◌∙◌}
 use mathlib.Core.Bool.{Bool, true, false, ◌&&◌}
-use mathlib.Core.Logic.{◌⊎◌, ⊎_elim}
+use mathlib.Core.Logic.{⊎_elim}
 use mathlib.Core.List.{List, ◌∷◌}
 use native.Mathlib.Omega.{arith}
 use native.Mathlib.Nat.{mod-eq_of_lt, eq-or-lt_of_le}
@@ -14,7 +14,7 @@ use Rattle.timers.specs.declared.queue.Queue.{Queue}
 use Rattle.net.specs.Net.{pick, zero64}
 use Rattle.rules.specs.Timers.{Timer}
 use Rattle.timers.specs.InOrder.{rises_from, in_order}
-use Rattle.timers.specs.Turning.{from, held}
+use Rattle.timers.specs.Turning.{from}
 use Rattle.timers.specs.Slots.{Stored}
 use Rattle.timers.specs.Queues.{waiting, queue_of, blank}
 use Rattle.timers.proofs.Stores.{timer_is}

@@ -1,5 +1,4 @@
 -- The first is number 0.
-use borrow.Author.Rules.{rules}
 use Rattle.timers.specs.Turning.{timers_of}
 use Rattle.timers.proofs.Places.{first_is}
 use Rattle.timers.proofs.first.Goals as goal

@@ -1,5 +1,4 @@
 -- The place is the one that the definition finds, and the room made there is filled with the timer.
-use borrow.Author.Rules.{rules}
 use native.Mathlib.Omega.{arith}
 use mathlib.Core.Path.{refl, sym}
 use Prim.Native.Nat.{◌+◌, ◌<◌, min}

@@ -1,5 +1,4 @@
 -- The list from the next place on is the others; an empty list stays.
-use borrow.Author.Rules.{rules}
 use native.Mathlib.Omega.{arith}
 use Rattle.timers.proofs.Rings.{removed_none, removed_one}
 use Rattle.timers.proofs.remove_first.Goals as goal

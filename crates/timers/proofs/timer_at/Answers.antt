@@ -1,5 +1,4 @@
 -- Timer i of the list is the one of its slot, and past the end there is none.
-use borrow.Author.Rules.{rules}
 use native.Mathlib.Omega.{arith}
 use mathlib.Core.Path.{sym, ap, ◌∙◌}
 use Rattle.timers.specs.Turning.{held, running}

@@ -2,8 +2,7 @@
 use borrow.Author.Rules.{rules}
 use native.Mathlib.Omega.{arith}
 use mathlib.Core.Path.{◌≡◌}
-use Prim.Native.Nat.{ℕ, ◌+◌, ◌-◌, ◌≤◌, ◌<◌}
-use Rattle.timers.specs.Slots.{EachLater}
+use Prim.Native.Nat.{ℕ, ◌+◌, ◌<◌}
 use Rattle.timers.proofs.Places.{each_none, each_more}
 use native.Mathlib.Nat.{add-zero}
 use mathlib.Core.Bool.{false}

@@ -1,11 +1,6 @@
 -- Every timer passed does not complete later; the first that does ends it.
-use borrow.Author.Rules.{rules}
-use native.Mathlib.Omega.{arith}
-use mathlib.Core.Path.{◌≡◌}
-use Prim.Native.Nat.{ℕ, ◌+◌, ◌-◌, ◌≤◌, ◌<◌}
+use Prim.Native.Nat.{◌+◌, ◌-◌, ◌≤◌}
 use Rattle.timers.specs.Slots.{EachLater}
-use Rattle.timers.proofs.Places.{each_none, each_more}
-use native.Mathlib.Nat.{add-zero}
 use mathlib.Core.Bool.{false}
 use Rattle.timers.proofs.opening.front_place.Given as goal
 

@@ -3,10 +3,9 @@ use borrow.Author.Rules.{rules}
 use native.Mathlib.Omega.{arith}
 use mathlib.Core.Path.{◌≡◌, sym, ap, ◌∙◌}
 use mathlib.Core.Bool.{true}
-use Prim.Native.Nat.{◌+◌, ◌-◌, ◌≤◌}
+use Prim.Native.Nat.{◌+◌, ◌-◌}
 use lib.Ieee.{lt}
 use Rattle.rules.specs.Timers.{Timer}
-use Rattle.timers.specs.Slots.{EachLater, MovedUp}
 use Rattle.timers.specs.Turning.{held}
 use Rattle.timers.proofs.Places.{up_none, up_one, each_none, each_less, just_before, none_before}
 use Rattle.timers.proofs.opening.open_from_end.Goals as goal

@@ -2,14 +2,14 @@
 use borrow.Author.Rules.{rules}
 use native.Mathlib.Omega.{arith}
 use mathlib.Core.Path.{◌≡◌, refl, sym, ap, ◌∙◌}
-use Prim.Native.Nat.{ℕ, ◌-◌, ◌≤◌, min}
+use Prim.Native.Nat.{ℕ, min}
 use mathlib.Core.List.{List}
 use lib.Dec.{eqb}
 use Rattle.net.specs.Net.{pick}
 use Rattle.rules.specs.Timers.{Timer}
 use Rattle.timers.specs.InOrder.{in_order}
 use Rattle.timers.specs.Turning.{from, held}
-use Rattle.timers.proofs.Queues.{Loaded, loaded_none, loaded_more, loaded_all, one_if_lem}
+use Rattle.timers.proofs.Queues.{loaded_none, loaded_more, loaded_all, one_if_lem}
 use Rattle.timers.proofs.queue.hand_in.Goals as goal
 
 pub loop-i-init : goal.loop-i-init

@@ -1,9 +1,9 @@
 -- The first i places of the queue hold the first i timers.
 use borrow.Author.Rules.{rules}
 use native.Mathlib.Omega.{arith}
-use Prim.Native.Nat.{◌-◌, ◌≤◌, min}
+use Prim.Native.Nat.{min}
 use Rattle.timers.specs.Turning.{timer_of, held, running}
-use Rattle.timers.proofs.Queues.{Queued, queued_none, queued_more, queued_all}
+use Rattle.timers.proofs.Queues.{queued_none, queued_more, queued_all}
 use Rattle.timers.proofs.queue.hand_out.Goals as goal
 
 pub loop-i-init : goal.loop-i-init

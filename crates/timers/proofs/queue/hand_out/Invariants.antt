@@ -1,9 +1,7 @@
 -- The first i places of the queue hold the first i timers.
-use borrow.Author.Rules.{rules}
-use native.Mathlib.Omega.{arith}
-use Prim.Native.Nat.{◌-◌, ◌≤◌, min}
-use Rattle.timers.specs.Turning.{timer_of, held, running}
-use Rattle.timers.proofs.Queues.{Queued, queued_none, queued_more, queued_all}
+use Prim.Native.Nat.{◌-◌, ◌≤◌}
+use Rattle.timers.specs.Turning.{held}
+use Rattle.timers.proofs.Queues.{Queued}
 use Rattle.timers.proofs.queue.hand_out.Given as goal
 
 abbrev pub invariant-loop-i : goal.invariant-loop-i

@@ -1,15 +1,12 @@
 -- What is left, read from the last time passed, is in order exactly where the whole is.
 use borrow.Author.Rules.{rules}
 use native.Mathlib.Omega.{arith}
-use mathlib.Core.Path.{◌≡◌, sym, ap, ◌∙◌}
+use mathlib.Core.Path.{sym, ap, ◌∙◌}
 use mathlib.Core.Bool.{Bool}
-use mathlib.Core.List.{List}
-use Prim.Native.Nat.{ℕ, ◌-◌, ◌≤◌}
 use Prim.{tt}
 use lib.Ieee.{nan_bits, of_bits}
 use Rattle.net.specs.Net.{pick}
-use Rattle.timers.specs.InOrder.{in_order, rises_from}
-use Rattle.timers.specs.Turning.{from, held}
+use Rattle.timers.specs.Turning.{held}
 use Rattle.timers.proofs.Queues.{rises_start, rises_step, rises_stop, rises_end}
 use Rattle.timers.proofs.queue.order_of.Goals as goal
 

@@ -2,9 +2,8 @@
 use borrow.Author.Rules.{rules}
 use native.Mathlib.Omega.{arith}
 use mathlib.Core.Path.{◌≡◌}
-use Prim.Native.Nat.{◌+◌, ◌-◌, ◌≤◌}
+use Prim.Native.Nat.{◌+◌, ◌-◌}
 use Rattle.timers.specs.Turning.{held}
-use Rattle.timers.specs.Slots.{MovedUp}
 use Rattle.timers.proofs.Places.{up_none, up_one}
 use Rattle.timers.proofs.slots.make_room.Goals as goal
 

@@ -1,11 +1,7 @@
 -- From the last one down, each timer goes one place up, into a slot that is free or whose timer has gone up already.
-use borrow.Author.Rules.{rules}
-use native.Mathlib.Omega.{arith}
-use mathlib.Core.Path.{◌≡◌}
-use Prim.Native.Nat.{◌+◌, ◌-◌, ◌≤◌}
+use Prim.Native.Nat.{◌+◌, ◌≤◌}
 use Rattle.timers.specs.Turning.{held}
 use Rattle.timers.specs.Slots.{MovedUp}
-use Rattle.timers.proofs.Places.{up_none, up_one}
 use Rattle.timers.proofs.slots.make_room.Given as goal
 
 abbrev pub invariant-loop-k : goal.invariant-loop-k
