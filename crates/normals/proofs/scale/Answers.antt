@@ -8,4 +8,4 @@ use Rattle.normals.proofs.scale.Goals as goal
 
 pub returns : goal.returns
 returns c =
-    c.sqrt.ensures.1 ∙ ap (λ (y : Float). root_of (div binary64 (mul binary64 minus_two64 y) c.args.sq)) c.plog.ensures
+    c.sqrt.ensures.worked ∙ ap (λ (y : Float). root_of (div binary64 (mul binary64 minus_two64 y) c.args.sq)) c.plog.ensures
