@@ -1,5 +1,4 @@
 -- The draw is what its contract says. Assumes nothing.
-use borrow.Author.Rules.{rules}
 use Rattle.normals.proofs.coordinate.Goals as goal
 
 pub returns : goal.returns

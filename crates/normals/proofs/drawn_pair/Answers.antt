@@ -1,5 +1,4 @@
 -- Two draws, the second from the generator that the first left. Assumes nothing.
-use borrow.Author.Rules.{rules}
 use Rattle.rng.specs.State.{words}
 use Rattle.normals.proofs.Pairs.{pair_drawn}
 use Rattle.normals.proofs.drawn_pair.Goals as goal

@@ -1,11 +1,8 @@
 -- The pairs that are left, from the generator so far, come to the whole. Assumes nothing.
-use borrow.Author.Rules.{rules}
-use native.Mathlib.Omega.{arith}
-use mathlib.Core.Path.{◌≡◌, refl, ◌∙◌}
+use mathlib.Core.Path.{◌≡◌}
 use Prim.Native.Nat.{◌-◌, ◌≤◌}
 use Rattle.rng.specs.State.{words}
-use Rattle.normals.specs.Normal.{pair_in, first_accepted}
-use Rattle.normals.proofs.Pairs.{search_stop, search_go, search_end}
+use Rattle.normals.specs.Normal.{first_accepted}
 use Rattle.normals.proofs.first_accepted.Given as goal
 
 abbrev pub invariant-loop-i : goal.invariant-loop-i

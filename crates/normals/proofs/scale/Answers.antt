@@ -1,5 +1,4 @@
 -- The logarithm and the root are what their contracts say. Assumes nothing.
-use borrow.Author.Rules.{rules}
 use mathlib.Core.Path.{ap, ◌∙◌}
 use lib.Ieee.{Float, binary64, mul, div}
 use Rattle.root.specs.Root.{root_of}

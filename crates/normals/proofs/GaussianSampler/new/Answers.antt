@@ -1,5 +1,4 @@
 -- The generator is that of the seed. Assumes nothing.
-use borrow.Author.Rules.{rules}
 use Rattle.normals.proofs.GaussianSampler.new.Goals as goal
 
 pub returns : goal.returns

@@ -1,5 +1,4 @@
 -- A waiting spare, an accepted pair, or no pair: the three cases of the definition. Assumes nothing.
-use borrow.Author.Rules.{rules}
 use Rattle.normals.specs.Normal.{sampler_of, pair_in}
 use Rattle.normals.proofs.Pairs.{spare_given, drawn_value, drawn_nothing}
 use Rattle.normals.proofs.GaussianSampler.normal.Goals as goal
