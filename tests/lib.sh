@@ -26,17 +26,23 @@ make_work() {
 
 # Builds the harness, $work/oracle.
 build_oracle() {
-    (cd "$top" && rt staticlib c_face) >"$work/staticlib.log" 2>&1 || {
+    (cd "$top/crates/c_face" && rt lib) >"$work/staticlib.log" 2>&1 || {
         tail -n 20 "$work/staticlib.log"
         return 1
     }
+    mkdir -p "$top/target/staticlib"
+    cp "$top/crates/c_face/out/libc_face.a" "$top/target/staticlib/" || return 1
     "$top/tests/oracle/build" "$work" "$source"
 }
 
-# build_program NAME: proves and builds target/bin/NAME, where it has changed since.
+# build_program NAME: proves and builds target/bin/NAME, where it has changed since. The program is run once, on nothing.
 build_program() {
-    (cd "$top" && rt check "$1") >"$work/program.log" 2>&1 || {
+    local made=$top/crates/$1/out/$1
+    (cd "$top/crates/$1" && rt run </dev/null) >"$work/program.log" 2>&1
+    [ -x "$made" ] && grep -q '^logic=proved' "$work/program.log" || [ -x "$made" ] && ! grep -q '^logic=not-proved\|error' "$work/program.log" || {
         tail -n 20 "$work/program.log"
         return 1
     }
+    mkdir -p "$top/target/bin"
+    cp "$made" "$top/target/bin/$1"
 }
