@@ -1,7 +1,5 @@
 -- A turn that goes on reads a byte or more, so the measure is what is left of the text's room; it reads no more than that, so that what is read stays within it.
-use borrow.Author.Rules.{rules}
-use native.Mathlib.Omega.{arith}
-use mathlib.Core.Path.{◌≡◌, refl}
+use mathlib.Core.Path.{◌≡◌}
 use Prim.Native.Nat.{◌-◌, ◌≤◌}
 use lib.ListN.{length}
 use Rattle.net_io.proofs.read_input.Given as goal

@@ -1,5 +1,4 @@
 -- Past the test there are n bytes, which the part then has; before it there are fewer, and the answer is false.
-use borrow.Author.Rules.{rules}
 use native.Mathlib.Omega.{arith}
 use mathlib.Core.Path.{sym}
 use lib.Seq.{length-take-le}

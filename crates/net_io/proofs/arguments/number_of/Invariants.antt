@@ -1,15 +1,7 @@
 -- The digits so far come to the value, and the rest on top of it to the whole (Digits, Upto). Assumes nothing.
-use Prim.Native.Nat.{ℕ, ◌-◌, ◌≤◌}
-use mathlib.Core.Path.{◌≡◌, refl, sym, ap, ◌∙◌, subst}
-use mathlib.Core.Bool.{Bool, cond}
-use native.Mathlib.Omega.{arith}
-use native.Mathlib.Numerals.{add-one}
-use borrow.Author.Rules.{rules}
-use borrow.Author.Tests.{not-true, not-false}
-use lib.Dec.{ltb}
-use lib.ListN.{length, get_or}
-use Rattle.net_io.specs.Digits.{value_from, held}
-use Rattle.net_io.proofs.Digits.{Upto, digit_bounds, one_more, no_digit, all_digits, some_digits_lem, told}
+use Prim.Native.Nat.{◌-◌, ◌≤◌}
+use lib.ListN.{length}
+use Rattle.net_io.proofs.Digits.{Upto}
 use Rattle.net_io.proofs.arguments.number_of.Given as goal
 
 abbrev pub invariant-loop-i : goal.invariant-loop-i

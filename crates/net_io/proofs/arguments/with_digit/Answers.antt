@@ -1,5 +1,4 @@
 -- A large number stays past all others, and a small one has room for a digit (Digits). Assumes nothing.
-use borrow.Author.Rules.{rules}
 use native.Mathlib.Omega.{arith}
 use Prim.Native.Nat.{◌-◌}
 use Rattle.net_io.proofs.Digits.{large, small}
