@@ -1,6 +1,6 @@
 -- A record with no fault is sound, and its labels are. No fault of the whole is none of any place or transition, that is none of any of its
 -- tests, and a test over arcs or labels that does not apply holds of none of them. Assumes nothing.
-use Prim.Native.Nat.{ℕ, zero, suc, ◌+◌, ◌-◌, ◌*◌, ◌^◌, ◌≤◌, ◌<◌}
+use Prim.Native.Nat.{ℕ, zero, suc, ◌+◌, ◌*◌, ◌^◌, ◌≤◌, ◌<◌}
 use mathlib.Core.Path.{◌≡◌, refl, sym, ap, ◌∙◌}
 use mathlib.Core.Bool.{Bool, true, false, ◌||◌, not}
 use mathlib.Core.List.{List, [], ◌∷◌}
@@ -14,7 +14,7 @@ use Rattle.refusals.specs as Refusal
 use Rattle.text.specs.Text.{Bytes, same}
 use Rattle.net.specs.declared.Net.{Net as NetRecord}
 use Rattle.net.specs.Net.{Place, Arc, Transition, pick}
-use Rattle.net.specs.Tests.{first_of, any, empty, place_tests, move_tests, too_many, no_such_place, outside, rate_fits, delay_fits, taken_twice, delayed_for_nothing, kinetic_total, arcs, or_else, fault_from}
+use Rattle.net.specs.Tests.{first_of, any, empty, place_tests, too_many, no_such_place, outside, rate_fits, delay_fits, taken_twice, delayed_for_nothing, kinetic_total, arcs, or_else, fault_from}
 use Rattle.net.specs.Labels.{label_fits, label_at, labels_from, label_fault}
 use Rattle.net.specs.Readable.{Slot, slot_at, slots, slots_of, strange, transition, places_from, place_fault, places_fault, move_fault, moves_fault, fault}
 use Rattle.net.specs.Record.{lent}

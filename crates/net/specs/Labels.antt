@@ -1,6 +1,6 @@
 -- The labels of places. Document 02, order 1: "Every place line gains a third part, its label: 1 to 16 letters a to z, digits or hyphens".
 -- Labels stand beside the net (Net), not in it: no rule of a run sees them.
-use Rattle.std.specs.Prelude.{ℕ, ◌*◌, Bool, true, false, ◌&&◌, ◌||◌, not, List, [], ◌∷◌, eqb, leb, length, get_or, take, drop}
+use Rattle.std.specs.Prelude.{ℕ, ◌*◌, Bool, true, ◌&&◌, ◌||◌, not, List, [], ◌∷◌, eqb, leb, length, get_or, take, drop}
 use Rattle.std.proofs.Math.Option.{Option}
 use Rattle.refusals.specs as Refusal
 use Rattle.text.specs.Text.{Bytes, same}

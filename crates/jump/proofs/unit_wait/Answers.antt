@@ -3,7 +3,6 @@ use mathlib.Core.Path.{ap, ◌∙◌}
 use Prim.Native.Nat.{ℕ}
 use lib.Ieee.{neg}
 use Rattle.portable_log.specs.Log.{plog, rest}
-use borrow.Author.Rules.{rules}
 use Rattle.jump.proofs.unit_wait.Goals as goal
 
 pub returns : goal.returns

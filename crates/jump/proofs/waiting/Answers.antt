@@ -1,5 +1,4 @@
 -- The test says which of the two the definition picks, and what comes in is the definition's time but for the division.
-use borrow.Author.Rules.{rules}
 use Rattle.portable_log.proofs.Laws.{inf_bits, inf_is_no_nan}
 use Rattle.jump.proofs.waiting.Goals as goal
 

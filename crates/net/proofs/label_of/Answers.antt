@@ -1,5 +1,4 @@
 -- `label_of` meets its contract: by its two tests there is no label, else the part is the label's (Naming).
-use borrow.Author.Rules.{rules}
 use Rattle.net.proofs.Naming.{none_behind, none_over, label_taken}
 use Rattle.net.proofs.label_of.Goals as goal
 

@@ -1,7 +1,5 @@
 -- The sums before j are good, and the sum in hand is that of the first j (Summing). Assumes nothing.
-use borrow.Author.Rules.{rules}
-use Prim.Native.Nat.{◌-◌}
-use Rattle.jump.proofs.Summing.{Summing, summing_none, summing_more, summing_all}
+use Rattle.jump.proofs.Summing.{summing_none, summing_more, summing_all}
 use Rattle.jump.proofs.sums.resum.Goals as goal
 
 pub loop-j-init : goal.loop-j-init

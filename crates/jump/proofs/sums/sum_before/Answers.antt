@@ -1,6 +1,5 @@
 -- By the arm taken. Assumes nothing.
 use borrow.Author.Tests.{eq-eqb, ne_eqb}
-use borrow.Author.Rules.{rules}
 use Rattle.jump.proofs.sums.sum_before.Goals as goal
 
 pub returns-then-j-eq0 : goal.returns-then-j-eq0

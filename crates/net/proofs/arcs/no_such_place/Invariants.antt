@@ -1,12 +1,9 @@
 -- The invariant: the test of the slots that are left is that of all. Assumes nothing.
 use Prim.Native.Nat.{◌-◌}
-use mathlib.Core.Path.{◌≡◌, refl}
-use borrow.Author.Rules.{rules}
-use borrow.Author.Tests.{le-leb, lt-leb}
+use mathlib.Core.Path.{◌≡◌}
 use lib.Dec.{leb}
 use Rattle.net.specs.Tests.{any}
 use Rattle.net.specs.Readable.{Slot, slots}
-use Rattle.net.proofs.Slots.{or_stop, or_go, any_turn, any_end}
 use Rattle.net.proofs.arcs.no_such_place.Given as goal
 
 abbrev pub invariant-loop-slot : goal.invariant-loop-slot

@@ -3,7 +3,6 @@ use Prim.Native.Nat.{◌-◌}
 use mathlib.Core.Path.{sym, ◌∙◌}
 use mathlib.Core.List.{List}
 use borrow.Author.Rules.{rules}
-use borrow.Author.Tests.{not-true, not-false}
 use Rattle.net.specs.Readable.{Slot, slots}
 use Rattle.net.proofs.Domain.{by_rate, by_delay, by_arcs}
 use Rattle.net.proofs.arcs.outside.Statement.{statement}

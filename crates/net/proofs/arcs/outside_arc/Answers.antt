@@ -1,13 +1,8 @@
 -- The invariant: the test of the slots that are left is that of all. Assumes nothing.
-use Prim.Native.Nat.{◌-◌}
-use mathlib.Core.Path.{◌≡◌, refl}
-use mathlib.Core.Bool.{◌||◌}
-use borrow.Author.Rules.{rules}
+use mathlib.Core.Path.{refl}
 use borrow.Author.Tests.{lt-ltb, le-ltb}
 use lib.Dec.{ltb}
 use lib.ListN.{get_or}
-use Rattle.net.specs.Tests.{any}
-use Rattle.net.specs.Readable.{Slot, slots}
 use Rattle.net.proofs.Slots.{or_first, or_second, or_neither, or_stop, or_go, any_turn, any_end}
 use Rattle.net.proofs.arcs.outside_arc.Goals as goal
 

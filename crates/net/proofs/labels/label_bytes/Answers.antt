@@ -1,10 +1,8 @@
 -- The invariant: the test of the bytes that are left is that of all. Assumes nothing.
-use Prim.Native.Nat.{◌+◌, ◌-◌}
-use mathlib.Core.Path.{◌≡◌, sym, ◌∙◌}
+use Prim.Native.Nat.{◌+◌}
+use mathlib.Core.Path.{sym, ◌∙◌}
 use borrow.Author.Rules.{rules}
-use borrow.Author.Tests.{not-true, not-false}
-use Rattle.net.specs.Labels.{label_byte, every}
-use Rattle.net.proofs.Bytes.{part, and_stop, and_go, every_begin, every_turn, every_end}
+use Rattle.net.proofs.Bytes.{and_stop, and_go, every_begin, every_turn, every_end}
 use Rattle.net.proofs.labels.label_bytes.Goals as goal
 
 pub loop-i-init : goal.loop-i-init

@@ -1,10 +1,7 @@
 -- The invariant: the test of the bytes that are left is that of all. Assumes nothing.
-use Prim.Native.Nat.{◌-◌}
-use mathlib.Core.Path.{◌≡◌}
 use borrow.Author.Rules.{rules}
 use borrow.Author.Tests.{eq-eqb, ne_eqb}
-use Rattle.text.specs.Text.{same}
-use Rattle.net.proofs.Bytes.{part, left, and_stop, and_go, same_begin, same_turn, same_end}
+use Rattle.net.proofs.Bytes.{and_stop, and_go, same_begin, same_turn, same_end}
 use Rattle.net.proofs.labels.same_bytes.Goals as goal
 
 pub loop-i-init : goal.loop-i-init

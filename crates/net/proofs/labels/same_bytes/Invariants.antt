@@ -1,10 +1,8 @@
 -- The invariant: the test of the bytes that are left is that of all. Assumes nothing.
 use Prim.Native.Nat.{◌-◌}
 use mathlib.Core.Path.{◌≡◌}
-use borrow.Author.Rules.{rules}
-use borrow.Author.Tests.{eq-eqb, ne_eqb}
 use Rattle.text.specs.Text.{same}
-use Rattle.net.proofs.Bytes.{part, left, and_stop, and_go, same_begin, same_turn, same_end}
+use Rattle.net.proofs.Bytes.{part, left}
 use Rattle.net.proofs.labels.same_bytes.Given as goal
 
 abbrev pub invariant-loop-i : goal.invariant-loop-i

@@ -1,7 +1,6 @@
 -- The invariant: the test of the labels that are left is that of all. Assumes nothing.
-use Prim.Native.Nat.{ℕ, ◌-◌}
-use mathlib.Core.Path.{◌≡◌, sym, ap, ◌∙◌}
-use borrow.Author.Rules.{rules}
+use Prim.Native.Nat.{ℕ}
+use mathlib.Core.Path.{sym, ap, ◌∙◌}
 use Rattle.text.specs.Text.{same}
 use Rattle.net.specs.Tests.{any}
 use Rattle.net.specs.Labels.{label_at, labels_from}

@@ -1,13 +1,9 @@
 -- The invariant: the test of the labels that are left is that of all. Assumes nothing.
-use Prim.Native.Nat.{ℕ, ◌-◌}
-use mathlib.Core.Path.{◌≡◌, sym, ap, ◌∙◌}
-use borrow.Author.Rules.{rules}
+use Prim.Native.Nat.{◌-◌}
+use mathlib.Core.Path.{◌≡◌}
 use Rattle.text.specs.Text.{same}
 use Rattle.net.specs.Tests.{any}
 use Rattle.net.specs.Labels.{label_at, labels_from}
-use Rattle.net.proofs.Slots.{or_stop, or_go}
-use Rattle.net.proofs.Faults.{minus_zero}
-use Rattle.net.proofs.Naming.{labels_turn, labels_end}
 use Rattle.net.proofs.labels.used_before.Given as goal
 
 abbrev pub invariant-loop-q : goal.invariant-loop-q

@@ -1,6 +1,5 @@
 -- The 33rd place by its number alone; any other by its numbers, and then by its label. Assumes nothing.
 use mathlib.Core.Path.{refl, sym, ap, ◌∙◌}
-use borrow.Author.Rules.{rules}
 use borrow.Author.Tests.{le-leb}
 use Rattle.net.specs.Readable.{meaning}
 use Rattle.net.proofs.Faults.{stop, else_stop, else_go}

@@ -1,7 +1,5 @@
 -- The invariant: the first fault of the places that are left is that of all. Assumes nothing.
-use Prim.Native.Nat.{◌-◌}
-use mathlib.Core.Path.{◌≡◌, sym, ap, ◌∙◌}
-use borrow.Author.Rules.{rules}
+use mathlib.Core.Path.{sym, ap, ◌∙◌}
 use Rattle.net.specs.Readable.{place_fault, places_fault, meaning}
 use Rattle.net.proofs.Faults.{else_stop, else_go, faults_turn, faults_end, minus_zero}
 use Rattle.net.proofs.places.places_fault.Goals as goal

@@ -1,9 +1,7 @@
 -- The invariant: the first fault of the places that are left is that of all. Assumes nothing.
 use Prim.Native.Nat.{◌-◌}
-use mathlib.Core.Path.{◌≡◌, sym, ap, ◌∙◌}
-use borrow.Author.Rules.{rules}
-use Rattle.net.specs.Readable.{place_fault, places_fault, meaning}
-use Rattle.net.proofs.Faults.{else_stop, else_go, faults_turn, faults_end, minus_zero}
+use mathlib.Core.Path.{◌≡◌}
+use Rattle.net.specs.Readable.{places_fault}
 use Rattle.net.proofs.places.places_fault.Given as goal
 
 abbrev pub invariant-loop-p : goal.invariant-loop-p

@@ -2,7 +2,6 @@
 use Prim.Native.Nat.{◌-◌}
 use mathlib.Core.Path.{sym, ap, ◌∙◌}
 use mathlib.Core.Bool.{not}
-use borrow.Author.Rules.{rules}
 use Rattle.net.specs.Readable.{slots}
 use Rattle.net.proofs.Slots.{empty_takes, and_both}
 use Rattle.net.proofs.takes.delayed_for_nothing.Goals as goal

@@ -1,8 +1,7 @@
 -- The invariant: the total so far and that of the slots that are left make the whole, and the first is at most 16. Assumes nothing.
-use Prim.Native.Nat.{◌+◌, ◌-◌, ◌≤◌}
-use mathlib.Core.Path.{◌≡◌, sym}
+use Prim.Native.Nat.{◌-◌}
+use mathlib.Core.Path.{sym}
 use native.Mathlib.Omega.{arith}
-use borrow.Author.Rules.{rules}
 use borrow.Author.Tests.{lt-ltb, le-ltb}
 use Rattle.net.specs.Readable.{slots}
 use Rattle.net.proofs.Slots.{kinetic, kinetic_turn, kinetic_end}

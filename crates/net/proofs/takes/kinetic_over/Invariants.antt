@@ -1,11 +1,8 @@
 -- The invariant: the total so far and that of the slots that are left make the whole, and the first is at most 16. Assumes nothing.
 use Prim.Native.Nat.{◌+◌, ◌-◌, ◌≤◌}
-use mathlib.Core.Path.{◌≡◌, sym}
-use native.Mathlib.Omega.{arith}
-use borrow.Author.Rules.{rules}
-use borrow.Author.Tests.{lt-ltb, le-ltb}
+use mathlib.Core.Path.{◌≡◌}
 use Rattle.net.specs.Readable.{slots}
-use Rattle.net.proofs.Slots.{kinetic, kinetic_turn, kinetic_end}
+use Rattle.net.proofs.Slots.{kinetic}
 use Rattle.net.proofs.takes.kinetic_over.Given as goal
 
 abbrev pub invariant-loop-slot : goal.invariant-loop-slot

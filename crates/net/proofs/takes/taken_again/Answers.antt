@@ -1,6 +1,5 @@
 -- By the arm taken: the bit of the place, or, from 64 on, where there is none, the answer for the slots after it. Assumes nothing.
 use mathlib.Core.Bool.{or-false}
-use borrow.Author.Rules.{rules}
 use borrow.Author.Tests.{lt-ltb, le-ltb}
 use Rattle.words.proofs.Bits.{bit_tested, bit_beyond}
 use Rattle.net.proofs.takes.taken_again.Goals as goal

@@ -1,11 +1,5 @@
 -- The invariant: the test of the slots that are left is that of all. Assumes nothing.
-use Prim.Native.Nat.{◌-◌}
-use mathlib.Core.Path.{◌≡◌, refl, sym, ◌∙◌}
-use mathlib.Core.Bool.{◌&&◌}
-use borrow.Author.Rules.{rules}
-use lib.Dec.{eqb, leb}
-use Rattle.net.specs.Tests.{any}
-use Rattle.net.specs.Readable.{Slot, slots}
+use mathlib.Core.Path.{refl, sym, ◌∙◌}
 use Rattle.net.proofs.Slots.{or_stop, or_go, any_turn, any_end}
 use Rattle.net.proofs.takes.taken_in.Goals as goal
 

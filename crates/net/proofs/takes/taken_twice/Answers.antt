@@ -1,12 +1,10 @@
 -- The invariant: with the places of the takes so far in the word, what is left to find is the whole. Assumes nothing.
 use Prim.Native.Nat.{ℕ, ◌+◌, ◌-◌}
-use mathlib.Core.Path.{◌≡◌, sym, ◌∙◌}
-use borrow.Author.Rules.{rules}
+use mathlib.Core.Path.{sym, ◌∙◌}
 use borrow.Author.Tests.{le-leb, lt-leb}
 use lib.Dec.{ltb}
 use lib.ListN.{get_or}
 use Rattle.words.specs.Bits.{bit}
-use Rattle.net.specs.Tests.{twice}
 use Rattle.net.specs.Readable.{slots}
 use Rattle.net.proofs.Slots.{or_stop, or_go, taken}
 use Rattle.net.proofs.Twice.{left, again_none, no_take_turn, take_turn, left_end}

@@ -3,7 +3,6 @@ use borrow.Author.Tests.{le-leb}
 use lib.Dec.{eqb}
 use Rattle.net.proofs.Slots.{or_first, or_second}
 use Rattle.net.proofs.Faults.{stop}
-use borrow.Author.Rules.{rules}
 use Rattle.net.proofs.transitions.transition_at.Goals as goal
 
 pub returns-then-j-ge-MOST_TRANSITIONS : goal.returns-then-j-ge-MOST_TRANSITIONS
