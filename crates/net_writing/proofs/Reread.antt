@@ -1,6 +1,6 @@
 -- Written, then read, is the same net: the lines are cut as they were written, each says what was written and passes its tests, and the reading goes
 -- on behind it, place by place and transition by transition. Assumes nothing.
-use Prim.Native.Nat.{ℕ, suc, ◌+◌, ◌^◌, ◌≤◌, ◌<◌}
+use Prim.Native.Nat.{ℕ, suc, ◌^◌, ◌≤◌, ◌<◌}
 use Prim.Native.String.{String}
 use native.Mathlib.Omega.{arith}
 use mathlib.Core.Path.{◌≡◌, refl, ap, ◌∙◌}
@@ -19,7 +19,7 @@ use Rattle.text.specs.Text.{Bytes, bytes}
 use Rattle.text.specs.Numbers.{decimal_text, float_text, hex_digits}
 use Rattle.net_text.specs.Lines.{lines}
 use Rattle.net_text.specs.Reading.{RunLine, Answer, given, Due, opening, inside, closing, Outcome, go_on, onward, transition, inside_line, line_read, read_from, read}
-use Rattle.net_writing.specs.Writing.{together, place_line, take_part, arc_part, arc_parts, move_line, run_line, place_lines, net_lines, ended, net_text}
+use Rattle.net_writing.specs.Writing.{together, place_line, take_part, arc_part, arc_parts, move_line, run_line, place_lines, net_lines, net_text}
 use Rattle.net_writing.specs.Writable.{PlacesFit, MovesFit, Writable, ReadsBack}
 use Rattle.net_writing.proofs.Cut.{OneLine, OneLines, quoted_line, line_together, lines_more, decimal_line, hex_line, cut}
 use Rattle.net_writing.proofs.Lined.{raw_of_take, raw_of_put, raw_of_read, raw_of_block, raw_arcs, place_reads, move_reads, run_reads}
