@@ -1,5 +1,4 @@
 -- `answer_of` meets its contract: each arm is one case.
-use borrow.Author.Rules.{rules}
 use mathlib.Core.Path.{ap, sym}
 use Rattle.soak.specs.Soak.{answer_of}
 use Rattle.soak.proofs.answer_of.Goals as goal

@@ -1,5 +1,4 @@
 -- `put_text` meets its contract: the room holds every text, so the text stands at its front and is what is put.
-use borrow.Author.Rules.{rules}
 use mathlib.Core.Path.{ap, sym, ◌∙◌}
 use lib.ListN.{length}
 use Rattle.soak.proofs.Bound.{sizes}

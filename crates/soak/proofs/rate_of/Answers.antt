@@ -1,5 +1,4 @@
 -- `rate_of` meets its contract: the fourth rate is that of every number behind 0, 1 and 2.
-use borrow.Author.Rules.{rules}
 use Prim.Native.Nat.{ℕ, zero, suc}
 use mathlib.Core.Path.{◌≡◌, refl}
 use lib.Ieee.{binary64, of_bits}

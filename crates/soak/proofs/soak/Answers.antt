@@ -1,5 +1,4 @@
 -- `soak` meets its contract: the two arms are the two cases of the definition.
-use borrow.Author.Rules.{rules}
 use mathlib.Core.Path.{sym, ◌∙◌}
 use Rattle.soak.proofs.Placed.{call_answers, call_refuses}
 use Rattle.soak.proofs.soak.Goals as goal

@@ -1,5 +1,4 @@
 -- `then_move` meets its contract: seven words, one behind the other.
-use borrow.Author.Rules.{rules}
 use Rattle.text.specs.Text.{bytes}
 use Rattle.soak.proofs.Steps.{seven}
 use Rattle.soak.proofs.then_move.Goals as goal

@@ -1,11 +1,8 @@
 -- `then_moves` meets its contract. The invariant: what is left of the transitions, written from here, is all of them written.
-use borrow.Author.Rules.{rules}
 use lib.ListN.{length}
 use Rattle.rng.specs.State.{words}
 use Rattle.soak.specs.Words.{then_all, moves_words}
-use Rattle.soak.proofs.Steps.{move_turn}
-use native.Mathlib.Omega.{arith}
-use mathlib.Core.Path.{◌≡◌, refl, ◌∙◌}
+use mathlib.Core.Path.{◌≡◌}
 use Prim.Native.Nat.{◌-◌, ◌≤◌}
 use Rattle.soak.proofs.then_moves.Given as goal
 

@@ -1,5 +1,4 @@
 -- `then_place` meets its contract: five words, one behind the other.
-use borrow.Author.Rules.{rules}
 use Rattle.text.specs.Text.{bytes}
 use Rattle.soak.proofs.Steps.{five}
 use Rattle.soak.proofs.then_place.Goals as goal

@@ -1,14 +1,11 @@
 -- `then_places` meets its contract. The invariant: what is left of the places, written from here, is all of them written; and the choices left from here
 -- lead to the generator behind all of them.
-use borrow.Author.Rules.{rules}
 use lib.ListN.{length}
 use Rattle.rng.specs.State.{words}
 use Rattle.soak.specs.Soak.{after}
 use Rattle.soak.specs.Words.{then_all, places_words}
-use Rattle.soak.proofs.Steps.{place_turn, after_turn}
-use native.Mathlib.Omega.{arith}
-use mathlib.Core.Path.{◌≡◌, refl, ◌∙◌}
-use Prim.Native.Nat.{◌-◌, ◌≤◌, ◌<◌}
+use mathlib.Core.Path.{◌≡◌}
+use Prim.Native.Nat.{◌-◌, ◌≤◌}
 use Rattle.soak.proofs.then_places.Given as goal
 
 abbrev pub invariant-loop-number : goal.invariant-loop-number

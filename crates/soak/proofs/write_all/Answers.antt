@@ -4,7 +4,6 @@ use Rattle.rng.specs.Splitmix.{seeded}
 use Rattle.text.specs.Text.{bytes}
 use Rattle.text.specs.Buffer.{written}
 use Rattle.soak.proofs.Steps.{all_words}
-use borrow.Author.Rules.{rules}
 use Rattle.soak.proofs.write_all.Goals as goal
 
 pub returns : goal.returns
