@@ -14,10 +14,10 @@ pub returns-in-Next : goal.returns-in-Next
 returns-in-Next c =
     let a = c.before.args in
     let p = c.put_bytes in
-    ap (λ (w : Written). shown (p.new.0, w)) (sym c.in-Next.is) ∙ ap shown p.ensures ∙ answered_is a.out.now (take a.n a.text.now)
+    ap (λ (w : Written). shown (p.new.out, w)) (sym c.in-Next.is) ∙ ap shown p.ensures ∙ answered_is a.out.now (take a.n a.text.now)
 
 pub returns-in-Short : goal.returns-in-Short
 returns-in-Short c =
     let a = c.before.args in
     let p = c.put_bytes in
-    ap (λ (w : Written). shown (p.new.0, w)) (sym c.in-Short.is) ∙ ap shown p.ensures ∙ answered_is a.out.now (take a.n a.text.now)
+    ap (λ (w : Written). shown (p.new.out, w)) (sym c.in-Short.is) ∙ ap shown p.ensures ∙ answered_is a.out.now (take a.n a.text.now)

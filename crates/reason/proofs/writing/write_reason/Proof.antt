@@ -40,7 +40,7 @@ fits c =
     let bound : length (text c) ≤ 2080 = text_bound (said c) (omega arith) (omega arith) (omega arith) few.0 few.1 in
     omega (arith, empty_length)
 
-held : (c : tie.After-then_all) → (c.then_all.new.0, c.then_all.result) ≡ written empty 0 (text c)
+held : (c : tie.After-then_all) → (c.then_all.new.out, c.then_all.result) ≡ written empty 0 (text c)
 unfolding empty
 held c = c.then_all.ensures ∙ all_told empty (said c) (fits c)
 
@@ -59,7 +59,7 @@ slice-aggregate-deliver c = search rules
 deliver-requires : tie.Need-deliver-requires
 deliver-requires c κs =
     let t = c.before.before.before.before in
-    inside empty (text t) t.then_all.new.0 t.then_all.result (fits t) (held t) c.in-Next.n c.in-Next.is
+    inside empty (text t) t.then_all.new.out t.then_all.result (fits t) (held t) c.in-Next.n c.in-Next.is
 
 enum_told : tie.Need-enum_told-1
 enum_told c = search rules
@@ -72,12 +72,12 @@ returns c =
     let t = c.before.before.before.before.before.before.before in
     c.deliver.ensures
     ∙ ap (answered c.args.out.now)
-    (text_held empty (text t) t.then_all.new.0 t.then_all.result (fits t) (held t) c.in-Next.n c.in-Next.is)
+    (text_held empty (text t) t.then_all.new.out t.then_all.result (fits t) (held t) c.in-Next.n c.in-Next.is)
 
 returns-2 : tie.Need-returns-in-Short
 returns-2 c =
     let t = c.before.before in
-    absurd (not_short empty (text t) t.then_all.new.0 t.then_all.result (fits t) (held t) c.in-Short.is)
+    absurd (not_short empty (text t) t.then_all.new.out t.then_all.result (fits t) (held t) c.in-Short.is)
 
 pub write_reason_spec : {M : Type 1} → statement M
 write_reason_spec =
