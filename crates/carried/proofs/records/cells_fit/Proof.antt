@@ -1,5 +1,5 @@
 -- What is left to test of the places, from place p on, is the whole test. The cells of a place end where the next one's begin, so they are in the table.
-use Rattle.std.proofs.Common.{◌≡◌, ℕ, ◌+◌, ◌-◌, ◌*◌, ◌<◌, ◌≤◌, length, arith, rules}
+use Rattle.std.proofs.Common.{◌≡◌, ℕ, ◌+◌, ◌-◌, ◌*◌, ◌<◌, ◌≤◌, length, not, ap, arith, rules}
 use native.Mathlib.Nat.{sub-zero}
 use Rattle.carried.specs.Records.{strange_from, record_strange}
 use Rattle.carried.proofs.Cells.{cells_in, place_stop, place_go, places_end}
@@ -32,7 +32,7 @@ returns : tie.Need-returns-then-not-cells_between invariant-loop decreases-loop
 returns c =
     let l = c.before.before.before in
     let s = l.args in
-    place_stop s.n s.recorded s.table.now l.loop-p.p s.places l.loop-p.invariant (omega arith) c.cells_between.ensures c.if-not-cells_between.true
+    place_stop s.n s.recorded s.table.now l.loop-p.p s.places l.loop-p.invariant (omega arith) c.cells_between.ensures (ap not c.if-not-cells_between.true)
 
 add-p : tie.Need-overflow_add-p invariant-loop decreases-loop
 add-p c = search rules
@@ -44,7 +44,7 @@ loop-again : tie.Need-loop-p-preserved invariant-loop decreases-loop
 loop-again c =
     let l = c.before.before.before in
     let s = l.args in
-    place_go s.n s.recorded s.table.now l.loop-p.p s.places l.loop-p.invariant (omega arith) c.cells_between.ensures c.if-not-cells_between.false
+    place_go s.n s.recorded s.table.now l.loop-p.p s.places l.loop-p.invariant (omega arith) c.cells_between.ensures (ap not c.if-not-cells_between.false)
 
 returns-2 : tie.Need-returns invariant-loop decreases-loop
 returns-2 c =

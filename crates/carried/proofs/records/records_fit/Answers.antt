@@ -4,10 +4,8 @@ use borrow.Author.Tests.{lt-leb}
 use lib.Ieee.{Float, nan, le}
 use Rattle.net.specs.Tests.{any}
 use Rattle.carried.proofs.Rest.{rest_next, none_stop, none_go, none_end}
+use Rattle.carried.proofs.records.records_fit.Invariants.{passed}
 use Rattle.carried.proofs.records.records_fit.Goals as goal
-
-abbrev passed : Float → Float → Bool
-passed clock x = le x clock
 
 -- with few enough recorded
 few_recorded : {b : Bool} (xs : List Float) (r : ℕ) (clock : Float) → r ≤ length xs

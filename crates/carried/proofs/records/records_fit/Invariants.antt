@@ -6,6 +6,9 @@ use Rattle.net.specs.Tests.{any}
 use Rattle.carried.proofs.Rest.{rest_next, none_stop, none_go, none_end}
 use Rattle.carried.proofs.records.records_fit.Given as goal
 
+abbrev pub passed : Float → Float → Bool
+passed clock x = le x clock
+
 abbrev pub invariant-loop-i : goal.invariant-loop-i
 invariant-loop-i l = any (passed l.clock) (drop l.i l.instants) ≡ any (passed l.clock) (drop l.recorded l.instants)
 

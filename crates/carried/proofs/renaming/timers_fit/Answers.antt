@@ -10,10 +10,8 @@ use Rattle.carried.specs.Pairs.{goes_to}
 use Rattle.carried.specs.Timers.{slot, timers_in}
 use Rattle.carried.proofs.Rest.{none_stop, none_go, none_end}
 use Rattle.carried.proofs.Waiting.{from_next, from_none}
+use Rattle.carried.proofs.renaming.timers_fit.Invariants.{amiss}
 use Rattle.carried.proofs.renaming.timers_fit.Goals as goal
-
-abbrev amiss : List ℕ → ℕ → Timer → Bool
-amiss names delayed x = not (goes_to names delayed x.who)
 
 pub loop-i-init : goal.loop-i-init
 loop-i-init c = λ ats takens. rw sub-zero

@@ -12,6 +12,9 @@ use Rattle.carried.proofs.Rest.{none_stop, none_go, none_end}
 use Rattle.carried.proofs.Waiting.{from_next, from_none}
 use Rattle.carried.proofs.renaming.timers_fit.Given as goal
 
+abbrev pub amiss : List ℕ → ℕ → Timer → Bool
+amiss names delayed x = not (goes_to names delayed x.who)
+
 abbrev pub invariant-loop-i : goal.invariant-loop-i
 invariant-loop-i l =
     (ats : List Float) (takens : List ℕ)

@@ -8,10 +8,8 @@ use Rattle.timers.specs.Turning.{from}
 use Rattle.carried.specs.Timers.{slot, timers_in}
 use Rattle.carried.proofs.Rest.{none_stop, none_go, none_end}
 use Rattle.carried.proofs.Waiting.{from_next, from_none}
+use Rattle.carried.proofs.state.weights_fit.Invariants.{heavy}
 use Rattle.carried.proofs.state.weights_fit.Goals as goal
-
-abbrev heavy : Timer → Bool
-heavy x = ltb 16_000_000 x.taken
 
 pub loop-i-init : goal.loop-i-init
 loop-i-init c = λ ats whos. rw sub-zero

@@ -10,6 +10,9 @@ use Rattle.carried.proofs.Rest.{none_stop, none_go, none_end}
 use Rattle.carried.proofs.Waiting.{from_next, from_none}
 use Rattle.carried.proofs.state.weights_fit.Given as goal
 
+abbrev pub heavy : Timer → Bool
+heavy x = ltb 16_000_000 x.taken
+
 abbrev pub invariant-loop-i : goal.invariant-loop-i
 invariant-loop-i l =
     (ats : List Float) (whos : List ℕ) → any heavy (from (slot ats whos l.takens) l.i (l.n - l.i)) ≡ any heavy (timers_in ats whos l.takens l.n)
