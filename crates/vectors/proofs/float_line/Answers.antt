@@ -1,7 +1,6 @@
 -- `vectors::float_line` is safe and ends: what does not differ from itself is no NaN, so its bits can be read. Assumes nothing.
-use Rattle.std.proofs.Common.{rules}
 use Rattle.portable_log.proofs.Laws.{no_nan}
 use Rattle.vectors.proofs.float_line.Goals as goal
 
 pub float_to_bits-x : goal.float_to_bits-x
-float_to_bits-x c = no_nan c.args.x c.if-x.false
+float_to_bits-x g c = no_nan c.args.x c.if-x.false
