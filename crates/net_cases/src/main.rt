@@ -3,8 +3,8 @@
 
 ghost use Rattle.std.specs.Prelude.{◌<◌};
 
-use libc::STDOUT_FILENO;
 use net::{Net, Verdict};
+use std::io;
 
 fn number(v: Verdict) -> u64 {
     match v {
@@ -13,11 +13,10 @@ fn number(v: Verdict) -> u64 {
     }
 }
 
-fn show(what: &[u8], n: Net) {
-    io::write_all(STDOUT_FILENO, what);
-    io::write_all(STDOUT_FILENO, b": ");
-    io::print_decimal(STDOUT_FILENO, number(net::test_net(n)));
-    io::write_all(STDOUT_FILENO, b"\n");
+fn show(rt: &impl Print, what: &[u8], n: Net) -> io::Result<()> {
+    rt.write_all(what)?;
+    let answer = number(net::test_net(n));
+    println!(rt; ": {answer}")
 }
 
 fn digit(d: usize) -> u8
@@ -195,110 +194,143 @@ fn unlabelled(places: usize, transitions: usize) -> Net {
     n
 }
 
-fn labels() {
-    show(b"label absent", long(1, 0));
-    show(b"label of 1 byte, which begins another", long(1, 1));
-    show(b"label of 16 bytes", long(1, 16));
-    show(b"label of 17 bytes", long(1, 17));
-    show(b"label of 2^64 - 1 bytes", long(1, 0xFFFF_FFFF_FFFF_FFFF));
-    show(b"label with a capital", lettered(16, 65));
-    show(b"label with byte 200", lettered(16, 200));
-    show(b"label with byte 0", lettered(17, 0));
-    show(b"label with a space", lettered(17, 32));
-    show(b"label with a comma", lettered(17, 44));
-    show(b"label with a hyphen", lettered(17, 45));
-    show(b"label with a point", lettered(17, 46));
-    show(b"label with a slash", lettered(17, 47));
-    show(b"label with a 0", lettered(16, 48));
-    show(b"label with a 9", lettered(16, 57));
-    show(b"label with a colon", lettered(17, 58));
-    show(b"label with a grave accent", lettered(17, 96));
-    show(b"label with an a", lettered(17, 97));
-    show(b"label with a z", lettered(17, 122));
-    show(b"label with a brace", lettered(17, 123));
-    show(b"a capital behind a label", lettered(18, 65));
-    show(b"label used already", twice(48));
+fn labels(rt: &impl Print) -> io::Result<()> {
+    show(rt, b"label absent", long(1, 0))?;
+    show(rt, b"label of 1 byte, which begins another", long(1, 1))?;
+    show(rt, b"label of 16 bytes", long(1, 16))?;
+    show(rt, b"label of 17 bytes", long(1, 17))?;
     show(
+        rt,
+        b"label of 2^64 - 1 bytes",
+        long(1, 0xFFFF_FFFF_FFFF_FFFF),
+    )?;
+    show(rt, b"label with a capital", lettered(16, 65))?;
+    show(rt, b"label with byte 200", lettered(16, 200))?;
+    show(rt, b"label with byte 0", lettered(17, 0))?;
+    show(rt, b"label with a space", lettered(17, 32))?;
+    show(rt, b"label with a comma", lettered(17, 44))?;
+    show(rt, b"label with a hyphen", lettered(17, 45))?;
+    show(rt, b"label with a point", lettered(17, 46))?;
+    show(rt, b"label with a slash", lettered(17, 47))?;
+    show(rt, b"label with a 0", lettered(16, 48))?;
+    show(rt, b"label with a 9", lettered(16, 57))?;
+    show(rt, b"label with a colon", lettered(17, 58))?;
+    show(rt, b"label with a grave accent", lettered(17, 96))?;
+    show(rt, b"label with an a", lettered(17, 97))?;
+    show(rt, b"label with a z", lettered(17, 122))?;
+    show(rt, b"label with a brace", lettered(17, 123))?;
+    show(rt, b"a capital behind a label", lettered(18, 65))?;
+    show(rt, b"label used already", twice(48))?;
+    show(
+        rt,
         b"label used already, with another byte behind it",
         twice(65),
-    );
-    show(b"label used two places before", third());
+    )?;
+    show(rt, b"label used two places before", third())?;
     show(
+        rt,
         b"no label at place 0, place 1 out of its domain",
         unnamed(0, 1),
-    );
+    )?;
     show(
+        rt,
         b"place 0 out of its domain, no label at place 1",
         unnamed(1, 0),
-    );
+    )?;
     show(
+        rt,
         b"place 1 out of its domain and without a label",
         unnamed(1, 1),
-    );
-    show(b"31 places, the 32nd without a label", unlabelled(31, 1));
-    show(b"33 places, the 32nd without a label", unlabelled(33, 1));
+    )?;
     show(
+        rt,
+        b"31 places, the 32nd without a label",
+        unlabelled(31, 1),
+    )?;
+    show(
+        rt,
+        b"33 places, the 32nd without a label",
+        unlabelled(33, 1),
+    )?;
+    show(
+        rt,
         b"32 places, the 32nd without a label, 65 transitions",
         unlabelled(32, 65),
-    );
+    )
 }
 
-fn counts() {
-    show(b"the example", sample());
-    show(b"no place", sized(0, 0, 0));
-    show(b"32 places, 64 transitions, 16 arcs each", full());
-    show(b"33 places", sized(33, 0, 0));
-    show(b"65 transitions", sized(2, 65, 2));
-    show(b"17 arcs", sized(2, 1, 17));
-    show(b"33 places, the 32nd out of its domain", crowded(33));
-    show(b"31 places, the 32nd out of its domain", crowded(31));
-    show(b"unused slots littered", sample_in(littered()));
+fn counts(rt: &impl Print) -> io::Result<()> {
+    show(rt, b"the example", sample())?;
+    show(rt, b"no place", sized(0, 0, 0))?;
+    show(rt, b"32 places, 64 transitions, 16 arcs each", full())?;
+    show(rt, b"33 places", sized(33, 0, 0))?;
+    show(rt, b"65 transitions", sized(2, 65, 2))?;
+    show(rt, b"17 arcs", sized(2, 1, 17))?;
+    show(rt, b"33 places, the 32nd out of its domain", crowded(33))?;
+    show(rt, b"31 places, the 32nd out of its domain", crowded(31))?;
+    show(rt, b"unused slots littered", sample_in(littered()))
 }
 
-fn rates() {
-    show(b"rate NaN", paced(0.0 / 0.0, 1.0));
-    show(b"rate -0 and delay -0", paced(-0.0, -0.0));
-    show(b"rate 2^-1074", paced(5e-324, 1.0));
-    show(b"rate 2^100", paced(1.2676506002282294e30, 1.0));
-    show(b"delay NaN", paced(1.0, 0.0 / 0.0));
-    show(b"delay below 0", paced(1.0, -5e-324));
-    show(b"delay 2^30", paced(1.0, 1073741824.0));
+fn rates(rt: &impl Print) -> io::Result<()> {
+    show(rt, b"rate NaN", paced(0.0 / 0.0, 1.0))?;
+    show(rt, b"rate -0 and delay -0", paced(-0.0, -0.0))?;
+    show(rt, b"rate 2^-1074", paced(5e-324, 1.0))?;
+    show(rt, b"rate 2^100", paced(1.2676506002282294e30, 1.0))?;
+    show(rt, b"delay NaN", paced(1.0, 0.0 / 0.0))?;
+    show(rt, b"delay below 0", paced(1.0, -5e-324))?;
+    show(rt, b"delay 2^30", paced(1.0, 1073741824.0))
 }
 
-fn arcs() {
-    show(b"place 2 of 2", arc(sample(), 1, net::PUT, 2, 1));
+fn arcs(rt: &impl Print) -> io::Result<()> {
+    show(rt, b"place 2 of 2", arc(sample(), 1, net::PUT, 2, 1))?;
     show(
+        rt,
         b"place 2 of 2 with too large a weight",
         arc(sample(), 1, net::PUT, 2, 1_000_001),
-    );
+    )?;
     show(
+        rt,
         b"too large a weight",
         arc(sample(), 1, net::PUT, 1, 1_000_001),
-    );
-    show(b"kind 5", arc(sample(), 1, 5, 1, 1));
-    show(b"one place taken twice", arc(sample(), 1, net::TAKE, 0, 1));
+    )?;
+    show(rt, b"kind 5", arc(sample(), 1, 5, 1, 1))?;
     show(
+        rt,
+        b"one place taken twice",
+        arc(sample(), 1, net::TAKE, 0, 1),
+    )?;
+    show(
+        rt,
         b"one place taken and read",
         arc(sample(), 1, net::READ, 0, 1),
-    );
+    )?;
     show(
+        rt,
         b"taken twice, too large a weight",
         arc(sample(), 1, net::TAKE, 0, 1_000_001),
-    );
-    show(b"a delay with no take", arc(sample(), 0, net::READ, 0, 1));
+    )?;
     show(
+        rt,
+        b"a delay with no take",
+        arc(sample(), 0, net::READ, 0, 1),
+    )?;
+    show(
+        rt,
         b"a delay of 2^-1074 with no take",
         arc(paced(1.0, 5e-324), 0, net::READ, 0, 1),
-    );
+    )?;
     show(
+        rt,
         b"no delay, no take",
         arc(paced(1.0, 0.0), 0, net::READ, 0, 1),
-    );
+    )?;
     show(
+        rt,
         b"kinetic total 16",
         arc(sample(), 0, net::KINETIC_TAKE, 0, 16),
-    );
+    )?;
     show(
+        rt,
         b"kinetic total 17, by a weight of 0",
         arc(
             arc(sample(), 0, net::KINETIC_TAKE, 0, 16),
@@ -307,16 +339,17 @@ fn arcs() {
             1,
             0,
         ),
-    );
+    )?;
     show(
+        rt,
         b"a take of 17, not kinetic",
         arc(sample(), 0, net::TAKE, 0, 17),
-    );
+    )
 }
 
-fn main() {
-    counts();
-    labels();
-    rates();
-    arcs();
+fn main(rt: HostRuntime) -> io::Result<()> {
+    counts(&rt)?;
+    labels(&rt)?;
+    rates(&rt)?;
+    arcs(&rt)
 }
