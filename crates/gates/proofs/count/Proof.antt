@@ -46,8 +46,8 @@ add-n c =
     let l = c.before.before.before in
     let a = l.args in
     let f = sort_of a.gate in
-    let t = from_turn f (net_at l.before) l.loop-j.j a.transitions c.loop-j-test.true in
-    omega (arith, c.count_slots-more.ensures, count_span f (net_at l.before) l.loop-j.j, all_most f (net_at l.before) l.requires)
+    let t = from_turn f (net_at l.before.before) l.loop-j.j a.transitions c.loop-j-test.true in
+    omega (arith, c.count_slots-more.ensures, count_span f (net_at l.before.before) l.loop-j.j, all_most f (net_at l.before.before) l.requires)
 
 add-j : tie.Need-overflow_add-j invariant-loop decreases-loop
 add-j c = search rules
@@ -60,8 +60,8 @@ loop-again c =
     let l = c.before.before.before in
     let a = l.args in
     let f = sort_of a.gate in
-    let t = from_turn f (net_at l.before) l.loop-j.j a.transitions c.loop-j-test.true in
-    (omega (arith, c.loop-j-test.true), omega (arith, c.count_slots-more.ensures, count_span f (net_at l.before) l.loop-j.j))
+    let t = from_turn f (net_at l.before.before) l.loop-j.j a.transitions c.loop-j-test.true in
+    (omega (arith, c.loop-j-test.true), omega (arith, c.count_slots-more.ensures, count_span f (net_at l.before.before) l.loop-j.j))
 
 returns : tie.Need-returns invariant-loop decreases-loop
 returns c =

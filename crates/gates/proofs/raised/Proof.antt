@@ -46,14 +46,14 @@ change-at-requires c κs =
     let s = c.before.before.before in
     let j = c.loop-j.j in
     let t = c.loop-j-test.true in
-    (omega (arith, s.requires.arcs j t, s.requires.transitions), light (net_at s) s.requires j t)
+    (omega (arith, s.requires.arcs j t, s.requires.transitions), light (net_at s.before) s.requires j t)
 
 returns : tie.Need-returns-then-c invariant-loop decreases-loop
 returns c =
     let l = c.before.before.before.before.before in
     let s = l.before in
-    any_stop (raises s.args.p) (net_at s) l.loop-j.j s.args.transitions l.loop-j.invariant c.loop-j-test.true
-    (raises_yes (net_at s) l.loop-j.j s.args.p c.change_at-c.ensures.0 c.change_at-c.ensures.1 c.if-c.true)
+    any_stop (raises s.args.p) (net_at s.before) l.loop-j.j s.args.transitions l.loop-j.invariant c.loop-j-test.true
+    (raises_yes (net_at s.before) l.loop-j.j s.args.p c.change_at-c.ensures.0 c.change_at-c.ensures.1 c.if-c.true)
 
 add-j : tie.Need-overflow_add-j invariant-loop decreases-loop
 add-j c = search rules
@@ -65,8 +65,8 @@ loop-again : tie.Need-loop-j-preserved invariant-loop decreases-loop
 loop-again c =
     let l = c.before.before.before.before.before in
     let s = l.before in
-    any_go (raises s.args.p) (net_at s) l.loop-j.j s.args.transitions l.loop-j.invariant c.loop-j-test.true
-    (raises_no (net_at s) l.loop-j.j s.args.p c.change_at-c.ensures.0 c.change_at-c.ensures.1 c.if-c.false)
+    any_go (raises s.args.p) (net_at s.before) l.loop-j.j s.args.transitions l.loop-j.invariant c.loop-j-test.true
+    (raises_no (net_at s.before) l.loop-j.j s.args.p c.change_at-c.ensures.0 c.change_at-c.ensures.1 c.if-c.false)
 
 returns-2 : tie.Need-returns invariant-loop decreases-loop
 returns-2 c =

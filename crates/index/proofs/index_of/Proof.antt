@@ -31,13 +31,12 @@ tidied-requires c κs = accepted c
 
 listed-words-requires : tie.Need-listed_words-requires
 listed-words-requires c κs =
-    let t = c.before.before.before.before.before.before.before.before.before in
-    tidy_unlabelled t.tidied.result t.tidied.ensures.1
+    tidy_unlabelled c.tidied-n.result c.tidied-n.ensures.1
 
 returns-2 : tie.Need-returns
 returns-2 c =
     let t = c.before.before.before.before.before.before.before.before.before.before in
-    (accepted t, subst (λ (n : Net). Lists n c.listed_words.result) t.tidied.ensures.0 c.listed_words.ensures)
+    (accepted t, subst (λ (n : Net). Lists n c.listed_words.result) c.tidied-n.ensures.0 c.listed_words.ensures)
 
 pub index_of_spec : {M : Type 1} → statement M
 index_of_spec =

@@ -75,7 +75,7 @@ guard-slot-requires c κs =
     let i = c.before.before.before.before in
     let l = i.before in
     let r = l.before.before in
-    (places_fit (net r) r.requires.1 l.loop-a.a, low r.before.before.before.before, l.loop-a.invariant.1.long)
+    (places_fit (net r.before.before.before.before) r.requires.1 l.loop-a.a, low r.before.before.before.before, l.loop-a.invariant.1.long)
 
 loop-less : tie.Need-loop-a-smaller invariant-loop decreases-loop
 loop-less c = search rules
@@ -85,16 +85,16 @@ loop-again c =
     let i = c.before.before.before.before.before in
     let l = i.before in
     let r = l.before.before in
-    let u : Used (net r) r.args.j l.loop-a.a = record { real = r.requires.0; from = l.loop-a.invariant.0; to = i.loop-a-test.true } in (
+    let u : Used (net r.before.before.before.before) r.args.j l.loop-a.a = record { real = r.requires.0; from = l.loop-a.invariant.0; to = i.loop-a-test.true } in (
       omega (arith, l.loop-a.invariant.0),
-      guarding_more (net r) r.requires.1 l.loop-a.guards _ r.args.limit.now r.args.j l.loop-a.a l.loop-a.invariant.1 u r.requires.2 c.guard_slot.ensures,
+      guarding_more (net r.before.before.before.before) r.requires.1 l.loop-a.guards _ r.args.limit.now r.args.j l.loop-a.a l.loop-a.invariant.1 u r.requires.2 c.guard_slot.ensures,
     )
 
 returns : tie.Need-returns invariant-loop decreases-loop
 returns c =
     let l = c.before in
     let r = l.before.before in
-    guarding_next (net r) r.requires.1 l.loop-a.guards r.args.j l.loop-a.a l.loop-a.invariant.1 c.loop-a-test.false
+    guarding_next (net r.before) r.requires.1 l.loop-a.guards r.args.j l.loop-a.a l.loop-a.invariant.1 c.loop-a-test.false
 
 pub guard_one_spec : {M : Type 1} → statement M
 guard_one_spec =

@@ -51,7 +51,7 @@ list-one-requires : tie.Need-list_one-requires invariant-loop decreases-loop
 list-one-requires c κs =
     let i = c.before.before in
     let r = i.before.before in
-    (low i.before, fit i.before, places_fit (net r) r.requires, r.requires.weight, i.loop-j.invariant.long)
+    (low i.before, fit i.before, places_fit (net r.before) r.requires, r.requires.weight, i.loop-j.invariant.long)
 
 loop-less : tie.Need-loop-j-smaller invariant-loop decreases-loop
 loop-less c = search rules
@@ -60,7 +60,7 @@ loop-again : tie.Need-loop-j-preserved invariant-loop decreases-loop
 loop-again c =
     let i = c.before.before.before in
     let l = i.before in
-    filled_more (net l.before) l.loop-j.words _ l.loop-j.j l.loop-j.invariant i.loop-j-test.true c.list_one.ensures
+    filled_more (net l.before.before) l.loop-j.words _ l.loop-j.j l.loop-j.invariant i.loop-j-test.true c.list_one.ensures
 
 returns : tie.Need-returns invariant-loop decreases-loop
 returns c =

@@ -67,7 +67,7 @@ loop-again c =
     let h = c.before in
     let i = h.before.before in
     let l = i.before in
-    let n = net l.before in
+    let n = net l.before.before in
     marked_more (several n) n.transitions l.loop-j.word c.joined-word.result l.loop-j.j h.heavy_slots-on.result l.loop-j.invariant i.loop-j-test.true
     (several_slots n l.loop-j.j h.heavy_slots-on.result h.heavy_slots-on.ensures)
     c.joined-word.ensures
