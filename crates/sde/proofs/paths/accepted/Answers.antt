@@ -6,4 +6,4 @@ use Rattle.sde.proofs.paths.accepted.Goals as goal
 pub lent_run-requires : goal.lent_run-requires
 lent_run-requires c =
     let s = c in
-    (unlabelled s.args.self (sound s.args.self s.requires.0), s.requires.1, s.requires.2, s.requires.3, s.requires.4, s.requires.5, s.requires.6, s.requires.7)
+    (unlabelled s.args.net (sound s.args.net s.requires.0), s.requires.1, s.requires.2, s.requires.3, s.requires.4, s.requires.5, s.requires.6, s.requires.7)

@@ -19,7 +19,7 @@ fill_changes-requires c =
     let s = c in
     let g = s.args in
     let r = c.fill_rates in
-    (tidied_sound g.places g.transitions g.initial.now g.capacity.now g.rate.now r.new.1.1.1.0 g.delay.now g.arcs.now g.kind.now g.place.now g.weight.now r.ensures s.requires.0, refl)
+    (tidied_sound g.places g.transitions g.initial.now g.capacity.now g.rate.now r.new.rates g.delay.now g.arcs.now g.kind.now g.place.now g.weight.now r.ensures s.requires.0, refl)
 
 pub fill_ends-requires : goal.fill_ends-requires
 fill_ends-requires c = let s = c in (s.requires.0.transitions, s.requires.0.arcs, refl)
@@ -29,15 +29,15 @@ averaged-requires c =
     let s = c in
     let g = s.args in
     let r = c.fill_rates in (
-      tidied_sound g.places g.transitions g.initial.now g.capacity.now g.rate.now r.new.1.1.1.0 g.delay.now g.arcs.now g.kind.now g.place.now g.weight.now r.ensures s.requires.0,
+      tidied_sound g.places g.transitions g.initial.now g.capacity.now g.rate.now r.new.rates g.delay.now g.arcs.now g.kind.now g.place.now g.weight.now r.ensures s.requires.0,
       record {
-        of_rates = rated g.places g.transitions g.initial.now g.capacity.now g.rate.now r.new.1.1.1.0 g.delay.now g.arcs.now g.kind.now g.place.now g.weight.now r.ensures;
+        of_rates = rated g.places g.transitions g.initial.now g.capacity.now g.rate.now r.new.rates g.delay.now g.arcs.now g.kind.now g.place.now g.weight.now r.ensures;
         of_changes = c.fill_changes.ensures;
         of_skips = c.fill_skips.ensures;
         of_ends = c.fill_ends.ensures;
       },
       c.width-dt.ensures,
-      c.sqrt-root.ensures.1,
+      c.sqrt-root.ensures.worked,
       omega (arith, s.requires.1),
       s.requires.2,
       s.requires.3,
@@ -55,5 +55,5 @@ returns c =
     by_free c.gates_of-g.result _ c.gates_of-g.ensures c.is_gated.result c.is_gated.ensures _ _ c.if-is_gated.false
     (c.averaged.ensures
     ∙ ap (tabulated (g.places * g.samples) (record { mean = g.mean.now; deviation = g.deviation.now; path = g.path.now }))
-    (members_same g.places g.transitions g.initial.now g.capacity.now g.rate.now r.new.1.1.1.0 g.delay.now g.arcs.now g.kind.now g.place.now g.weight.now r.ensures
+    (members_same g.places g.transitions g.initial.now g.capacity.now g.rate.now r.new.rates g.delay.now g.arcs.now g.kind.now g.place.now g.weight.now r.ensures
     (record { samples = g.samples; realizations = g.realizations; seed = g.seed; horizon = g.horizon }) 0 g.realizations))

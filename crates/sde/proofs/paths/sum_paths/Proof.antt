@@ -111,8 +111,8 @@ loop-again c =
     let cells = s.args.places * s.args.n in
     let e = none_yet plus cells s.args.mean.now _ s.requires.7 c.clear.ensures in
     let f = none_yet plus_square cells s.args.deviation.now _ s.requires.8 c.clear-2.ensures in
-    let u = sums_next (readable (net_at s)) (request s) cells l.loop.k l.loop.invariant.1 c.loop-k-test.true w.result _
-    (w.ensures.0 ∙ member_is (net_at s) (request s) l.loop.k s.requires.2 c.seed_of-own.ensures) w.ensures.1 c.if-stopped.false s.requires.9 _ _
+    let u = sums_next (readable (net_at s)) (request s) cells c.loop-k.k c.loop-k.invariant.1 c.loop-k-test.true w.result _
+    (w.ensures.0 ∙ member_is (net_at s) (request s) c.loop-k.k s.requires.2 c.seed_of-own.ensures) w.ensures.1 c.if-stopped.false s.requires.9 _ _
     c.add.ensures c.add_squares.ensures in (
       omega (arith, c.loop-k-test.true),
       u,

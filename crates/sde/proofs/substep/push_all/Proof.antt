@@ -57,8 +57,8 @@ spread-requires c κs =
     let h = c.loop-j-test.true in (
       omega (arith, h, s.requires.0.transitions),
       s.requires.0.places,
-      l.loop.invariant.2,
-      skips_of s.args.places l.loop.j s.args.changes.now s.args.skips.now s.args.transitions h s.requires.0.places s.requires.1.of_skips,
+      c.loop-j.invariant.2,
+      skips_of s.args.places c.loop-j.j s.args.changes.now s.args.skips.now s.args.transitions h s.requires.0.places s.requires.1.of_skips,
     )
 
 enum_told : tie.Need-enum_told-1 invariant-loop decreases-loop
@@ -71,12 +71,12 @@ returns c =
     let g = s.args in
     let h = c.loop-j-test.true in
     let y =
-    push_refused (net_at s) g.changes.now l.loop.j g.places h s.requires.0.places s.requires.1.of_changes l.loop.x l.loop.drift l.loop.invariant.2.of_x l.loop.invariant.2.of_drift
-    g.dt g.root c.propensity-a.result l.loop.s s.requires.2 c.propensity-a.ensures c.if-a.false c.normal-drawn.result c.normal-drawn.ensures
+    push_refused (net_at s) g.changes.now c.loop-j.j g.places h s.requires.0.places s.requires.1.of_changes c.loop-j.x c.loop-j.drift c.loop-j.invariant.2.of_x c.loop-j.invariant.2.of_drift
+    g.dt g.root c.propensity-a.result c.loop-j.s s.requires.2 c.propensity-a.ensures c.if-a.false c.normal-drawn.result c.normal-drawn.ensures
     c.in-Refused.is in (
-      all_stop (net_at s) g.dt l.loop.j g.transitions (going_of g.places l.loop.x l.loop.drift l.loop.s) (going_of g.places l.loop.x l.loop.drift l.loop.s) true
-          l.loop.invariant.1 h y refl,
-      l.loop.invariant.2,
+      all_stop (net_at s) g.dt c.loop-j.j g.transitions (going_of g.places c.loop-j.x c.loop-j.drift c.loop-j.s) (going_of g.places c.loop-j.x c.loop-j.drift c.loop-j.s) true
+          c.loop-j.invariant.1 h y refl,
+      c.loop-j.invariant.2,
     )
 
 loop-less : tie.Need-loop-j-smaller-then-a invariant-loop decreases-loop
@@ -89,12 +89,12 @@ loop-again c =
     let g = s.args in
     let h = c.loop-j-test.true in
     let y =
-    push_nothing (net_at s) g.changes.now l.loop.j g.places h s.requires.0.places s.requires.1.of_changes l.loop.x l.loop.drift l.loop.invariant.2.of_x l.loop.invariant.2.of_drift
-    g.dt g.root c.propensity-a.result l.loop.s s.requires.2 c.propensity-a.ensures c.if-a.true in (
+    push_nothing (net_at s) g.changes.now c.loop-j.j g.places h s.requires.0.places s.requires.1.of_changes c.loop-j.x c.loop-j.drift c.loop-j.invariant.2.of_x c.loop-j.invariant.2.of_drift
+    g.dt g.root c.propensity-a.result c.loop-j.s s.requires.2 c.propensity-a.ensures c.if-a.true in (
       omega (arith, h),
-      all_go (net_at s) g.dt l.loop.j g.transitions (going_of g.places l.loop.x l.loop.drift l.loop.s) (going_of g.places l.loop.x l.loop.drift l.loop.s) false
-          l.loop.invariant.1 h y refl,
-      l.loop.invariant.2,
+      all_go (net_at s) g.dt c.loop-j.j g.transitions (going_of g.places c.loop-j.x c.loop-j.drift c.loop-j.s) (going_of g.places c.loop-j.x c.loop-j.drift c.loop-j.s) false
+          c.loop-j.invariant.1 h y refl,
+      c.loop-j.invariant.2,
     )
 
 loop-less-2 : tie.Need-loop-j-smaller invariant-loop decreases-loop
@@ -108,12 +108,12 @@ loop-again-2 c =
     let h = c.loop-j-test.true in
     let m = c.spread.ensures in
     let y =
-    push_value (net_at s) g.changes.now l.loop.j g.places h s.requires.0.places s.requires.1.of_changes l.loop.x l.loop.drift l.loop.invariant.2.of_x l.loop.invariant.2.of_drift
-    g.dt g.root c.propensity-a.result l.loop.s s.requires.2 c.propensity-a.ensures c.if-a.false c.normal-drawn.result c.normal-drawn.ensures
+    push_value (net_at s) g.changes.now c.loop-j.j g.places h s.requires.0.places s.requires.1.of_changes c.loop-j.x c.loop-j.drift c.loop-j.invariant.2.of_x c.loop-j.invariant.2.of_drift
+    g.dt g.root c.propensity-a.result c.loop-j.s s.requires.2 c.propensity-a.ensures c.if-a.false c.normal-drawn.result c.normal-drawn.ensures
     _ c.sqrt.result _ _ c.in-Value.is c.sqrt.ensures.1 m.0 m.1 in (
       omega (arith, h),
-      all_go (net_at s) g.dt l.loop.j g.transitions (going_of g.places l.loop.x l.loop.drift l.loop.s) _ false
-          l.loop.invariant.1 h y refl,
+      all_go (net_at s) g.dt c.loop-j.j g.transitions (going_of g.places c.loop-j.x c.loop-j.drift c.loop-j.s) _ false
+          c.loop-j.invariant.1 h y refl,
       record { of_x = m.0.long; of_drift = m.1.long },
     )
 

@@ -12,13 +12,8 @@ use Rattle.sde.proofs.Skips.{skips_first, map_skip, noise_idle, drift_idle, nois
 use borrow.Author.Rules.{rules}
 use native.Mathlib.Omega.{arith}
 use Prim.Native.Nat.{ℕ, ◌+◌, ◌-◌, ◌*◌, ◌≤◌, ◌<◌}
+use Rattle.sde.proofs.substep.spread.Invariants.{noisy, drifting}
 use Rattle.sde.proofs.substep.spread.Goals as goal
-
-abbrev noisy : List Float → ℕ → Float → ℕ → Float → Float
-noisy changes j noise p = noise_by (get_or changes (32 * j + p) nan) noise
-
-abbrev drifting : List Float → ℕ → Float → Float → ℕ → Float → Float
-drifting changes j a dt p = drift_by (get_or changes (32 * j + p) nan) a dt
 
 pub loop-p-init : goal.loop-p-init
 loop-p-init c =

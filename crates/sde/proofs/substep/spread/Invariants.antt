@@ -14,6 +14,12 @@ use native.Mathlib.Omega.{arith}
 use Prim.Native.Nat.{ℕ, ◌+◌, ◌-◌, ◌*◌, ◌≤◌, ◌<◌}
 use Rattle.sde.proofs.substep.spread.Given as goal
 
+abbrev pub noisy : List Float → ℕ → Float → ℕ → Float → Float
+noisy changes j noise p = noise_by (get_or changes (32 * j + p) nan) noise
+
+abbrev pub drifting : List Float → ℕ → Float → Float → ℕ → Float → Float
+drifting changes j a dt p = drift_by (get_or changes (32 * j + p) nan) a dt
+
 abbrev pub invariant-loop-p : goal.invariant-loop-p
 invariant-loop-p l =
     (l.p ≤ l.places) × MapTo (noisy l.changes l.j l.noise) l.p l.initial.x l.x × MapTo (drifting l.changes l.j l.a l.dt) l.p l.initial.drift l.drift

@@ -63,7 +63,7 @@ show-requires : tie.Need-show-requires invariant-loop decreases-loop
 show-requires c κs =
     let l = c.before.before.before.before.before.before.before.before in
     let s = c.before.before.before.before.before.before.before.before.before in
-    (s.requires.0.places, c.loop-i-test.true, s.requires.5, omega (arith, s.requires.6, l.loop.invariant.1.beyond.long))
+    (s.requires.0.places, c.loop-i-test.true, s.requires.5, omega (arith, s.requires.6, c.loop-i.invariant.1.beyond.long))
 
 loop-less : tie.Need-loop-i-smaller invariant-loop decreases-loop
 loop-less c = omega (arith, c.loop-i-test.true)
@@ -74,7 +74,7 @@ loop-again c =
     let s = c.before.before.before.before.before.before.before.before.before.before.before.before in
     let p = c.over_interval-p in (
       omega (arith, c.loop-i-test.true),
-      progress_more s.args.places s.args.n l.loop.i (over s) (state_of s.args.places l.loop.x l.loop.s) _ p.result.stopped l.loop.invariant.1
+      progress_more s.args.places s.args.n c.loop-i.i (over s) (state_of s.args.places c.loop-i.x c.loop-i.s) _ p.result.stopped c.loop-i.invariant.1
           c.loop-i-test.true p.ensures.0 c.if-p.false _ _ refl c.show.ensures,
       p.ensures.1,
     )
