@@ -86,7 +86,7 @@ returns c =
     let x = r.first-x in
     let p = c.put-p in
     let fits = c.if-p.true in
-    let counts' = p.new.1.1.1.1.1.1.0 in (
+    let counts' = p.new.counts in (
       complete_at (net (start r)) a.counts.now a.ats.now a.owners.now a.ring r.remove-IsFirst.result a.clock a.rng.s
           x.result x.ensures (others_left r) counts' true _ c.if-j-transitions.true (rw fits at p.ensures.0)
           (λ e. omega (arith, left_less r, p.ensures.2 fits)),
@@ -99,7 +99,7 @@ returns-2 c =
     let a = (start r).args in
     let x = r.first-x in
     let p = c.put-p in
-    let counts' = p.new.1.1.1.1.1.1.0 in (
+    let counts' = p.new.counts in (
       complete_at (net (start r)) a.counts.now a.ats.now a.owners.now a.ring r.remove-IsFirst.result a.clock a.rng.s
           x.result x.ensures (others_left r) counts' false _ c.if-j-transitions.true (rw c.if-p.false at p.ensures.0)
           (λ e. absurd (false≢true e)),

@@ -46,8 +46,8 @@ returns : tie.Need-returns-then-s
 returns c =
     let b = c.before.before in
     let s = b.before.before.before.before in (
-      advance_full s.args.room (net s) (from s) b.start_all-s.new.1.1.1.1.1.1.1.1.1.1.1.1.1.0 b.start_all-s.new.1.1.1.1.1.1.1.1.1.1.1.1.1.1.0
-          b.start_all-s.new.1.1.1.1.1.1.1.1.1.1.1.1.1.1.1.0 b.start_all-s.result b.start_all-s.ensures.0 c.if-s.true _ _ _ _ _,
+      advance_full s.args.room (net s) (from s) b.start_all-s.new.counts b.start_all-s.new.ats
+          b.start_all-s.new.owners b.start_all-s.result b.start_all-s.ensures.0 c.if-s.true _ _ _ _ _,
       (b.start_all-s.ensures.1.0.0, b.start_all-s.ensures.1.0.1, λ e. absurd (let z : ◌≡◌ {A = ℕ} 0 1 = cc in omega arith)),
     )
 
@@ -105,22 +105,22 @@ start c = (begun c).before.before.before.before
 abbrev worked : tie.After-next_event-what → tie.After-refresh-fresh
 worked c = c.before.before.before.before.before.before.before.before
 
-carried : (c : tie.After-next_event-what) → Carried (net (start c)) (marking (start c).args.places (begun c).start-all.new.1.1.1.1.1.1.1.1.1.1.1.1.1.0)
+carried : (c : tie.After-next_event-what) → Carried (net (start c)) (marking (start c).args.places (begun c).start-all.new.counts)
     (record { moved = 0; crossed = 0; able = (worked c).refresh.result.able; marks = (worked c).refresh.result.marks; a0 = (worked c).refresh.result.a0 })
-    (worked c).refresh.new.1.1.1.1.1.1.1.1.1.1.1.1.1.1.1.1.1.1.1.1.1.0 (worked c).refresh.new.1.1.1.1.1.1.1.1.1.1.1.1.1.1.1.1.1.1.1.1.1.1.0
+    (worked c).refresh.new.props (worked c).refresh.new.sums
 carried c =
     let e = (worked c).refresh.ensures in
     record { kept = e.1; marked = e.2; summed = e.3; long_props = e.5; long_sums = e.6 }
 
-totalled : (c : tie.After-next_event-what) → Totalled (net (start c)) (begun c).start-all.new.1.1.1.1.1.1.1.1.1.1.1.1.1.0 (worked c).refresh.new.1.1.1.1.1.1.1.1.1.1.1.1.1.1.1.1.1.1.1.1.1.0 (worked c).refresh.result.a0
+totalled : (c : tie.After-next_event-what) → Totalled (net (start c)) (begun c).start-all.new.counts (worked c).refresh.new.props (worked c).refresh.result.a0
 totalled c =
     let e = (worked c).refresh.ensures in
     record { each = e.0; all = e.3.all ∙ ap total e.0; long = e.5 }
 
 goes_on : (c : tie.After-next_event-what)
-    → Going (start c).args.room (net (start c)) (from (start c)) (begun c).start-all.new.1.1.1.1.1.1.1.1.1.1.1.1.1.0 (begun c).start-all.new.1.1.1.1.1.1.1.1.1.1.1.1.1.1.0
-    (begun c).start-all.new.1.1.1.1.1.1.1.1.1.1.1.1.1.1.1.0 (begun c).start-all.result.timers
-    (worked c).refresh.new.1.1.1.1.1.1.1.1.1.1.1.1.1.1.1.1.1.1.1.1.1.0 (worked c).refresh.result.a0
+    → Going (start c).args.room (net (start c)) (from (start c)) (begun c).start-all.new.counts (begun c).start-all.new.ats
+    (begun c).start-all.new.owners (begun c).start-all.result.timers
+    (worked c).refresh.new.props (worked c).refresh.result.a0
     (not (eqb (worked c).refresh.result.marks 0))
     c.waiting-w.result.rng.s (next_of c.next_event-what.result)
 goes_on c =
@@ -129,7 +129,7 @@ goes_on c =
     let w = c.before.before.before.before.before.before in
     going s.args.room (net s) (from s) b.start-all.last.1.1.1.1.1.1.1.1.1.1.1.1.1.0 b.start-all.last.1.1.1.1.1.1.1.1.1.1.1.1.1.1.0
     b.start-all.last.1.1.1.1.1.1.1.1.1.1.1.1.1.1.1.0 b.start-all.result b.start-all.ensures.0
-    c.if-s.false (few s) (worked c).refresh.new.1.1.1.1.1.1.1.1.1.1.1.1.1.1.1.1.1.1.1.1.1.0 (worked c).refresh.result.a0
+    c.if-s.false (few s) (worked c).refresh.new.props (worked c).refresh.result.a0
     _ (totalled c) (worked c).refresh.ensures.4
     w.waiting.result.dt w.waiting.result.rng.s w.waiting.ensures.0 w.waiting.ensures.1 (next_of c.next_event-what.result) (c.next_event-what.ensures _ (told b.start-all.last.1.1.1.1.1.1.1.1.1.1.1.1.1.1.0 b.start-all.last.1.1.1.1.1.1.1.1.1.1.1.1.1.1.1.0 b.start-all.result.timers
     c.count.result c.first-x.result c.count.ensures c.first-x.ensures))

@@ -45,7 +45,7 @@ abbrev rule : tie.After-advance-d → Answer Step
 rule d = step (start d).args.room (readable (net d)) (from d)
 
 abbrev props : tie.After-advance-d → List Float
-props d = d.advance-d.new.1.1.1.1.1.1.1.1.1.1.1.1.1.1.1.1.1.1.1.0
+props d = d.advance-d.new.props
 
 abbrev event-of : tie.After-advance-d → Answer Event
 event-of d = event_of (net d) (reads d) d.advance-d.result.kept.a0 (props d) d.advance-d.result.completes
