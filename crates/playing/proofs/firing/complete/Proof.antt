@@ -36,18 +36,18 @@ remove-first-requires : tie.Need-remove_first-left-requires
 remove-first-requires c κs = search rules
 
 -- the list once the timer has left
-others_left : (r : tie.After-remove_first-left) → timers_of (start r).args.ats.now (start r).args.owners.now r.remove-IsFirst.result ≡ others (timers_of (start r).args.ats.now (start r).args.owners.now (start r).args.ring)
-others_left r = r.remove-IsFirst.ensures.list (start r).args.ats.now (start r).args.owners.now
+others_left : (r : tie.After-remove_first-left) → timers_of (start r).args.ats.now (start r).args.owners.now r.remove_first-left.result ≡ others (timers_of (start r).args.ats.now (start r).args.owners.now (start r).args.ring)
+others_left r = r.remove_first-left.ensures.list (start r).args.ats.now (start r).args.owners.now
 
 -- the tokens then, at counts that are as they were
-left_less : (r : tie.After-remove_first-left) → (start r).args.tokens ≡ tokens_of (state_of (net (start r)) (start r).args.counts.now (start r).args.ats.now (start r).args.owners.now r.remove-IsFirst.result (start r).args.clock (start r).args.rng.s) + r.first-x.result.taken
+left_less : (r : tie.After-remove_first-left) → (start r).args.tokens ≡ tokens_of (state_of (net (start r)) (start r).args.counts.now (start r).args.ats.now (start r).args.owners.now r.remove_first-left.result (start r).args.clock (start r).args.rng.s) + r.first-x.result.taken
 left_less r =
     let a = (start r).args in
     let x = r.first-x in
     omega (
       arith,
       (start r).requires.1,
-      timer_left (net (start r)) a.counts.now a.ats.now a.owners.now a.ring r.remove-IsFirst.result a.clock a.rng.s
+      timer_left (net (start r)) a.counts.now a.ats.now a.owners.now a.ring r.remove_first-left.result a.clock a.rng.s
           x.result x.ensures (others_left r),
     )
 
@@ -56,8 +56,8 @@ put-requires c κs = search rules
 
 -- the arrays then
 ready : (r : tie.After-remove_first-left) (counts : List ℕ) → Counts counts
-    → Ready (net (start r)) (start r).args.limit.now counts (start r).args.ats.now (start r).args.owners.now r.remove-IsFirst.result
-    × (running r.remove-IsFirst.result ≤ running (start r).args.ring)
+    → Ready (net (start r)) (start r).args.limit.now counts (start r).args.ats.now (start r).args.owners.now r.remove_first-left.result
+    × (running r.remove_first-left.result ≤ running (start r).args.ring)
 ready r counts h =
     let p = (start r).requires.0 in
     let a = (start r).args in (
@@ -66,9 +66,9 @@ ready r counts h =
         limits = p.limits;
         small = h;
         light = subst Light (sym (others_left r)) (light_others (timers_of a.ats.now a.owners.now a.ring) p.light);
-        sound = r.remove-IsFirst.ensures.stays a.ats.now a.owners.now p.sound;
+        sound = r.remove_first-left.ensures.stays a.ats.now a.owners.now p.sound;
       },
-      one_fewer a.ats.now a.owners.now a.ring r.remove-IsFirst.result (others_left r),
+      one_fewer a.ats.now a.owners.now a.ring r.remove_first-left.result (others_left r),
     )
 
 sub-fewer : tie.Need-overflow_sub-fewer
@@ -86,8 +86,8 @@ returns c =
     let x = r.first-x in
     let p = c.put-p in
     let fits = c.if-p.true in
-    let counts' = p.new.1.1.1.1.1.1.0 in (
-      complete_at (net (start r)) a.counts.now a.ats.now a.owners.now a.ring r.remove-IsFirst.result a.clock a.rng.s
+    let counts' = p.new.counts in (
+      complete_at (net (start r)) a.counts.now a.ats.now a.owners.now a.ring r.remove_first-left.result a.clock a.rng.s
           x.result x.ensures (others_left r) counts' true _ c.if-j-transitions.true (rw fits at p.ensures.0)
           (λ e. omega (arith, left_less r, p.ensures.2 fits)),
       (ready r counts' p.ensures.1, λ f. (p.ensures.4 fits a.transitions a.initial.now a.capacity.now a.rate.now a.delay.now (start r).requires.0.tidy (start r).requires.2).0),
@@ -99,8 +99,8 @@ returns-2 c =
     let a = (start r).args in
     let x = r.first-x in
     let p = c.put-p in
-    let counts' = p.new.1.1.1.1.1.1.0 in (
-      complete_at (net (start r)) a.counts.now a.ats.now a.owners.now a.ring r.remove-IsFirst.result a.clock a.rng.s
+    let counts' = p.new.counts in (
+      complete_at (net (start r)) a.counts.now a.ats.now a.owners.now a.ring r.remove_first-left.result a.clock a.rng.s
           x.result x.ensures (others_left r) counts' false _ c.if-j-transitions.true (rw c.if-p.false at p.ensures.0)
           (λ e. absurd (false≢true e)),
       (ready r counts' p.ensures.1, λ f. absurd (false≢true f)),
@@ -112,7 +112,7 @@ returns-3 c =
     let a = (start r).args in
     let x = r.first-x in
     let h = (start r).requires.0.small in (
-      complete_past (net (start r)) a.counts.now a.ats.now a.owners.now a.ring r.remove-IsFirst.result a.clock a.rng.s
+      complete_past (net (start r)) a.counts.now a.ats.now a.owners.now a.ring r.remove_first-left.result a.clock a.rng.s
           x.result x.ensures (others_left r) _ c.if-j-transitions.false h (omega (arith, left_less r)),
       (ready r a.counts.now h, λ f. quiet_none (readable (net (start r))) (marking a.places a.counts.now)),
     )

@@ -73,7 +73,7 @@ returns c =
     let a = s.args in
     let j = k.in-Chosen.j in
     let fits = c.if-f.true in
-    let counts' = f.fire-f.new.1.1.1.1.1.1.0 in (
+    let counts' = f.fire-f.new.counts in (
       race_at (net s) a.counts.now a.ats.now a.owners.now a.ring a.clock a.a0 a.rng.s d.uniform-d.result.rng.s
           (take a.transitions a.props.now) d.uniform-d.result.value (some j) d.uniform-d.ensures.0 d.uniform-d.ensures.1
           (sym (ap choice_of k.in-Chosen.is) ∙ e.choose_by_sums-chosen.ensures) j refl f.if-j-transitions.true counts' _ true (rw fits at f.fire-f.ensures.0)
@@ -90,7 +90,7 @@ returns-2 c =
     let s = d.before in
     let a = s.args in
     let j = k.in-Chosen.j in
-    let counts' = f.fire-f.new.1.1.1.1.1.1.0 in (
+    let counts' = f.fire-f.new.counts in (
       race_at (net s) a.counts.now a.ats.now a.owners.now a.ring a.clock a.a0 a.rng.s d.uniform-d.result.rng.s
           (take a.transitions a.props.now) d.uniform-d.result.value (some j) d.uniform-d.ensures.0 d.uniform-d.ensures.1
           (sym (ap choice_of k.in-Chosen.is) ∙ e.choose_by_sums-chosen.ensures) j refl f.if-j-transitions.true counts' _ false (rw c.if-f.false at f.fire-f.ensures.0)

@@ -38,7 +38,7 @@ pub finish-requires : goal.finish-requires
 finish-requires c =
     let a = c in
     let w = c.take_steps-w in
-    (a.requires.0.tidy.places, a.requires.5, omega (arith, a.requires.6, w.ensures.1.1), w.ensures.1.0)
+    (a.requires.0.tidy.places, a.requires.5, omega (arith, a.requires.6, w.ensures.kept.1), w.ensures.kept.0)
 
 pub returns : goal.returns
 returns c =
@@ -47,10 +47,10 @@ returns c =
     let w = c.take_steps-w in
     let net = lent s.places s.transitions s.initial.now s.capacity.now s.rate.now s.delay.now s.arcs.now s.kind.now s.place.now s.weight.now in
     let from = state_of net s.counts.now s.ats.now s.owners.now s.s.timers s.s.clock s.s.rng.s in
-    let left = state_of net w.new.1.1.1.1.1.1.1.1.1.1.1.1.1.1.1.1.0 w.new.1.1.1.1.1.1.1.1.1.1.1.1.1.1.1.1.1.0 w.new.1.1.1.1.1.1.1.1.1.1.1.1.1.1.1.1.1.1.0 w.result.timers w.result.clock w.result.rng.s in
+    let left = state_of net w.new.counts w.new.ats w.new.owners w.result.timers w.result.clock w.result.rng.s in
     played_by (higher s.s.peak (play_within (out_of s.halts) s.room (readable net) (last_of s.instants.now) s.steps (drop s.s.next s.instants.now) from))
-    s.places s.instants.now s.s.next s.table.now w.new.1.1.1.1.1.1.1.1.1.1.1.1.1.1.1.1.1.1.1.1.1.1.1.1.0 c.finish.new.0 left w.result a.requires.6 w.ensures.1.1 w.result.end
+    s.places s.instants.now s.s.next s.table.now w.new.table c.finish.new.table left w.result a.requires.6 w.ensures.kept.1 w.result.end
     (subst (λ (l : Float). WalkBy (higher s.s.peak (play_within (out_of s.halts) s.room (readable net) l s.steps (drop s.s.next s.instants.now) from)) s.instants.now left
-    (λ (sh : List Marking). Listed s.places (length s.instants.now) s.s.next w.result.next sh s.table.now w.new.1.1.1.1.1.1.1.1.1.1.1.1.1.1.1.1.1.1.1.1.1.1.1.1.0) w.result w.result.end)
-    (last_at s.instants.now a.requires.3) w.ensures.0)
-    w.ensures.1.2 c.finish.ensures
+    (λ (sh : List Marking). Listed s.places (length s.instants.now) s.s.next w.result.next sh s.table.now w.new.table) w.result w.result.end)
+    (last_at s.instants.now a.requires.3) w.ensures.is)
+    w.ensures.kept.2 c.finish.ensures

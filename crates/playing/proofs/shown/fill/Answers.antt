@@ -19,7 +19,7 @@ pub loop-i-preserved : goal.loop-i-preserved
 loop-i-preserved c =
     let l = c in
     let s = l.args in
-    (omega arith, omega arith, filled_join s.places s.n s.from l.loop-i.i (l.loop-i.i + 1) s.counts.now s.table.now l.loop-i.table c.fill_column.new.0 (omega arith) (omega arith) (omega arith) l.loop-i.invariant.2 c.fill_column.ensures)
+    (omega arith, omega arith, filled_join s.places s.n s.from l.loop-i.i (l.loop-i.i + 1) s.counts.now s.table.now l.loop-i.table c.fill_column.new.table (omega arith) (omega arith) (omega arith) l.loop-i.invariant.2 c.fill_column.ensures)
 
 pub shape_of-table : goal.shape_of-table
 shape_of-table c = c.loop-i.invariant.2.long

@@ -98,7 +98,7 @@ returns-3 c =
     let n = c.if-s.false in (
       again_ended l.invariant.1 (Rule.passes (suc s.args.room - (l.i + 1)) s.args.room (readable (net_at s)) s.args.t) u.pass-s.result.timers _ _ u.pass-s.ensures.0
           (passes_next s.args.room (readable (net_at s)) s.args.t (marking s.args.places l.counts) (timers_of l.ats l.owners l.k) (suc s.args.room) l.i (omega (arith, b.loop-i-test.true)))
-          n (c.if-not-s.true),
+          n (not-true _ c.if-not-s.true),
       (u.pass-s.ensures.1.0, λ f. quiet_more (readable (net_at s)) _ _ _ l.moved l.crossed u.pass-s.result.moved u.pass-s.result.crossed l.invariant.4 (u.pass-s.ensures.1.1 n)),
     )
 
@@ -123,7 +123,7 @@ loop-again c =
       omega (arith, b.loop-i-test.true),
       again_turned l.invariant.1 (Rule.passes (suc s.args.room - (l.i + 1)) s.args.room (readable (net_at s)) s.args.t) u.pass-s.ensures.0
           (passes_next s.args.room (readable (net_at s)) s.args.t (marking s.args.places l.counts) (timers_of l.ats l.owners l.k) (suc s.args.room) l.i (omega (arith, b.loop-i-test.true)))
-          n (c.if-not-s.false),
+          n (not-false _ c.if-not-s.false),
       u.pass-s.ensures.1.0.0,
       u.pass-s.ensures.1.0.1,
       quiet_more (readable (net_at s)) _ _ _ l.moved l.crossed u.pass-s.result.moved u.pass-s.result.crossed l.invariant.4 q,

@@ -84,7 +84,7 @@ returns c =
                 (light_pick (has_room s.args.room q) _ q (light_insert _ q k.take-took.ensures.2 s.requires.1.light) s.requires.1.light);
             sound = i.stays s.requires.1.sound;
           },
-          one_more_fits x s.args.ats.now c.insert-put.new.0 s.args.owners.now c.insert-put.new.1.0 s.requires.2 list,
+          one_more_fits x s.args.ats.now c.insert-put.new.ats s.args.owners.now c.insert-put.new.owners s.requires.2 list,
         ),
         λ f. (k.take-took.ensures.4 s.args.transitions s.args.initial.now s.args.capacity.now s.args.rate.now s.args.delay.now s.requires.1.tidy s.requires.3).0,
       ),

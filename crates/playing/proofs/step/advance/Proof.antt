@@ -46,20 +46,20 @@ returns : tie.Need-returns-then-s
 returns c =
     let b = c.before.before in
     let s = b.before.before.before.before in (
-      advance_full s.args.room (net s) (from s) b.start_all-s.new.1.1.1.1.1.1.1.1.1.1.1.1.1.0 b.start_all-s.new.1.1.1.1.1.1.1.1.1.1.1.1.1.1.0
-          b.start_all-s.new.1.1.1.1.1.1.1.1.1.1.1.1.1.1.1.0 b.start_all-s.result b.start_all-s.ensures.0 c.if-s.true _ _ _ _ _,
+      advance_full s.args.room (net s) (from s) b.start_all-s.new.counts b.start_all-s.new.ats
+          b.start_all-s.new.owners b.start_all-s.result b.start_all-s.ensures.0 c.if-s.true _ _ _ _ _,
       (b.start_all-s.ensures.1.0.0, b.start_all-s.ensures.1.0.1, λ e. absurd (let z : ◌≡◌ {A = ℕ} 0 1 = cc in omega arith)),
     )
 
 refresh-requires : tie.Need-refresh-fresh-requires
 refresh-requires c κs =
-    let b = c.before.before.before.before.before.before.before.before in
-    let s = b.before.before.before in
-    let r = b.start-all.ensures.1.0.0 in
+    let b = c.before.before.before.before.before.before.before in
+    let s = b.before.before.before.before in
+    let r = b.start_all-s.ensures.1.0.0 in
     let t = s.requires.2 in
     let k = s.requires.3 in
     let on = c.if-s.false in
-    let q = b.start-all.ensures.1.1 on in (
+    let q = b.start_all-s.ensures.1.1 on in (
       r.tidy,
       r.limits,
       r.small,
@@ -69,7 +69,7 @@ refresh-requires c κs =
       t.heavies,
       kept_quiet _ _ _ _ _ _ _ _ q s.args.props.now k.kept,
       marked_quiet _ _ _ _ _ _ _ _ q s.args.kept.marks k.marked,
-      starts_shut s.args.room (readable (net s)) (from s) (few s) b.start-all.ensures.0 on,
+      starts_shut s.args.room (readable (net s)) (from s) (few s) b.start_all-s.ensures.0 on,
       k.summed,
       k.long_props,
       k.long_sums,
@@ -97,57 +97,56 @@ enum-known-what-2 : tie.Need-enum_known-what-in-Completion-1
 enum-known-what-2 c = search rules
 
 abbrev begun : tie.After-next_event-what → tie.After-start_all-s
-begun c = c.before.before.before.before.before.before.before.before.before.before.before.before.before.before.before.before.before
+begun c = c.before.before.before.before.before.before.before.before.before.before.before.before.before.before
 
 abbrev start : tie.After-next_event-what → tie.Start
 start c = (begun c).before.before.before.before
 
 abbrev worked : tie.After-next_event-what → tie.After-refresh-fresh
-worked c = c.before.before.before.before.before.before.before.before
+worked c = c.before.before.before.before.before.before
 
-carried : (c : tie.After-next_event-what) → Carried (net (start c)) (marking (start c).args.places (begun c).start-all.new.1.1.1.1.1.1.1.1.1.1.1.1.1.0)
-    (record { moved = 0; crossed = 0; able = (worked c).refresh.result.able; marks = (worked c).refresh.result.marks; a0 = (worked c).refresh.result.a0 })
-    (worked c).refresh.new.1.1.1.1.1.1.1.1.1.1.1.1.1.1.1.1.1.1.1.1.1.0 (worked c).refresh.new.1.1.1.1.1.1.1.1.1.1.1.1.1.1.1.1.1.1.1.1.1.1.0
+carried : (c : tie.After-next_event-what) → Carried (net (start c)) (marking (start c).args.places (begun c).start_all-s.new.counts)
+    (record { moved = 0; crossed = 0; able = (worked c).refresh-fresh.result.able; marks = (worked c).refresh-fresh.result.marks; a0 = (worked c).refresh-fresh.result.a0 })
+    (worked c).refresh-fresh.new.props (worked c).refresh-fresh.new.sums
 carried c =
-    let e = (worked c).refresh.ensures in
+    let e = (worked c).refresh-fresh.ensures in
     record { kept = e.1; marked = e.2; summed = e.3; long_props = e.5; long_sums = e.6 }
 
-totalled : (c : tie.After-next_event-what) → Totalled (net (start c)) (begun c).start-all.new.1.1.1.1.1.1.1.1.1.1.1.1.1.0 (worked c).refresh.new.1.1.1.1.1.1.1.1.1.1.1.1.1.1.1.1.1.1.1.1.1.0 (worked c).refresh.result.a0
+totalled : (c : tie.After-next_event-what) → Totalled (net (start c)) (begun c).start_all-s.new.counts (worked c).refresh-fresh.new.props (worked c).refresh-fresh.result.a0
 totalled c =
-    let e = (worked c).refresh.ensures in
+    let e = (worked c).refresh-fresh.ensures in
     record { each = e.0; all = e.3.all ∙ ap total e.0; long = e.5 }
 
 goes_on : (c : tie.After-next_event-what)
-    → Going (start c).args.room (net (start c)) (from (start c)) (begun c).start-all.new.1.1.1.1.1.1.1.1.1.1.1.1.1.0 (begun c).start-all.new.1.1.1.1.1.1.1.1.1.1.1.1.1.1.0
-    (begun c).start-all.new.1.1.1.1.1.1.1.1.1.1.1.1.1.1.1.0 (begun c).start-all.result.timers
-    (worked c).refresh.new.1.1.1.1.1.1.1.1.1.1.1.1.1.1.1.1.1.1.1.1.1.0 (worked c).refresh.result.a0
-    (not (eqb (worked c).refresh.result.marks 0))
+    → Going (start c).args.room (net (start c)) (from (start c)) (begun c).start_all-s.new.counts (begun c).start_all-s.new.ats
+    (begun c).start_all-s.new.owners (begun c).start_all-s.result.timers
+    (worked c).refresh-fresh.new.props (worked c).refresh-fresh.result.a0
+    (not (eqb (worked c).refresh-fresh.result.marks 0))
     c.waiting-w.result.rng.s (next_of c.next_event-what.result)
 goes_on c =
     let b = begun c in
     let s = start c in
-    let w = c.before.before.before.before.before.before in
-    going s.args.room (net s) (from s) b.start-all.last.1.1.1.1.1.1.1.1.1.1.1.1.1.0 b.start-all.last.1.1.1.1.1.1.1.1.1.1.1.1.1.1.0
-    b.start-all.last.1.1.1.1.1.1.1.1.1.1.1.1.1.1.1.0 b.start-all.result b.start-all.ensures.0
-    c.if-s.false (few s) (worked c).refresh.new.1.1.1.1.1.1.1.1.1.1.1.1.1.1.1.1.1.1.1.1.1.0 (worked c).refresh.result.a0
-    _ (totalled c) (worked c).refresh.ensures.4
-    w.waiting.result.dt w.waiting.result.rng.s w.waiting.ensures.0 w.waiting.ensures.1 (next_of c.next_event-what.result) (c.next_event-what.ensures _ (told b.start-all.last.1.1.1.1.1.1.1.1.1.1.1.1.1.1.0 b.start-all.last.1.1.1.1.1.1.1.1.1.1.1.1.1.1.1.0 b.start-all.result.timers
+    going s.args.room (net s) (from s) b.start_all-s.new.counts b.start_all-s.new.ats
+    b.start_all-s.new.owners b.start_all-s.result b.start_all-s.ensures.0
+    c.if-s.false (few s) (worked c).refresh-fresh.new.props (worked c).refresh-fresh.result.a0
+    _ (totalled c) (worked c).refresh-fresh.ensures.4
+    c.waiting-w.result.dt c.waiting-w.result.rng.s c.waiting-w.ensures.0 c.waiting-w.ensures.1 (next_of c.next_event-what.result) (c.next_event-what.ensures _ (told b.start_all-s.new.ats b.start_all-s.new.owners b.start_all-s.result.timers
     c.count.result c.first-x.result c.count.ensures c.first-x.ensures))
 
 returns-2 : tie.Need-returns-in-Nothing
 returns-2 c =
     let e = c.before in
-    (advance_nothing (goes_on e) (ap next_of c.in-Nothing.is), ((begun e).start-all.ensures.1.0.0, (begun e).start-all.ensures.1.0.1, λ z. (carried e, refl, refl)))
+    (advance_nothing (goes_on e) (ap next_of c.in-Nothing.is), ((begun e).start_all-s.ensures.1.0.0, (begun e).start_all-s.ensures.1.0.1, λ z. (carried e, refl, refl)))
 
 returns-3 : tie.Need-returns-in-Race
 returns-3 c =
     let e = c.before in
-    (advance_race (goes_on e) c.in-Race.wait (ap next_of c.in-Race.is), ((begun e).start-all.ensures.1.0.0, (begun e).start-all.ensures.1.0.1, λ z. (carried e, refl, refl)))
+    (advance_race (goes_on e) c.in-Race.wait (ap next_of c.in-Race.is), ((begun e).start_all-s.ensures.1.0.0, (begun e).start_all-s.ensures.1.0.1, λ z. (carried e, refl, refl)))
 
 returns-4 : tie.Need-returns-in-Completion
 returns-4 c =
     let e = c.before in
-    (advance_completion (goes_on e) c.in-Completion.at (ap next_of c.in-Completion.is), ((begun e).start-all.ensures.1.0.0, (begun e).start-all.ensures.1.0.1, λ z. (carried e, refl, refl)))
+    (advance_completion (goes_on e) c.in-Completion.at (ap next_of c.in-Completion.is), ((begun e).start_all-s.ensures.1.0.0, (begun e).start_all-s.ensures.1.0.1, λ z. (carried e, refl, refl)))
 
 pub advance_spec : {M : Type 1} → statement M
 advance_spec =

@@ -37,15 +37,15 @@ from d =
 
 abbrev reads : tie.After-advance-d → State
 reads d =
-    let l = d.advance-d.new.1.1.1.1.1.1.1.1.1.1.1.1.1.1.1.1 in
+    let l = d.advance-d.new in
     let r = d.advance-d.result in
-    state_of (net d) l.0 l.1.0 l.1.1.0 r.timers r.clock r.rng.s
+    state_of (net d) l.counts l.ats l.owners r.timers r.clock r.rng.s
 
 abbrev rule : tie.After-advance-d → Answer Step
 rule d = step (start d).args.room (readable (net d)) (from d)
 
 abbrev props : tie.After-advance-d → List Float
-props d = d.advance-d.new.1.1.1.1.1.1.1.1.1.1.1.1.1.1.1.1.1.1.1.0
+props d = d.advance-d.new.props
 
 abbrev event-of : tie.After-advance-d → Answer Event
 event-of d = event_of (net d) (reads d) d.advance-d.result.kept.a0 (props d) d.advance-d.result.completes
@@ -56,9 +56,9 @@ advanced d = d.advance-d.ensures.0
 
 -- an event, from where the counts have been shown
 abbrev at-event : tie.After-show-next → tie.After-advance-d
-at-event w = w.before.before.before.before.before.before.before
+at-event w = w.before.before.before.before.before.before
 
-follows : (w : tie.After-show-next) → Sets (rule (at-event w)) (at-event w).advance.result.rounded (reads (at-event w)) (event-of (at-event w))
+follows : (w : tie.After-show-next) → Sets (rule (at-event w)) (at-event w).advance-d.result.rounded (reads (at-event w)) (event-of (at-event w))
 follows w = if_event (advanced (at-event w)) w.in-Event.is
 
 -- another ending than that the run goes on
@@ -88,8 +88,8 @@ enum-told-3 c = search rules
 
 show-requires : tie.Need-show-next-requires
 show-requires c κs =
-    let d = c.before.before.before.before.before.before in
-    let r = d.advance.ensures.1.0 in
+    let d = c.before.before.before.before.before in
+    let r = d.advance-d.ensures.1.0 in
     let p = (start d).requires in
     (r.tidy.places, p.4, p.5, p.6, r.small)
 
@@ -99,16 +99,16 @@ same_length c = c.show-next.ensures.cells.long
 returns : tie.Need-returns-then-last-clock
 returns c =
     let w = c.before.before.before in
-    let v = (at-event w).advance.ensures.1 in (
-      step_reached {spec = rule (at-event w)} {rounded = (at-event w).advance.result.rounded} {u = reads (at-event w)} {e = event-of (at-event w)} (follows w) c.if-last-clock.true w.show-next.ensures refl,
+    let v = (at-event w).advance-d.ensures.1 in (
+      step_reached {spec = rule (at-event w)} {rounded = (at-event w).advance-d.result.rounded} {u = reads (at-event w)} {e = event-of (at-event w)} (follows w) c.if-last-clock.true w.show-next.ensures refl,
       (v.0, v.1, λ e. not_on (ap goes e), w.show-next.ensures.cells.long, w.show-next.ensures.cells.further),
     )
 
 happen-requires : tie.Need-happen-e-requires
 happen-requires c κs =
-    let w = c.before.before.before.before.before.before.before.before.before in
-    let v = (at-event w).advance.ensures.1 in
-    let k = (v.2 w.enum-told3.given.1).0 in
+    let w = c.before.before.before.before.before.before in
+    let v = (at-event w).advance-d.ensures.1 in
+    let k = (v.2 w.in-Event.is).0 in
     (v.0, k.long_props, k.summed.each, (start (at-event w)).requires.7 ∙ sym (tokens_stay (start (at-event w)).args.room (net (at-event w)) v.0.tidy (from (at-event w)) (reads (at-event w)) (follows w)), (start (at-event w)).requires.2.index)
 
 after-event-requires : tie.Need-after_event-requires
@@ -125,15 +125,13 @@ same-length-2 c = c.show-next.ensures.cells.long
 
 returns-2 : tie.Need-returns-then-e
 returns-2 c =
-    let f = c.before.before.before.before in
-    let b = f.before.before.before.before.before.before.before.before in
-    let w = b.before.before in
-    let v = (at-event w).advance.ensures.1.2 w.enum-told3.given.1 in
+    let f = c in
+    let w = c.before.before.before.before.before.before.before.before.before.before.before in
+    let v = (at-event w).advance-d.ensures.1.2 w.in-Event.is in
     let k = v.0 in
-    let u = f.before.before.before.before.before.before in
-    let waits = u.unit-wait.ensures ∙ ap unit_wait (u.after-event.ensures ∙ sym (drawn_after (net (at-event w)) (reads (at-event w)) (at-event w).advance.result.kept.a0 (props (at-event w)) (at-event w).advance.result.completes _ _ _ f.happen-e.ensures.0 c.if-e.true)) in (
-      step_on {spec = rule (at-event w)} {rounded = (at-event w).advance.result.rounded} {u = reads (at-event w)} {e = event-of (at-event w)} (follows w) b.if1.false w.show.ensures c.higher.ensures f.happen-e.ensures.0 c.if-e.true,
-      (f.happen-e.ensures.1.0.0, fits_still (at-event w).advance.ensures.1.1 f.happen-e.ensures.1.0.1, λ e. (carried_on (net (at-event w)) _ _ _ _ _ _ _ k v.1 v.2 (f.happen-e.ensures.1.1 c.if-e.true), waits), w.show.ensures.cells.long, w.show.ensures.cells.further),
+    let waits = c.unit_wait-unit.ensures ∙ ap unit_wait (c.after_event.ensures ∙ sym (drawn_after (net (at-event w)) (reads (at-event w)) (at-event w).advance-d.result.kept.a0 (props (at-event w)) (at-event w).advance-d.result.completes _ _ _ f.happen-e.ensures.0 c.if-e.true)) in (
+      step_on {spec = rule (at-event w)} {rounded = (at-event w).advance-d.result.rounded} {u = reads (at-event w)} {e = event-of (at-event w)} (follows w) c.if-last-clock.false w.show-next.ensures c.higher.ensures f.happen-e.ensures.0 c.if-e.true,
+      (f.happen-e.ensures.1.0.0, fits_still (at-event w).advance-d.ensures.1.1 f.happen-e.ensures.1.0.1, λ e. (carried_on (net (at-event w)) _ _ _ _ _ _ _ k v.1 v.2 (f.happen-e.ensures.1.1 c.if-e.true), waits), w.show-next.ensures.cells.long, w.show-next.ensures.cells.further),
     )
 
 returns-3 : tie.Need-returns-in-Full
@@ -154,11 +152,10 @@ same-length-3 c = c.show-next.ensures.cells.long
 
 returns-5 : tie.Need-returns-else-e
 returns-5 c =
-    let f = c.before.before.before.before in
-    let b = f.before.before.before.before.before.before.before.before in
-    let w = b.before.before in (
-      step_large {spec = rule (at-event w)} {rounded = (at-event w).advance.result.rounded} {u = reads (at-event w)} {e = event-of (at-event w)} (follows w) b.if1.false f.happen-e.ensures.0 c.if-e.false,
-      (f.happen-e.ensures.1.0.0, fits_still (at-event w).advance.ensures.1.1 f.happen-e.ensures.1.0.1, λ e. not_on (ap goes e), w.show.ensures.cells.long, w.show.ensures.cells.further),
+    let f = c in
+    let w = c.before.before.before.before.before.before.before.before.before.before.before in (
+      step_large {spec = rule (at-event w)} {rounded = (at-event w).advance-d.result.rounded} {u = reads (at-event w)} {e = event-of (at-event w)} (follows w) c.if-last-clock.false f.happen-e.ensures.0 c.if-e.false,
+      (f.happen-e.ensures.1.0.0, fits_still (at-event w).advance-d.ensures.1.1 f.happen-e.ensures.1.0.1, λ e. not_on (ap goes e), w.show-next.ensures.cells.long, w.show-next.ensures.cells.further),
     )
 
 pub one_step_spec : {M : Type 1} → statement M

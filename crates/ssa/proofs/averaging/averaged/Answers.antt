@@ -18,8 +18,8 @@ sum_paths-s-requires c =
       s.requires.0,
       s.requires.1,
       s.requires.4,
-      cleared_once cells a.mean.now m.new.0 m.ensures,
-      cleared_once cells a.deviation.now d.new.0 d.ensures,
+      cleared_once cells a.mean.now m.new.table m.ensures,
+      cleared_once cells a.deviation.now d.new.table d.ensures,
     )
 
 pub returns-in-Stopped : goal.returns-in-Stopped
@@ -30,8 +30,8 @@ returns-in-Stopped c =
     let a = c.args in
     let net = readable (lent a.places a.transitions a.initial.now a.capacity.now a.rate.now a.delay.now a.arcs.now a.kind.now a.place.now a.weight.now) in
     stopped_call (paths_from (drawn net a.seed a.instants.now a.steps) 0 a.realizations) a.places (length a.instants.now) a.realizations a.mean.now a.deviation.now a.path.now
-    m.new.0 d.new.0 p.new.1.1.1.1.1.1.1.1.1.1.1.1.1.1.1.1.1.1.1.1.0 p.new.1.1.1.1.1.1.1.1.1.1.1.1.1.1.1.1.1.1.1.1.1.0 p.new.1.1.1.1.1.1.1.1.1.1.1.1.1.1.1.1.1.1.1.1.1.1.0 m.ensures d.ensures
-    _ _ c.clear-in-Stopped.new.0 c.clear-in-Stopped-2.new.0 p.result c.in-Stopped.is p.ensures c.clear-in-Stopped.ensures c.clear-in-Stopped-2.ensures
+    m.new.table d.new.table p.new.mean p.new.deviation p.new.path m.ensures d.ensures
+    _ _ c.clear-in-Stopped.new.table c.clear-in-Stopped-2.new.table p.result c.in-Stopped.is p.ensures c.clear-in-Stopped.ensures c.clear-in-Stopped-2.ensures
 
 pub returns-in-Done : goal.returns-in-Done
 returns-in-Done c =
@@ -43,5 +43,5 @@ returns-in-Done c =
     let a = s.args in
     let net = readable (lent a.places a.transitions a.initial.now a.capacity.now a.rate.now a.delay.now a.arcs.now a.kind.now a.place.now a.weight.now) in
     finished_call (paths_from (drawn net a.seed a.instants.now a.steps) 0 a.realizations) a.places (length a.instants.now) a.realizations a.mean.now a.deviation.now a.path.now
-    m.new.0 d.new.0 p.new.1.1.1.1.1.1.1.1.1.1.1.1.1.1.1.1.1.1.1.1.0 p.new.1.1.1.1.1.1.1.1.1.1.1.1.1.1.1.1.1.1.1.1.1.0 p.new.1.1.1.1.1.1.1.1.1.1.1.1.1.1.1.1.1.1.1.1.1.1.0 m.ensures d.ensures
-    _ f.result f.new.1.1.0 f.new.1.1.1.0 p.result c.in-Done.is s.requires.3 p.ensures f.ensures.0 f.ensures.1 f.ensures.2
+    m.new.table d.new.table p.new.mean p.new.deviation p.new.path m.ensures d.ensures
+    _ f.result f.new.mean f.new.deviation p.result c.in-Done.is s.requires.3 p.ensures f.ensures.0 f.ensures.1 f.ensures.2

@@ -26,7 +26,7 @@ returns-then-realizations-eq1 c =
       sym (ap not e),
       m.ensures,
       c.clear.ensures
-          ∙ sym (ap (λ (b : Bool). pick b (cleared a.cells a.deviation.now) (with_front (deviation_of (float a.realizations)) a.cells m.new.1.1.0 a.deviation.now)) e),
+          ∙ sym (ap (λ (b : Bool). pick b (cleared a.cells a.deviation.now) (with_front (deviation_of (float a.realizations)) a.cells m.new.sums a.deviation.now)) e),
     )
 
 pub returns : goal.returns
@@ -37,5 +37,5 @@ returns c =
       sym (ap not e),
       m.ensures,
       c.to_deviations.ensures
-          ∙ sym (ap (λ (b : Bool). pick b (cleared a.cells a.deviation.now) (with_front (deviation_of (float a.realizations)) a.cells m.new.1.1.0 a.deviation.now)) e),
+          ∙ sym (ap (λ (b : Bool). pick b (cleared a.cells a.deviation.now) (with_front (deviation_of (float a.realizations)) a.cells m.new.sums a.deviation.now)) e),
     )

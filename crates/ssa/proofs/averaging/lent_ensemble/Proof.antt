@@ -45,11 +45,11 @@ fill-grid-requires c κs = search rules
 
 array-share-prefix-grid : tie.Need-slice_bounds-grid-end
 array-share-prefix-grid c =
-    grid_room (wanted c.before.before.before.before.before.before.before.before.before.before.before.before.before.before.before.before) c.interval.result blank c.fill_grid.new.1.1.0 c.interval.ensures c.fill_grid.ensures (long c.before.before.before.before.before.before.before.before.before.before.before.before.before.before.before.before)
+    grid_room (wanted c.before.before.before.before.before.before.before.before.before.before.before.before.before.before.before.before) c.interval.result blank c.fill_grid.new.instants c.interval.ensures c.fill_grid.ensures (long c.before.before.before.before.before.before.before.before.before.before.before.before.before.before.before.before)
 
 slice-aggregate-averaged : tie.Need-slice_bounds-averaged-end
 slice-aggregate-averaged c =
-    sym (grid_many (wanted c.before.before.before.before.before.before.before.before.before.before.before.before.before.before.before.before.before) c.interval.result blank c.fill_grid.new.1.1.0 c.interval.ensures c.fill_grid.ensures (long c.before.before.before.before.before.before.before.before.before.before.before.before.before.before.before.before.before))
+    sym (grid_many (wanted c.before.before.before.before.before.before.before.before.before.before.before.before.before.before.before.before.before) c.interval.result blank c.fill_grid.new.instants c.interval.ensures c.fill_grid.ensures (long c.before.before.before.before.before.before.before.before.before.before.before.before.before.before.before.before.before))
 
 averaged-requires : tie.Need-averaged-requires
 averaged-requires c κs =
@@ -57,13 +57,13 @@ averaged-requires c κs =
     let i = c.interval in
     let g = c.fill_grid in
     let f = passing (wanted s) s.requires.2 in
-    let many = grid_many (wanted s) i.result blank g.new.1.1.0 i.ensures g.ensures (long s) in (
+    let many = grid_many (wanted s) i.result blank g.new.instants i.ensures g.ensures (long s) in (
       record {
         tidy = s.requires.0;
         limits = c.fill_tables-kinds.ensures.0;
         small = s.requires.1;
         tables = c.fill_tables-kinds.ensures.1;
-        fit = grid_passes (wanted s) i.result blank g.new.1.1.0 i.ensures g.ensures (long s) f;
+        fit = grid_passes (wanted s) i.result blank g.new.instants i.ensures g.ensures (long s) f;
       },
       f.repeated,
       rw many s.requires.3,
@@ -87,8 +87,8 @@ returns c =
     let i = c.interval in
     let g = c.fill_grid in
     let net = readable (lent a.places a.transitions a.initial.now a.capacity.now a.rate.now a.delay.now a.arcs.now a.kind.now a.place.now a.weight.now) in
-    asked net (wanted s) (take a.samples g.new.1.1.0) a.places (record { mean = a.mean.now; deviation = a.deviation.now; path = a.path.now })
-    (grid_is (wanted s) i.result blank g.new.1.1.0 i.ensures g.ensures (long s)) c.averaged.ensures
+    asked net (wanted s) (take a.samples g.new.instants) a.places (record { mean = a.mean.now; deviation = a.deviation.now; path = a.path.now })
+    (grid_is (wanted s) i.result blank g.new.instants i.ensures g.ensures (long s)) c.averaged.ensures
 
 pub lent_ensemble_spec : {M : Type 1} → statement M
 lent_ensemble_spec =

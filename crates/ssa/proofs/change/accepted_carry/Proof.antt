@@ -62,7 +62,7 @@ long s = sym (length-map s.args.path.counts (λ v. v)) ∙ s.well_formed.1.1.1.1
 
 -- its timers in the ring
 timers_are : (c : tie.After-hand_in-ring)
-    → timers_of c.hand_in-ring.new.0 c.hand_in-ring.new.1.0 c.hand_in-ring.result ≡ map (renamed_timer (pairs_at (start2 c))) (timers_at (start2 c).args.path)
+    → timers_of c.hand_in-ring.new.ats c.hand_in-ring.new.owners c.hand_in-ring.result ≡ map (renamed_timer (pairs_at (start2 c))) (timers_at (start2 c).args.path)
 timers_are c =
     let w = c.new_numbers in
     let m = c.names_of-names in
@@ -77,7 +77,7 @@ abbrev state_at : tie.After-first_counts-counts → State
 state_at c =
     let i = c.hand_in-ring in
     let s = start3 c in
-    state_of (net_at s) c.first_counts-counts.result i.new.0 i.new.1.0 i.result s.args.path.clock s.args.path.generator.s
+    state_of (net_at s) c.first_counts-counts.result i.new.ats i.new.owners i.result s.args.path.clock s.args.path.generator.s
 
 now_is : (c : tie.After-first_counts-counts) → state_at c ≡ (moved_at (start3 c)).now
 now_is c =
@@ -86,7 +86,7 @@ now_is c =
     let i = h.hand_in in
     let s = start3 c in
     let a = s.args in
-    now_same (brings s) (pairs_at s) k.result i.new.0 i.new.1.0 i.result (timers_are h)
+    now_same (brings s) (pairs_at s) k.result i.new.ats i.new.owners i.result (timers_are h)
     (counts_same a.places a.t14.counts k.result (omega (arith, long s, (sound (net_at s) s.pre.0).places)) k.ensures.0)
     a.t14.generator.s
 

@@ -19,7 +19,7 @@ returns-in-Refused c =
     let a = c.args in
     let net = readable (lent a.places a.transitions a.initial.now a.capacity.now a.rate.now a.delay.now a.arcs.now a.kind.now a.place.now a.weight.now) in
     let xs = a.instants.now in
-    turn_stops a.places (length xs) a.spent (seeded (seed_of a.seed a.k)) a.mean.now a.mean.now a.deviation.now a.deviation.now a.path.now p.new.1.1.1.1.1.1.1.1.1.1.1.1.1.1.1.1.1.1.1.1.0 p.result
+    turn_stops a.places (length xs) a.spent (seeded (seed_of a.seed a.k)) a.mean.now a.mean.now a.deviation.now a.deviation.now a.path.now p.new.path p.result
     c.in-Refused.c (drawn net a.seed xs a.steps a.k) p.ensures c.in-Refused.is refl refl
 
 pub overflow_mul-cells : goal.overflow_mul-cells
@@ -38,5 +38,5 @@ returns c =
     let a = c.before.before.args in
     let net = readable (lent a.places a.transitions a.initial.now a.capacity.now a.rate.now a.delay.now a.arcs.now a.kind.now a.place.now a.weight.now) in
     let xs = a.instants.now in
-    turn_goes a.places (length xs) a.spent (seeded (seed_of a.seed a.k)) a.mean.now m.new.1.1.0 a.deviation.now d.new.1.1.0 a.path.now p.new.1.1.1.1.1.1.1.1.1.1.1.1.1.1.1.1.1.1.1.1.0 p.result
+    turn_goes a.places (length xs) a.spent (seeded (seed_of a.seed a.k)) a.mean.now m.new.sums a.deviation.now d.new.squares a.path.now p.new.path p.result
     c.one_if_spent.result _ (drawn net a.seed xs a.steps a.k) p.ensures (not_refused p.result.end c.in_default.in_default-own.keys2) c.one_if_spent.ensures refl m.ensures d.ensures

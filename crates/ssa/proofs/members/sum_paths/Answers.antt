@@ -30,7 +30,7 @@ returns-in-Stopped c =
     let net = readable (lent a.places a.transitions a.initial.now a.capacity.now a.rate.now a.delay.now a.arcs.now a.kind.now a.place.now a.weight.now) in
     one_refused (drawn net a.seed a.instants.now a.steps) a.places (length a.instants.now) a.realizations a.mean.now a.deviation.now a.path.now
     l.k l.spent l.mean l.deviation l.path l.invariant c.loop-k-test.true
-    c.in-Stopped.c t.new.1.1.1.1.1.1.1.1.1.1.1.1.1.1.1.1.1.1.1.1.1.0 t.new.1.1.1.1.1.1.1.1.1.1.1.1.1.1.1.1.1.1.1.1.1.1.0 t.new.1.1.1.1.1.1.1.1.1.1.1.1.1.1.1.1.1.1.1.1.1.1.1.0 t.result c.in-Stopped.is t.ensures
+    c.in-Stopped.c t.new.mean t.new.deviation t.new.path t.result c.in-Stopped.is t.ensures
 
 pub loop-k-smaller : goal.loop-k-smaller
 loop-k-smaller c = omega (arith, c.loop-k-test.true)
@@ -44,7 +44,7 @@ loop-k-preserved c =
     let net = readable (lent a.places a.transitions a.initial.now a.capacity.now a.rate.now a.delay.now a.arcs.now a.kind.now a.place.now a.weight.now) in
     one_added (drawn net a.seed a.instants.now a.steps) a.places (length a.instants.now) a.realizations a.mean.now a.deviation.now a.path.now
     l.k l.spent l.mean l.deviation l.path l.invariant c.loop-k-test.true
-    c.in-Went.s t.new.1.1.1.1.1.1.1.1.1.1.1.1.1.1.1.1.1.1.1.1.1.0 t.new.1.1.1.1.1.1.1.1.1.1.1.1.1.1.1.1.1.1.1.1.1.1.0 t.new.1.1.1.1.1.1.1.1.1.1.1.1.1.1.1.1.1.1.1.1.1.1.1.0 s.requires.2 (drawn_count net a.seed a.instants.now a.steps l.k) t.result c.in-Went.is t.ensures
+    c.in-Went.s t.new.mean t.new.deviation t.new.path s.requires.2 (drawn_count net a.seed a.instants.now a.steps l.k) t.result c.in-Went.is t.ensures
 
 pub returns : goal.returns
 returns c =

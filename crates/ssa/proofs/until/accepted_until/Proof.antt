@@ -121,7 +121,7 @@ returns c =
     let b = r.before.before.before.before.before.before.before.before in
     let s = at b in
     let a = s.args in
-    c.refused.ensures a.places r.resume-w.new.1.1.1.1.1.1.1.1.1.1.1.1.1.1.1.1.1.1.1.0
+    c.refused.ensures a.places r.resume-w.new.table
     ∙ sym (refused_first a.places (readable (net_at s)) (words a.generator.s) a.instants.now a.limit a.named
     (rises zero64 a.instants.now (fitting a.instants.now s.pre.1).risen) (same b) b.begin-s.ensures.0 s.pre.3 (most b) (first b)
     refl r.fewer.ensures (unbegun a.places (words a.generator.s)) c.in-Refused.is r.resume-w.ensures)
@@ -142,7 +142,7 @@ returns-2 c =
     let s = at b in
     let a = s.args in
     let h = c.handed.ensures in
-    let table = r.resume-w.new.1.1.1.1.1.1.1.1.1.1.1.1.1.1.1.1.1.1.1.0 in
+    let table = r.resume-w.new.table in
     (λ i. record { end = end_of (h.0 i); settled = h.1 i; state = h.2 a.places i; table = table })
     ∙ sym (played_first a.places (readable (net_at s)) (words a.generator.s) a.instants.now a.limit a.named
     (rises zero64 a.instants.now (fitting a.instants.now s.pre.1).risen) (same b) b.begin-s.ensures.0 s.pre.3 (most b) (first b)
