@@ -14,7 +14,7 @@ use Rattle.net.specs.Labels.{label_fits, label_at}
 use Rattle.net.specs.Readable.{readable, fault, places_from, transitions_from}
 use Rattle.net.specs.Tests.{empty}
 use Rattle.net.proofs.Sound.{labelled}
-use Rattle.gates.specs.Gated.{Gates, bounded, bounded_from, gates, gated}
+use Rattle.gates.specs.Gated.{Gates, bounded, bounded_from, gates}
 use Rattle.reason.specs.Reasons.{Reasons, reason_text}
 use Rattle.reason.specs.Call.{reasons_of}
 use Rattle.reason.specs.Same.{EmptyText, SameParts, SameTexts}

@@ -9,7 +9,7 @@ use mathlib.Core.List.{List, [], ◌∷◌, ◌++◌}
 use lib.Dec.{ltb}
 use borrow.Author.Tests.{lt-ltb}
 use Rattle.net.specs.Tests.{empty}
-use Rattle.text.specs.Text.{Bytes, bytes}
+use Rattle.text.specs.Text.{Bytes}
 use Rattle.net_text.specs.Forms.{met}
 use Rattle.reason.specs.Reasons.{Reasons, opening, read_words, inhibitor_words, non_kinetic_words, counted, bracketed, timed, sentences, told, reason_text}
 use Rattle.reason.proofs.ReadBack.{Labels, reads_back, read_back}

@@ -4,7 +4,6 @@ use lib.ListN.{take}
 use lib.Seq.{length-take-le}
 use Rattle.text.specs.declared.Written.{Written}
 use Rattle.reason.proofs.Cases.{shown, answered_is}
-use borrow.Author.Rules.{rules}
 use Rattle.reason.proofs.writing.deliver.Goals as goal
 
 pub slice_bounds-put_bytes-end : goal.slice_bounds-put_bytes-end

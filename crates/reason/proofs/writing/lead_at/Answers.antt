@@ -3,7 +3,6 @@ use mathlib.Core.Path.{ap, ◌∙◌}
 use Rattle.text.specs.Buffer.{written}
 use Rattle.reason.specs.Reasons.{opening}
 use Rattle.reason.proofs.Cases.{lead_first, lead_later}
-use borrow.Author.Rules.{rules}
 use Rattle.reason.proofs.writing.lead_at.Goals as goal
 
 pub returns-then-at-eq0 : goal.returns-then-at-eq0

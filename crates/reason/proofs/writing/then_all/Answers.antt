@@ -5,7 +5,6 @@ use Rattle.gates.specs.Gated.{gates_of}
 use Rattle.reason.specs.Call.{reasons}
 use Rattle.reason.specs.Reasons.{read_words, inhibitor_words, non_kinetic_words}
 use Rattle.reason.proofs.Cases.{in_turn}
-use borrow.Author.Rules.{rules}
 use Rattle.reason.proofs.writing.then_all.Goals as goal
 
 pub returns : goal.returns

@@ -2,7 +2,6 @@
 use mathlib.Core.Path.{sym, ap, ◌∙◌}
 use Rattle.reason.specs.Reasons.{bound_words}
 use Rattle.reason.specs.Parts.{then_bound}
-use borrow.Author.Rules.{rules}
 use Rattle.reason.proofs.writing.then_bound.Goals as goal
 
 pub returns-then-first : goal.returns-then-first

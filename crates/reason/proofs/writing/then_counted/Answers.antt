@@ -5,7 +5,6 @@ use Rattle.text.specs.Numbers.{decimal_text}
 use Rattle.text.specs.Buffer.{and_then}
 use Rattle.text.specs.declared.Written.{Written}
 use Rattle.reason.proofs.Cases.{counted_none, counted_some}
-use borrow.Author.Rules.{rules}
 use Rattle.reason.proofs.writing.then_counted.Goals as goal
 
 pub returns-then-n-eq0 : goal.returns-then-n-eq0

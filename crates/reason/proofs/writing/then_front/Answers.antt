@@ -5,7 +5,6 @@ use Rattle.text.specs.Buffer.{and_then}
 use Rattle.text.specs.declared.Written.{Written}
 use Rattle.reason.specs.Reasons.{capacity_words}
 use Rattle.reason.specs.Parts.{then_front}
-use borrow.Author.Rules.{rules}
 use Rattle.reason.proofs.writing.then_front.Goals as goal
 
 pub returns-then-first : goal.returns-then-first

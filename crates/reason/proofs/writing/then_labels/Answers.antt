@@ -1,15 +1,8 @@
 -- `then_labels` meets its contract. The invariant: the places that are left, written from here, are all of them written.
 use native.Mathlib.Omega.{arith}
-use mathlib.Core.Path.{◌≡◌, refl, ◌∙◌}
-use mathlib.Core.Bool.{true}
-use Prim.Native.Nat.{◌-◌, ◌≤◌}
-use lib.ListN.{length}
-use mathlib.Core.List.{map}
+use mathlib.Core.Path.{refl, ◌∙◌}
 use Rattle.net.specs.Labels.{label_at}
-use Rattle.gates.specs.Gated.{bits_from}
-use Rattle.reason.specs.Parts.{then_labels}
-use Rattle.reason.proofs.Cases.{left, place_turn, no_place_more}
-use borrow.Author.Rules.{rules}
+use Rattle.reason.proofs.Cases.{place_turn, no_place_more}
 use Rattle.reason.proofs.writing.then_labels.Goals as goal
 
 pub loop-p-init : goal.loop-p-init

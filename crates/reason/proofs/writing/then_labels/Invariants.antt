@@ -1,6 +1,5 @@
 -- `then_labels` meets its contract. The invariant: the places that are left, written from here, are all of them written.
-use native.Mathlib.Omega.{arith}
-use mathlib.Core.Path.{◌≡◌, refl, ◌∙◌}
+use mathlib.Core.Path.{◌≡◌}
 use mathlib.Core.Bool.{true}
 use Prim.Native.Nat.{◌-◌, ◌≤◌}
 use lib.ListN.{length}
@@ -8,8 +7,7 @@ use mathlib.Core.List.{map}
 use Rattle.net.specs.Labels.{label_at}
 use Rattle.gates.specs.Gated.{bits_from}
 use Rattle.reason.specs.Parts.{then_labels}
-use Rattle.reason.proofs.Cases.{left, place_turn, no_place_more}
-use borrow.Author.Rules.{rules}
+use Rattle.reason.proofs.Cases.{left}
 use Rattle.reason.proofs.writing.then_labels.Given as goal
 
 abbrev pub invariant-loop-p : goal.invariant-loop-p

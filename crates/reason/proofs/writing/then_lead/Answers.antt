@@ -1,6 +1,5 @@
 -- `then_lead` meets its contract: each arm is one case of `then_lead`.
 use Rattle.reason.proofs.Cases.{lead_next, lead_short}
-use borrow.Author.Rules.{rules}
 use Rattle.reason.proofs.writing.then_lead.Goals as goal
 
 pub returns-in-Next : goal.returns-in-Next

@@ -5,7 +5,6 @@ use Rattle.text.specs.Text.{Bytes}
 use Rattle.text.specs.Buffer.{and_then}
 use Rattle.text.specs.declared.Written.{Written}
 use Rattle.reason.specs.Parts.{then_place}
-use borrow.Author.Rules.{rules}
 use Rattle.reason.proofs.writing.then_place.Goals as goal
 
 pub returns-then-bounded : goal.returns-then-bounded

@@ -5,7 +5,6 @@ use Rattle.text.specs.Buffer.{and_then}
 use Rattle.text.specs.declared.Written.{Written}
 use Rattle.reason.specs.Reasons.{dash, delay_words}
 use Rattle.reason.specs.Parts.{then_timed}
-use borrow.Author.Rules.{rules}
 use Rattle.reason.proofs.writing.then_timed.Goals as goal
 
 pub returns-then-delayed : goal.returns-then-delayed
