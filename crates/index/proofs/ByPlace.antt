@@ -13,7 +13,6 @@ use borrow.Author.Tests.{eqb-true, ltb-true, le-ltb, le-leb, lt-leb, ne_eqb}
 use Rattle.net.specs.Net.{pick}
 use Rattle.net.specs.Tests.{any}
 use Rattle.net.specs.Readable.{Slot, takes_of, arcs_of, is_put, is_read, is_block, slots_of, transitions_from, places_from, readable}
-use Rattle.net.specs.Readable as Record
 use Rattle.net.proofs.Lengths.{transitions_length}
 use Rattle.rules.specs.Moves.{without_arcs, transition}
 use Rattle.rules.specs.Demand3.{takes_from}

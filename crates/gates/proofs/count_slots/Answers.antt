@@ -1,10 +1,7 @@
 -- The count so far with that of the slots from a on is the whole. Assumes nothing.
-use borrow.Author.Rules.{rules}
 use native.Mathlib.Omega.{arith}
-use mathlib.Core.Path.{◌≡◌}
-use Prim.Native.Nat.{◌+◌, ◌-◌}
-use Rattle.net.specs.Readable.{slots}
-use Rattle.gates.specs.Slots.{sort_of, count_if}
+use Prim.Native.Nat.{◌-◌}
+use Rattle.gates.specs.Slots.{sort_of}
 use Rattle.gates.proofs.Counted.{count_most, count_turn, count_end}
 use Rattle.gates.proofs.count_slots.Goals as goal
 

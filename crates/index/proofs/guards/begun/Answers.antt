@@ -1,7 +1,5 @@
 -- One place more (Beginning). Assumes nothing.
-use borrow.Author.Rules.{rules}
-use Prim.Native.Nat.{◌-◌}
-use Rattle.index.proofs.Beginning.{Beginning, beginning_none, beginning_more, beginning_all}
+use Rattle.index.proofs.Beginning.{beginning_none, beginning_more, beginning_all}
 use Rattle.index.proofs.guards.begun.Goals as goal
 
 pub loop-p-init : goal.loop-p-init

@@ -1,7 +1,6 @@
 -- One place more (Beginning). Assumes nothing.
-use borrow.Author.Rules.{rules}
 use Prim.Native.Nat.{◌-◌}
-use Rattle.index.proofs.Beginning.{Beginning, beginning_none, beginning_more, beginning_all}
+use Rattle.index.proofs.Beginning.{Beginning}
 use Rattle.index.proofs.guards.begun.Given as goal
 
 abbrev pub invariant-loop-p : goal.invariant-loop-p

@@ -1,5 +1,4 @@
 -- The four words of the place (Turning). Assumes nothing.
-use borrow.Author.Rules.{rules}
 use lib.Dec.{eqb}
 use Rattle.index.proofs.Turning.{guarded_of}
 use Rattle.index.proofs.guards.guard_slot.Goals as goal

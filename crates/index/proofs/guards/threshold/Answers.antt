@@ -1,7 +1,6 @@
 -- By the side on which the limit lies. Assumes nothing.
 use native.Mathlib.Omega.{arith}
 use borrow.Author.Tests.{lt-ltb, le-ltb}
-use borrow.Author.Rules.{rules}
 use Rattle.index.proofs.guards.threshold.Goals as goal
 
 pub returns-then-limit-lt9223372036854775808 : goal.returns-then-limit-lt9223372036854775808

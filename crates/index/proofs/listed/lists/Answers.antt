@@ -5,7 +5,6 @@ use mathlib.Core.Path.{◌≡◌}
 use lib.ListN.{get_or}
 use Rattle.index.specs.Slots.{span}
 use Rattle.index.proofs.Listing.{lists_arc, lists_free, lists_put}
-use borrow.Author.Rules.{rules}
 use Rattle.index.proofs.listed.lists.Goals as goal
 
 pub returns-then-k-ne-PUT : goal.returns-then-k-ne-PUT
