@@ -11,16 +11,17 @@ use net::Net;
 use net_io::arguments::number_of;
 use net_io::{Input, read_input, say, text_room, write, write_number, write_refused};
 use net_text::Judged;
+use std::env::Env;
 
-fn write_answer(answer: BalanceAnswer) {
+fn write_answer(rt: &HostRuntime, answer: BalanceAnswer) {
     match answer {
-        BalanceAnswer::Balanced => write(b"(balance yes)\n"),
+        BalanceAnswer::Balanced => write(rt, b"(balance yes)\n"),
         BalanceAnswer::Unbalanced(j) => {
-            write(b"(balance no ");
-            write_number(j as u64);
-            write(b")\n");
+            write(rt, b"(balance no ");
+            write_number(rt, j as u64);
+            write(rt, b")\n");
         }
-        BalanceAnswer::Refused(c) => write_refused(c, 0),
+        BalanceAnswer::Refused(c) => write_refused(rt, c, 0),
     }
 }
 
@@ -59,53 +60,53 @@ fn read_weights(list: &[u8], weights: &mut [u64; 33]) -> usize {
 }
 
 // The balance of the first n weights.
-fn weigh(net: Net, n: usize, weights: &[u64]) {
+fn weigh(rt: &HostRuntime, net: Net, n: usize, weights: &[u64]) {
     if n <= weights.len() {
-        write_answer(balance::balance(net, &weights[..n]));
+        write_answer(rt, balance::balance(net, &weights[..n]));
     }
 }
 
-fn ask(text: &[u8], n: usize, weights: &[u64]) {
+fn ask(rt: &HostRuntime, text: &[u8], n: usize, weights: &[u64]) {
     let read = net_text::read_net(text);
     let judged = read.judged;
     match judged {
-        Judged::Refused(c, line) => write_refused(c, line),
-        Judged::Given => weigh(read.net, n, weights),
+        Judged::Refused(c, line) => write_refused(rt, c, line),
+        Judged::Given => weigh(rt, read.net, n, weights),
     }
 }
 
-fn ask_front(text: &[u8], t: usize, n: usize, weights: &[u64]) {
+fn ask_front(rt: &HostRuntime, text: &[u8], t: usize, n: usize, weights: &[u64]) {
     if t <= text.len() {
-        ask(&text[..t], n, weights);
+        ask(rt, &text[..t], n, weights);
     }
 }
 
-fn read_and_ask(n: usize, weights: &[u64; 33]) {
+fn read_and_ask(rt: &HostRuntime, n: usize, weights: &[u64; 33]) {
     let mut text = text_room();
-    match read_input(&mut text) {
-        Input::Read(t) => ask_front(&text, t, n, weights),
-        Input::Failed => say(b"balancerun: standard input cannot be read\n"),
+    match read_input(rt, &mut text) {
+        Input::Read(t) => ask_front(rt, &text, t, n, weights),
+        Input::Failed => say(rt, b"balancerun: standard input cannot be read\n"),
     }
 }
 
-fn usage() {
+fn usage(rt: &HostRuntime) {
     say(
+        rt,
         b"usage: balancerun WEIGHTS <NET, whole numbers with commas between them, of at most 1,024 bytes\n",
     );
 }
 
-fn main() {
+fn main(rt: HostRuntime) {
     let mut list = [0u8; 1024];
-    let n = os::arg(1, &mut list);
-    if os::errno() != 0 {
-        usage();
+    let Ok(n) = rt.arg(1, &mut list) else {
+        usage(&rt);
         return;
-    }
+    };
     let mut weights = [0u64; 33];
     let count = read_weights(&list[..n], &mut weights);
     if count == 0 {
-        usage();
+        usage(&rt);
         return;
     }
-    read_and_ask(count, &weights);
+    read_and_ask(&rt, count, &weights);
 }

@@ -23,6 +23,7 @@ use net_io::{Input, read_input, say, write_refused};
 use net_text::{Judged, RunLine};
 use rng::Xoshiro256;
 use ssa::{Halted, PathEnd};
+use std::env::{Env, FillError};
 
 // The most steps of a path.
 const MOST_STEPS: u64 = 1_000_000;
@@ -42,19 +43,28 @@ fn was_refused(end: PathEnd) -> bool {
 }
 
 // Carries a halted path to the new net and plays it to its end: no path is halted after the most steps.
-fn change(old: Net, new: Net, pairs: &[u64], path: Halted, instants: &[f64], table: &mut [f64]) {
+fn change(
+    rt: &HostRuntime,
+    old: Net,
+    new: Net,
+    pairs: &[u64],
+    path: Halted,
+    instants: &[f64],
+    table: &mut [f64],
+) {
     let places = old.places;
     let n = instants.len();
     let r = ssa::carry(old, new, pairs, path, instants, MOST_STEPS, table);
-    shown::write_path(r);
+    shown::write_path(rt, r);
     let end = r.end;
     if !was_refused(end) {
-        shown::write_rows(places, n, table);
+        shown::write_rows(rt, places, n, table);
     }
 }
 
 // The same to the net of a text.
 fn change_to(
+    rt: &HostRuntime,
     old: Net,
     new: &[u8],
     pairs: &[u64],
@@ -65,13 +75,14 @@ fn change_to(
     let read = net_text::read_net(new);
     let judged = read.judged;
     match judged {
-        Judged::Refused(c, line) => write_refused(c, line),
-        Judged::Given => change(old, read.net, pairs, path, instants, table),
+        Judged::Refused(c, line) => write_refused(rt, c, line),
+        Judged::Given => change(rt, old, read.net, pairs, path, instants, table),
     }
 }
 
 // The path from the seed, halted after so many steps; carried to the net of the new text if that is asked for.
 fn halt(
+    rt: &HostRuntime,
     net: Net,
     seed: u64,
     instants: &[f64],
@@ -85,24 +96,25 @@ fn halt(
     let r = ssa::path_until(net, generator, instants, MOST_STEPS, steps, &mut table);
     let end = r.end;
     let path = r.state;
-    shown::write_path(r);
+    shown::write_path(rt, r);
     if was_refused(end) {
         return;
     }
     if was_halted(end) {
-        shown::write_state(net.places, path);
+        shown::write_state(rt, net.places, path);
         if carries {
-            change_to(net, new, pairs, path, instants, &mut table);
+            change_to(rt, net, new, pairs, path, instants, &mut table);
         }
         return;
     }
     if !carries {
-        shown::write_state(net.places, path);
+        shown::write_state(rt, net.places, path);
     }
 }
 
 // The first n of the instants.
 fn halt_front(
+    rt: &HostRuntime,
     net: Net,
     seed: u64,
     instants: &[f64],
@@ -113,12 +125,13 @@ fn halt_front(
     new: &[u8],
 ) {
     if n <= instants.len() {
-        halt(net, seed, &instants[..n], steps, carries, pairs, new);
+        halt(rt, net, seed, &instants[..n], steps, carries, pairs, new);
     }
 }
 
 // The grid of the run line, of at most 1,024 samples.
 fn halt_on_grid(
+    rt: &HostRuntime,
     net: Net,
     samples: u64,
     seed: u64,
@@ -134,6 +147,7 @@ fn halt_on_grid(
     let few = samples as u32;
     request::fill_grid(few, request::interval(few, horizon), &mut grid);
     halt_front(
+        rt,
         net,
         seed,
         &grid,
@@ -145,29 +159,37 @@ fn halt_on_grid(
     );
 }
 
-fn run(net: Net, asked: RunLine, steps: u64, carries: bool, pairs: &[u64], new: &[u8]) {
+fn run(
+    rt: &HostRuntime,
+    net: Net,
+    asked: RunLine,
+    steps: u64,
+    carries: bool,
+    pairs: &[u64],
+    new: &[u8],
+) {
     let horizon = net_text::float_of(asked.horizon);
     let samples = asked.samples;
     let seed = asked.seed;
     match request::request_fault(samples, asked.realizations, seed, horizon) {
-        Verdict::Refused(c) => write_refused(c, 0),
+        Verdict::Refused(c) => write_refused(rt, c, 0),
         Verdict::Accepted => {
             if samples <= 1_024 {
-                halt_on_grid(net, samples, seed, horizon, steps, carries, pairs, new);
+                halt_on_grid(rt, net, samples, seed, horizon, steps, carries, pairs, new);
             }
         }
     }
 }
 
-fn play(old: &[u8], steps: u64, carries: bool, pairs: &[u64], new: &[u8]) {
+fn play(rt: &HostRuntime, old: &[u8], steps: u64, carries: bool, pairs: &[u64], new: &[u8]) {
     let read = net_text::read_net(old);
     let judged = read.judged;
     match judged {
-        Judged::Refused(c, line) => write_refused(c, line),
+        Judged::Refused(c, line) => write_refused(rt, c, line),
         Judged::Given => {
             let net = read.net;
             let asked = read.run;
-            run(net, asked, steps, carries, pairs, new)
+            run(rt, net, asked, steps, carries, pairs, new)
         }
     }
 }
@@ -182,14 +204,22 @@ fn cut(bytes: u64, n: usize) -> usize
     n
 }
 
-fn play_both(texts: &[u8], bytes: u64, steps: u64, carries: bool, pairs: &[u64]) {
+fn play_both(rt: &HostRuntime, texts: &[u8], bytes: u64, steps: u64, carries: bool, pairs: &[u64]) {
     let at = cut(bytes, texts.len());
-    play(&texts[..at], steps, carries, pairs, &texts[at..]);
+    play(rt, &texts[..at], steps, carries, pairs, &texts[at..]);
 }
 
-fn play_input(texts: &[u8], n: usize, bytes: u64, steps: u64, carries: bool, pairs: &[u64]) {
+fn play_input(
+    rt: &HostRuntime,
+    texts: &[u8],
+    n: usize,
+    bytes: u64,
+    steps: u64,
+    carries: bool,
+    pairs: &[u64],
+) {
     if n <= texts.len() {
-        play_both(&texts[..n], bytes, steps, carries, pairs);
+        play_both(rt, &texts[..n], bytes, steps, carries, pairs);
     }
 }
 
@@ -200,67 +230,75 @@ fn texts_room() -> [u8; 16385]
     [0; 16385]
 }
 
-fn read_and_play(bytes: u64, steps: u64, carries: bool, pairs: &[u64]) {
+fn read_and_play(rt: &HostRuntime, bytes: u64, steps: u64, carries: bool, pairs: &[u64]) {
     let mut texts = texts_room();
-    match read_input(&mut texts) {
-        Input::Read(n) => play_input(&texts, n, bytes, steps, carries, pairs),
-        Input::Failed => say(b"editionrun: standard input cannot be read\n"),
+    match read_input(rt, &mut texts) {
+        Input::Read(n) => play_input(rt, &texts, n, bytes, steps, carries, pairs),
+        Input::Failed => say(rt, b"editionrun: standard input cannot be read\n"),
     }
 }
 
-fn number_argument(i: usize) -> Number {
+// Is there such an argument? It may be longer than the room.
+fn is_given(rt: &HostRuntime, i: usize) -> bool {
+    let mut room = [0u8; 1];
+    match rt.arg(i, &mut room) {
+        Err(FillError::NotPresent) => false,
+        _ => true,
+    }
+}
+
+fn number_argument(rt: &HostRuntime, i: usize) -> Number {
     let mut digits = [0u8; 20];
-    let n = os::arg(i, &mut digits);
+    let n = rt.arg(i, &mut digits).unwrap_or(0);
     number_of(&digits[..n])
 }
 
-fn usage() {
+fn usage(rt: &HostRuntime) {
     say(
+        rt,
         b"usage: editionrun STEPS <NET, or editionrun STEPS PAIRS LENGTH <OLD-then-NEW, PAIRS as 3:0,5:1 or -, of at most 1,024 bytes\n",
     );
 }
 
 // The first n words are the list.
-fn carry_by(bytes: u64, steps: u64, words: &[u64], n: usize) {
+fn carry_by(rt: &HostRuntime, bytes: u64, steps: u64, words: &[u64], n: usize) {
     if n <= words.len() {
-        read_and_play(bytes, steps, true, &words[..n]);
+        read_and_play(rt, bytes, steps, true, &words[..n]);
     }
 }
 
-fn carry_all(bytes: u64, steps: u64, words: &[u64; 130], n: usize) {
-    carry_by(bytes, steps, words, n);
+fn carry_all(rt: &HostRuntime, bytes: u64, steps: u64, words: &[u64; 130], n: usize) {
+    carry_by(rt, bytes, steps, words, n);
 }
 
-fn carry_on(steps: u64) {
+fn carry_on(rt: &HostRuntime, steps: u64) {
     let mut list = [0u8; 1024];
-    let n = os::arg(2, &mut list);
-    if os::errno() != 0 {
-        usage();
+    let Ok(n) = rt.arg(2, &mut list) else {
+        usage(rt);
         return;
-    }
+    };
     let mut words = [0u64; 130];
     let listed = list::list_of(&list[..n], &mut words);
-    let bytes = number_argument(3);
+    let bytes = number_argument(rt, 3);
     if listed.fits && bytes.fits {
-        carry_all(bytes.value, steps, &words, listed.words);
+        carry_all(rt, bytes.value, steps, &words, listed.words);
     } else {
-        usage();
+        usage(rt);
     }
 }
 
-fn main() {
-    let given = os::arg_count();
-    let steps = number_argument(1);
+fn main(rt: HostRuntime) {
+    let steps = number_argument(&rt, 1);
     if !steps.fits {
-        usage();
+        usage(&rt);
         return;
     }
-    if given == 2 {
+    if !is_given(&rt, 2) {
         let none = [0u64; 0];
-        read_and_play(u64::MAX, steps.value, false, &none);
-    } else if given == 4 {
-        carry_on(steps.value);
+        read_and_play(&rt, u64::MAX, steps.value, false, &none);
+    } else if is_given(&rt, 3) && !is_given(&rt, 4) {
+        carry_on(&rt, steps.value);
     } else {
-        usage();
+        usage(&rt);
     }
 }

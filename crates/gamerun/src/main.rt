@@ -7,39 +7,40 @@
 ghost use Rattle.std.specs.Prelude.{◌+◌, ◌<◌, ◌≤◌, length};
 
 use game::{First, GameAnswer};
-use libc::STDIN_FILENO;
 use net::Net;
 use net_io::arguments::{Number, number_of};
 use net_io::{say, write, write_number, write_refused};
 use net_text::Judged;
+use std::env::Env;
+use std::io::Read;
 
-fn write_first(first: First) {
+fn write_first(rt: &HostRuntime, first: First) {
     match first {
-        First::Never => write(b"(game no "),
-        First::Already => write(b"(game already "),
-        First::Passes => write(b"(game pass "),
+        First::Never => write(rt, b"(game no "),
+        First::Already => write(rt, b"(game already "),
+        First::Passes => write(rt, b"(game pass "),
         First::Fires(j) => {
-            write(b"(game fires ");
-            write_number(j as u64);
-            write(b" ");
+            write(rt, b"(game fires ");
+            write_number(rt, j as u64);
+            write(rt, b" ");
         }
     }
 }
 
-fn write_answer(answer: GameAnswer) {
+fn write_answer(rt: &HostRuntime, answer: GameAnswer) {
     match answer {
-        GameAnswer::Refused(c) => write_refused(c, 0),
+        GameAnswer::Refused(c) => write_refused(rt, c, 0),
         GameAnswer::Answered(first, examined) => {
-            write_first(first);
-            write_number(examined);
-            write(b")\n");
+            write_first(rt, first);
+            write_number(rt, examined);
+            write(rt, b")\n");
         }
     }
 }
 
-fn number_argument(i: usize) -> Number {
+fn number_argument(rt: &HostRuntime, i: usize) -> Number {
     let mut digits = [0u8; 20];
-    let n = os::arg(i, &mut digits);
+    let n = rt.arg(i, &mut digits).unwrap_or(0);
     number_of(&digits[..n])
 }
 
@@ -112,61 +113,100 @@ fn read_sides(letters: &[u8; 65], sides: &mut [u64; 65]) {
 }
 
 // The game with the first n of the sides.
-fn play(net: Net, n: usize, sides: &[u64], place: usize, count: u64, turns: u64) {
+fn play(rt: &HostRuntime, net: Net, n: usize, sides: &[u64], place: usize, count: u64, turns: u64) {
     if n <= sides.len() {
-        write_answer(game::game(net, &sides[..n], place, count, turns));
+        write_answer(rt, game::game(net, &sides[..n], place, count, turns));
     }
 }
 
-fn play_all(net: Net, n: usize, sides: &[u64; 65], place: usize, count: u64, turns: u64) {
-    play(net, n, sides, place, count, turns);
+fn play_all(
+    rt: &HostRuntime,
+    net: Net,
+    n: usize,
+    sides: &[u64; 65],
+    place: usize,
+    count: u64,
+    turns: u64,
+) {
+    play(rt, net, n, sides, place, count, turns);
 }
 
-fn search(net: Net, n: usize, letters: &[u8; 65], name: &[u8], count: u64, turns: u64) {
+fn search(
+    rt: &HostRuntime,
+    net: Net,
+    n: usize,
+    letters: &[u8; 65],
+    name: &[u8],
+    count: u64,
+    turns: u64,
+) {
     let mut sides = [0u64; 65];
     read_sides(letters, &mut sides);
     let place = place_of(net.places, &net.label, &net.lengths, name);
-    play_all(net, n, &sides, place, count, turns);
+    play_all(rt, net, n, &sides, place, count, turns);
+}
+
+// Reads standard input until it ends, the text is full or a read fails.
+fn read_full(rt: &HostRuntime, text: &mut [u8]) -> usize
+    ensures { result ≤ length text.new }
+{
+    let mut stdin = rt.stdin();
+    let mut n = 0;
+    while n < text.len() {
+        let Ok(more) = stdin.read(&mut text[n..]) else {
+            return n;
+        };
+        if more == 0 {
+            return n;
+        }
+        n += more;
+    }
+    n
 }
 
 // Reads the net and asks. A text of more than 8,192 bytes is too long, and known by one byte more.
-fn read_and_search(n: usize, letters: &[u8; 65], name: &[u8], count: u64, turns: u64) {
+fn read_and_search(
+    rt: &HostRuntime,
+    n: usize,
+    letters: &[u8; 65],
+    name: &[u8],
+    count: u64,
+    turns: u64,
+) {
     let mut text = [0u8; 8193];
-    let t = io::read_full(STDIN_FILENO, &mut text);
+    let t = read_full(rt, &mut text);
     let r = net_text::read_net(&text[..t]);
     let judged = r.judged;
     match judged {
-        Judged::Refused(c, line) => write_refused(c, line),
-        Judged::Given => search(r.net, n, letters, name, count, turns),
+        Judged::Refused(c, line) => write_refused(rt, c, line),
+        Judged::Given => search(rt, r.net, n, letters, name, count, turns),
     }
 }
 
-fn usage() {
-    say(b"usage: gamerun SIDES PLACE COUNT TURNS <NET\n");
+fn usage(rt: &HostRuntime) {
+    say(rt, b"usage: gamerun SIDES PLACE COUNT TURNS <NET\n");
 }
 
-fn main() {
+fn main(rt: HostRuntime) {
     let mut letters = [0u8; 65];
-    let n = os::arg(1, &mut letters);
-    if os::errno() != 0 {
-        usage();
+    let Ok(n) = rt.arg(1, &mut letters) else {
+        usage(&rt);
         return;
-    }
+    };
     let mut name = [0u8; 20];
-    let m = os::arg(2, &mut name);
-    if os::errno() != 0 {
-        usage();
+    let Ok(m) = rt.arg(2, &mut name) else {
+        usage(&rt);
         return;
-    }
-    let count = number_argument(3);
-    let turns = number_argument(4);
+    };
+    let count = number_argument(&rt, 3);
+    let turns = number_argument(&rt, 4);
     if !count.fits {
-        usage();
+        usage(&rt);
         return;
     }
     if !turns.fits {
-        usage();
+        usage(&rt);
         return;
     }
-    read_and_search(n, &letters, &name[..m], count.value, turns.value);
+    read_and_search(&rt, n, &letters, &name[..m], count.value, turns.value);
 }

@@ -13,20 +13,20 @@ fn output_room() -> [u8; pathrun_text::LONGEST]
     [0; pathrun_text::LONGEST]
 }
 
-fn play_front(text: &[u8], n: usize) {
+fn play_front(rt: &HostRuntime, text: &[u8], n: usize) {
     if n <= text.len() {
         let mut out = output_room();
         let written = pathrun_text::played(&text[..n], &mut out);
-        if !write_front(&out, written) {
-            say(b"pathrun: standard output cannot be written\n");
+        if !write_front(rt, &out, written) {
+            say(rt, b"pathrun: standard output cannot be written\n");
         }
     }
 }
 
-fn main() {
+fn main(rt: HostRuntime) {
     let mut text = text_room();
-    match read_input(&mut text) {
-        Input::Read(n) => play_front(&text, n),
-        Input::Failed => say(b"pathrun: standard input cannot be read\n"),
+    match read_input(&rt, &mut text) {
+        Input::Read(n) => play_front(&rt, &text, n),
+        Input::Failed => say(&rt, b"pathrun: standard input cannot be read\n"),
     }
 }

@@ -4,8 +4,8 @@
 
 ghost use Rattle.std.specs.Prelude.{◌≡◌, length};
 
-use libc::{STDERR_FILENO, STDOUT_FILENO};
 use soak::Answer;
+use std::env::{Env, FillError};
 
 // A decimal of at most 64 bits, or no such number.
 #[derive(Clone, Copy)]
@@ -48,9 +48,18 @@ fn number_of(digits: &[u8]) -> Number {
     Number::Is(v)
 }
 
-fn argument(i: usize) -> Number {
+// Is there such an argument? It may be longer than the room.
+fn is_given(rt: &HostRuntime, i: usize) -> bool {
+    let mut room = [0u8; 1];
+    match rt.arg(i, &mut room) {
+        Err(FillError::NotPresent) => false,
+        _ => true,
+    }
+}
+
+fn argument(rt: &HostRuntime, i: usize) -> Number {
     let mut room = [0u8; 32];
-    let n = os::arg(i, &mut room);
+    let n = rt.arg(i, &mut room).unwrap_or(0);
     number_of(&room[..n])
 }
 
@@ -61,59 +70,60 @@ fn text_room() -> [u8; soak::LONGEST]
     [0; soak::LONGEST]
 }
 
-fn say(words: &[u8]) {
-    io::write_all(STDERR_FILENO, words);
+fn say(rt: &HostRuntime, words: &[u8]) {
+    let _ = rt.stderr().write_all(words);
 }
 
-fn say_usage() {
+fn say_usage(rt: &HostRuntime) {
     say(
+        rt,
         b"usage: soak_text SEED PLACES TRANSITIONS, a seed below 2^64, 1 to 32 places and 1 to 16 transitions, as decimals\n",
     );
 }
 
-fn write_front(out: &[u8], n: usize) {
+fn write_front(rt: &HostRuntime, out: &[u8], n: usize) {
     if n <= out.len() {
-        if !io::write_all(STDOUT_FILENO, &out[..n]) {
-            say(b"soak_text: standard output cannot be written\n");
+        if rt.write_all(&out[..n]).is_err() {
+            say(rt, b"soak_text: standard output cannot be written\n");
         }
     }
 }
 
-fn refuse(number: u64) {
-    say(b"soak_text: refused by ");
-    io::print_decimal(STDERR_FILENO, number);
-    say(b"\n");
-    say_usage();
+fn refuse(rt: &HostRuntime, number: u64) {
+    say(rt, b"soak_text: refused by ");
+    let _ = rt.eprint(number);
+    say(rt, b"\n");
+    say_usage(rt);
 }
 
-fn print(seed: u64, places: u64, transitions: u64) {
+fn print(rt: &HostRuntime, seed: u64, places: u64, transitions: u64) {
     let mut out = text_room();
     match soak::soak(seed, places, transitions, &mut out) {
-        Answer::Text(n) => write_front(&out, n),
-        Answer::Refused(c) => refuse(c),
+        Answer::Text(n) => write_front(rt, &out, n),
+        Answer::Refused(c) => refuse(rt, c),
     }
 }
 
-fn main() {
-    if os::arg_count() != 4 {
-        say(b"soak_text: not three arguments\n");
-        say_usage();
+fn main(rt: HostRuntime) {
+    if !is_given(&rt, 3) || is_given(&rt, 4) {
+        say(&rt, b"soak_text: not three arguments\n");
+        say_usage(&rt);
         return;
     }
-    let Number::Is(seed) = argument(1) else {
-        say(b"soak_text: SEED is not a decimal below 2^64\n");
-        say_usage();
+    let Number::Is(seed) = argument(&rt, 1) else {
+        say(&rt, b"soak_text: SEED is not a decimal below 2^64\n");
+        say_usage(&rt);
         return;
     };
-    let Number::Is(places) = argument(2) else {
-        say(b"soak_text: PLACES is not a decimal below 2^64\n");
-        say_usage();
+    let Number::Is(places) = argument(&rt, 2) else {
+        say(&rt, b"soak_text: PLACES is not a decimal below 2^64\n");
+        say_usage(&rt);
         return;
     };
-    let Number::Is(transitions) = argument(3) else {
-        say(b"soak_text: TRANSITIONS is not a decimal below 2^64\n");
-        say_usage();
+    let Number::Is(transitions) = argument(&rt, 3) else {
+        say(&rt, b"soak_text: TRANSITIONS is not a decimal below 2^64\n");
+        say_usage(&rt);
         return;
     };
-    print(seed, places, transitions);
+    print(&rt, seed, places, transitions);
 }

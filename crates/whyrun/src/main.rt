@@ -8,50 +8,50 @@ use net_text::Judged;
 use reason::ReasonAnswer;
 use text::Written;
 
-fn show(out: &[u8], n: usize) {
-    if !write_front(out, n) {
-        say(b"whyrun: standard output cannot be written\n");
+fn show(rt: &HostRuntime, out: &[u8], n: usize) {
+    if !write_front(rt, out, n) {
+        say(rt, b"whyrun: standard output cannot be written\n");
     }
 }
 
-fn show_refused(number: u64, line: u64) {
+fn show_refused(rt: &HostRuntime, number: u64, line: u64) {
     let mut out = [0u8; 64];
     match result_text::refused_line(&mut out, 0, number, line) {
-        Written::Next(n) => show(&out, n),
+        Written::Next(n) => show(rt, &out, n),
         Written::Short => {}
     }
 }
 
-fn show_reason(net: net::Net) {
+fn show_reason(rt: &HostRuntime, net: net::Net) {
     let mut out = [0u8; 2080];
     match reason::reason(net, &mut out) {
         ReasonAnswer::Length(n) => {
-            show(&out, n);
-            show(b"\n", 1);
+            show(rt, &out, n);
+            show(rt, b"\n", 1);
         }
-        ReasonAnswer::TurnedDown(number) => show_refused(number, 0),
+        ReasonAnswer::TurnedDown(number) => show_refused(rt, number, 0),
     }
 }
 
-fn ask(text: &[u8]) {
+fn ask(rt: &HostRuntime, text: &[u8]) {
     let read = net_text::read_net(text);
     let judged = read.judged;
     match judged {
-        Judged::Refused(number, line) => show_refused(number, line),
-        Judged::Given => show_reason(read.net),
+        Judged::Refused(number, line) => show_refused(rt, number, line),
+        Judged::Given => show_reason(rt, read.net),
     }
 }
 
-fn ask_front(text: &[u8], n: usize) {
+fn ask_front(rt: &HostRuntime, text: &[u8], n: usize) {
     if n <= text.len() {
-        ask(&text[..n]);
+        ask(rt, &text[..n]);
     }
 }
 
-fn main() {
+fn main(rt: HostRuntime) {
     let mut text = text_room();
-    match read_input(&mut text) {
-        Input::Read(n) => ask_front(&text, n),
-        Input::Failed => say(b"whyrun: standard input cannot be read\n"),
+    match read_input(&rt, &mut text) {
+        Input::Read(n) => ask_front(&rt, &text, n),
+        Input::Failed => say(&rt, b"whyrun: standard input cannot be read\n"),
     }
 }
