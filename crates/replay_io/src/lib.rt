@@ -1,4 +1,4 @@
-// What the programs that replay recorded cases share: reading numbers and nets, writing numbers and cells. Standard input is a row of numbers, each 16
+// What the programs that replay recorded cases share: reading numbers and nets, writing numbers and cells. The input is a row of numbers, each 16
 // hexadecimal digits and a newline. A net is its places and transitions; for each place its initial count and capacity, its label's length, and the
 // label's sixteen bytes as two numbers, the first byte highest; for each transition its rate and delay, by their bits, its number of arcs, and the kind,
 // place and weight of each. No more is read than a net has room for.
@@ -7,9 +7,9 @@
 ghost use Rattle.std.specs.Prelude.{◌≡◌, false, ◌+◌, ◌*◌, ◌≤◌, ltb};
 ghost use Rattle.net.specs.Net.{pick};
 
-use libc::{STDIN_FILENO, STDOUT_FILENO};
 use net::Net;
 use net_text::float_of;
+use std::io::{self, Read};
 
 // A number of the input, or that there is none left.
 #[derive(Clone, Copy)]
@@ -39,12 +39,25 @@ fn word(text: &[u8; 17]) -> u64 {
     n
 }
 
+// Reads until the bytes are full, the input ends or a read fails; how many were read.
+fn read_full(input: &mut impl Read, text: &mut [u8]) -> usize {
+    let mut done = 0usize;
+    while done < text.len() {
+        let n = input.read(&mut text[done..]).unwrap_or(0);
+        if n == 0 {
+            return done;
+        }
+        done += n;
+    }
+    done
+}
+
 // What is read no rule says; where no number is left the value is 0.
-pub fn next_number() -> Found
+pub fn next_number(input: &mut impl Read) -> Found
     ensures { result.there ≡ false → result.value ≡ 0 }
 {
     let mut text = [0u8; 17];
-    let n = io::read_full(STDIN_FILENO, &mut text);
+    let n = read_full(input, &mut text);
     if n < 17 {
         return Found {
             there: false,
@@ -58,13 +71,13 @@ pub fn next_number() -> Found
 }
 
 // The next number, 0 where there is none.
-pub fn number() -> u64 {
-    let n = next_number();
+pub fn number(input: &mut impl Read) -> u64 {
+    let n = next_number(input);
     n.value
 }
 
-pub fn size() -> usize {
-    number() as usize
+pub fn size(input: &mut impl Read) -> usize {
+    number(input) as usize
 }
 
 // The eight bytes of a number from byte `from` on, the highest first.
@@ -79,6 +92,7 @@ fn put_bytes(n: u64, from: usize, label: &mut [u8; 512])
 }
 
 fn read_places(
+    input: &mut impl Read,
     n: usize,
     initial: &mut [u64; 32],
     capacity: &mut [u64; 32],
@@ -87,18 +101,19 @@ fn read_places(
 ) {
     for p in 0..32usize {
         if p < n {
-            initial[p] = number();
-            capacity[p] = number();
-            lengths[p] = size();
+            initial[p] = number(input);
+            capacity[p] = number(input);
+            lengths[p] = size(input);
             let from = 16 * p;
-            put_bytes(number(), from, label);
-            put_bytes(number(), from + 8, label);
+            put_bytes(number(input), from, label);
+            put_bytes(number(input), from + 8, label);
         }
     }
 }
 
 // Reads the arcs of the transition whose slots begin at `from`.
 fn read_arcs(
+    input: &mut impl Read,
     n: usize,
     from: usize,
     kind: &mut [u64; 1024],
@@ -110,14 +125,15 @@ fn read_arcs(
     for i in 0..16usize {
         if i < n {
             let slot = from + i;
-            kind[slot] = number();
-            place[slot] = size();
-            weight[slot] = number();
+            kind[slot] = number(input);
+            place[slot] = size(input);
+            weight[slot] = number(input);
         }
     }
 }
 
 fn read_transitions(
+    input: &mut impl Read,
     n: usize,
     rate: &mut [f64; 64],
     delay: &mut [f64; 64],
@@ -128,20 +144,20 @@ fn read_transitions(
 ) {
     for j in 0..64usize {
         if j < n {
-            rate[j] = float_of(number());
-            delay[j] = float_of(number());
-            let count = size();
+            rate[j] = float_of(number(input));
+            delay[j] = float_of(number(input));
+            let count = size(input);
             arcs[j] = count;
-            read_arcs(count, 16 * j, kind, place, weight);
+            read_arcs(input, count, 16 * j, kind, place, weight);
         }
     }
 }
 
 // The net of so many places; all else is as the input has it.
-pub fn read_net(places: usize) -> Net
+pub fn read_net(input: &mut impl Read, places: usize) -> Net
     ensures { result.places ≡ places }
 {
-    let transitions = size();
+    let transitions = size(input);
     let mut initial = [0u64; 32];
     let mut capacity = [0u64; 32];
     let mut label = [0u8; 512];
@@ -153,6 +169,7 @@ pub fn read_net(places: usize) -> Net
     let mut place = [0usize; 1024];
     let mut weight = [0u64; 1024];
     read_places(
+        input,
         places,
         &mut initial,
         &mut capacity,
@@ -160,6 +177,7 @@ pub fn read_net(places: usize) -> Net
         &mut lengths,
     );
     read_transitions(
+        input,
         transitions,
         &mut rate,
         &mut delay,
@@ -184,36 +202,35 @@ pub fn read_net(places: usize) -> Net
     }
 }
 
-pub fn write(text: &[u8]) {
-    io::write_all(STDOUT_FILENO, text);
+pub fn write(rt: &impl Print, text: &[u8]) -> io::Result<()> {
+    rt.write_all(text)
 }
 
-pub fn write_number(n: u64) {
-    write(b" ");
-    io::print_decimal(STDOUT_FILENO, n);
+pub fn write_number(rt: &impl Print, n: u64) -> io::Result<()> {
+    print!(rt; " {n}")
 }
 
-pub fn write_word(n: u64) {
-    write(b" ");
-    io::print_hex(STDOUT_FILENO, n, 16);
+pub fn write_word(rt: &impl Print, n: u64) -> io::Result<()> {
+    print!(rt; " {n:016x}")
 }
 
 // A float by its bits, any NaN as nan.
-pub fn write_float(x: f64) {
+pub fn write_float(rt: &impl Print, x: f64) -> io::Result<()> {
     if x != x {
-        write(b" nan");
+        write(rt, b" nan")
     } else {
-        write_word(f64::to_bits(x));
+        write_word(rt, f64::to_bits(x))
     }
 }
 
 // The first n cells, at most 2,048, by their bits.
-pub fn write_cells(n: usize, table: &[f64; 2048]) {
+pub fn write_cells(rt: &impl Print, n: usize, table: &[f64; 2048]) -> io::Result<()> {
     for i in 0..2048usize {
         if i < n {
-            write_float(table[i]);
+            write_float(rt, table[i])?;
         }
     }
+    Ok(())
 }
 
 // How many are the cells of an answer and the one behind them; 0 where there cannot be so many.

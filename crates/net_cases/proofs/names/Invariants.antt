@@ -1,5 +1,4 @@
 -- `net_cases::names` is safe and ends: it writes three bytes for each of 32 places. Assumes nothing.
-use borrow.Author.Rules.{rules}
 use Prim.Native.Nat.{◌-◌, ◌≤◌}
 use Rattle.net_cases.proofs.names.Given as goal
 

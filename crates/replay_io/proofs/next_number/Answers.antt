@@ -5,4 +5,4 @@ use lib.Dec.{T}
 use Rattle.replay_io.proofs.next_number.Goals as goal
 
 pub returns : goal.returns
-returns c = λ e. absurd (subst T e tt)
+returns g c = λ e. absurd (subst T e tt)
