@@ -38,11 +38,11 @@ build_oracle() {
 # build_program NAME: proves and builds target/bin/NAME, where it has changed since. The program is run once, on nothing.
 build_program() {
     local made=$top/crates/$1/out/$1
-    (cd "$top/crates/$1" && rt run </dev/null) >"$work/program.log" 2>&1
-    [ -x "$made" ] && grep -q '^logic=proved' "$work/program.log" || [ -x "$made" ] && ! grep -q '^logic=not-proved\|error' "$work/program.log" || {
+    (cd "$top/crates/$1" && rt run) </dev/null >"$work/program.log" 2>&1
+    if [ ! -x "$made" ] || grep -q '^logic=not-proved' "$work/program.log"; then
         tail -n 20 "$work/program.log"
         return 1
-    }
+    fi
     mkdir -p "$top/target/bin"
     cp "$made" "$top/target/bin/$1"
 }
