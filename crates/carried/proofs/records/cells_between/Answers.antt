@@ -1,8 +1,7 @@
 -- What is left to test of the cells, from cell c on, is the whole test. A cell that does not fit ends it.
-use Rattle.std.proofs.Common.{◌≡◌, ◌-◌, Bool, not, take, drop, sym, refl, ap, ◌∙◌, arith, rules}
+use Rattle.std.proofs.Common.{Bool, not, sym, refl, ap, ◌∙◌, arith}
 use lib.Ieee.{Float, nan}
 use Rattle.rules.specs.Change.{cell_fits}
-use Rattle.carried.specs.Records.{some_strange}
 use Rattle.carried.proofs.Rest.{part_next, part_none, none_stop, none_go, none_end}
 use Rattle.carried.proofs.records.cells_between.Goals as goal
 

@@ -1,9 +1,6 @@
 -- What is left to test of the cells, from cell c on, is the whole test. A cell that does not fit ends it.
-use Rattle.std.proofs.Common.{◌≡◌, ◌-◌, Bool, not, take, drop, sym, refl, ap, ◌∙◌, arith, rules}
-use lib.Ieee.{Float, nan}
-use Rattle.rules.specs.Change.{cell_fits}
+use Rattle.std.proofs.Common.{◌≡◌, ◌-◌, take, drop}
 use Rattle.carried.specs.Records.{some_strange}
-use Rattle.carried.proofs.Rest.{part_next, part_none, none_stop, none_go, none_end}
 use Rattle.carried.proofs.records.cells_between.Given as goal
 
 abbrev pub invariant-loop-c : goal.invariant-loop-c

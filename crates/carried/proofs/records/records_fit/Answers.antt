@@ -1,7 +1,7 @@
 -- More recorded than there are is a no. Else what is left to test of the instants, from instant i on, is the test of all that are not recorded.
-use Rattle.std.proofs.Common.{◌≡◌, ℕ, ◌-◌, ◌≤◌, Bool, not, ◌&&◌, leb, List, length, drop, sym, refl, ap, ◌∙◌, drop_of_length-le, rules, le-leb}
+use Rattle.std.proofs.Common.{◌≡◌, ℕ, ◌≤◌, Bool, not, ◌&&◌, leb, List, length, drop, sym, refl, ap, ◌∙◌, drop_of_length-le, le-leb}
 use borrow.Author.Tests.{lt-leb}
-use lib.Ieee.{Float, nan, le}
+use lib.Ieee.{Float, nan}
 use Rattle.net.specs.Tests.{any}
 use Rattle.carried.proofs.Rest.{rest_next, none_stop, none_go, none_end}
 use Rattle.carried.proofs.records.records_fit.Invariants.{passed}

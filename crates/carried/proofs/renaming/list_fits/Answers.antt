@@ -1,7 +1,7 @@
 -- What is left to find from pair i on, by the numbers in the two sets, is what the whole list has (proofs/Listed). Each arm that returns
 -- found it in pair i or found none, and a whole turn puts the pair's numbers into the sets. Assumes nothing.
-use Rattle.std.proofs.Common.{◌-◌, refl, arith, rules}
-use Rattle.carried.proofs.Listed.{Left, none_left, past_old, past_new, met_old, met_new, passed}
+use Rattle.std.proofs.Common.{refl, arith}
+use Rattle.carried.proofs.Listed.{none_left, past_old, past_new, met_old, met_new, passed}
 use Rattle.carried.proofs.renaming.list_fits.Goals as goal
 
 pub loop-i-init : goal.loop-i-init

@@ -1,7 +1,6 @@
 -- From the last pair to the first, the table holds the new numbers that the pairs from pair i on give (proofs/Named). A number past the table
 -- is nobody's in it. Assumes nothing.
-use Rattle.std.proofs.Common.{◌≡◌, ◌*◌, ◌/◌, ◌≤◌, length, drop, arith, rules}
-use Rattle.carried.specs.Pairs.{pairs_of, Names}
+use Rattle.std.proofs.Common.{◌≡◌, arith}
 use Rattle.carried.proofs.Named.{named_start, named_in, named_out}
 use Rattle.carried.proofs.renaming.names_of.Goals as goal
 

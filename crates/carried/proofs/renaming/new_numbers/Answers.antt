@@ -1,5 +1,5 @@
 -- The numbers before number i are in their places. A store at i leaves them, and puts the next one in its place. Assumes nothing.
-use Rattle.std.proofs.Common.{◌≡◌, ℕ, ◌-◌, ◌<◌, length, get_or, refl, ◌∙◌, ne_of_lt, arith, length-set, get_or-set_other, get_or-set_same, rules, below_more}
+use Rattle.std.proofs.Common.{refl, ◌∙◌, ne_of_lt, arith, length-set, get_or-set_other, get_or-set_same, below_more}
 use Rattle.carried.proofs.renaming.new_numbers.Goals as goal
 
 pub loop-i-init : goal.loop-i-init

@@ -1,15 +1,12 @@
 -- What the test has to find from timer i on is the whole, whatever the timers' times and weights are (proofs/Rest, proofs/Waiting). It stops at the first
 -- that is amiss, or ends with none. Assumes nothing.
-use Rattle.std.proofs.Common.{◌≡◌, ℕ, ◌-◌, Bool, not, List, sym, ap, ◌∙◌, rules}
-use native.Mathlib.Nat.{sub-zero}
+use Rattle.std.proofs.Common.{◌≡◌, ℕ, ◌-◌, Bool, not, List}
 use lib.Ieee.{Float}
 use Rattle.net.specs.Tests.{any}
 use Rattle.rules.specs.Timers.{Timer}
 use Rattle.timers.specs.Turning.{from}
 use Rattle.carried.specs.Pairs.{goes_to}
 use Rattle.carried.specs.Timers.{slot, timers_in}
-use Rattle.carried.proofs.Rest.{none_stop, none_go, none_end}
-use Rattle.carried.proofs.Waiting.{from_next, from_none}
 use Rattle.carried.proofs.renaming.timers_fit.Given as goal
 
 abbrev pub amiss : List ℕ → ℕ → Timer → Bool

@@ -1,11 +1,9 @@
 -- What is left to test of the timers, from number i and the time before it on, is the whole test. A time that does not fit, or is below the one before,
 -- ends it.
-use Rattle.std.proofs.Common.{◌≡◌, ℕ, ◌-◌, List, sym, ◌∙◌, arith, rules}
-use borrow.Author.Tests.{not-true, not-false}
+use Rattle.std.proofs.Common.{sym, ◌∙◌, arith}
 use native.Mathlib.Nat.{sub-zero}
-use Rattle.timers.specs.Turning.{from}
-use Rattle.carried.specs.Timers.{slot, timers_in}
-use Rattle.carried.proofs.Waiting.{from_next, from_none, on_time, no_time, fallen, later, all_on_time}
+use Rattle.carried.specs.Timers.{slot}
+use Rattle.carried.proofs.Waiting.{from_next, from_none, no_time, fallen, later, all_on_time}
 use Rattle.carried.proofs.state.completions_fit.Goals as goal
 
 pub loop-i-init : goal.loop-i-init

@@ -1,11 +1,9 @@
 -- What is left to test of the timers, from number i and the time before it on, is the whole test. A time that does not fit, or is below the one before,
 -- ends it.
-use Rattle.std.proofs.Common.{◌≡◌, ℕ, ◌-◌, List, sym, ◌∙◌, arith, rules}
-use borrow.Author.Tests.{not-true, not-false}
-use native.Mathlib.Nat.{sub-zero}
+use Rattle.std.proofs.Common.{◌≡◌, ℕ, ◌-◌, List}
 use Rattle.timers.specs.Turning.{from}
 use Rattle.carried.specs.Timers.{slot, timers_in}
-use Rattle.carried.proofs.Waiting.{from_next, from_none, on_time, no_time, fallen, later, all_on_time}
+use Rattle.carried.proofs.Waiting.{on_time}
 use Rattle.carried.proofs.state.completions_fit.Given as goal
 
 abbrev pub invariant-loop-i : goal.invariant-loop-i

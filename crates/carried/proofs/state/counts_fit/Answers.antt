@@ -1,5 +1,5 @@
 -- What is left to test of the counts, from place p on, is the whole test. Seen as a slice the array is 32 long.
-use Rattle.std.proofs.Common.{◌≡◌, ◌-◌, length, take, drop, sym, ap, ◌∙◌, arith, rules, le-leb}
+use Rattle.std.proofs.Common.{◌≡◌, length, sym, ap, ◌∙◌, arith, rules, le-leb}
 use native.Mathlib.Nat.{sub-zero}
 use borrow.Author.Tests.{lt-leb}
 use Rattle.rules.specs.Step.{counts_fit}

@@ -1,10 +1,6 @@
 -- What is left to test of the counts, from place p on, is the whole test. Seen as a slice the array is 32 long.
-use Rattle.std.proofs.Common.{◌≡◌, ◌-◌, length, take, drop, sym, ap, ◌∙◌, arith, rules, le-leb}
-use native.Mathlib.Nat.{sub-zero}
-use borrow.Author.Tests.{lt-leb}
+use Rattle.std.proofs.Common.{◌≡◌, ◌-◌, take, drop}
 use Rattle.rules.specs.Step.{counts_fit}
-use Rattle.engine.proofs.Arcs.{and_stop, and_go}
-use Rattle.carried.proofs.Rest.{part_next, part_none}
 use Rattle.carried.proofs.state.counts_fit.Given as goal
 
 abbrev pub invariant-loop-p : goal.invariant-loop-p

@@ -1,6 +1,5 @@
 -- Each refusal is the definition's by the test that gives it. The last answer is given where no other test was met, so that the weights decide.
 use Rattle.std.proofs.Common.{ℕ, List, take, sym, ◌∙◌, arith, rules}
-use borrow.Author.Tests.{not-true, not-false}
 use lib.Ieee.{Float}
 use Rattle.net.specs.Net.{Marking}
 use Rattle.rng.specs.State.{State as Generator}

@@ -1,13 +1,10 @@
 -- What is left to test of the timers, from number i on, is the whole test. A timer that took too much ends it.
-use Rattle.std.proofs.Common.{◌≡◌, ℕ, ◌-◌, Bool, ltb, List, arith, rules, le-ltb, lt-ltb}
-use native.Mathlib.Nat.{sub-zero}
+use Rattle.std.proofs.Common.{◌≡◌, ℕ, ◌-◌, Bool, ltb, List}
 use lib.Ieee.{Float}
 use Rattle.net.specs.Tests.{any}
 use Rattle.rules.specs.Timers.{Timer}
 use Rattle.timers.specs.Turning.{from}
 use Rattle.carried.specs.Timers.{slot, timers_in}
-use Rattle.carried.proofs.Rest.{none_stop, none_go, none_end}
-use Rattle.carried.proofs.Waiting.{from_next, from_none}
 use Rattle.carried.proofs.state.weights_fit.Given as goal
 
 abbrev pub heavy : Timer → Bool
