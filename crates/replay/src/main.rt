@@ -6,74 +6,74 @@
 ghost use Rattle.std.specs.Prelude.{◌≤◌};
 
 use combinations::{RealWays, Ways};
-use libc::{STDIN_FILENO, STDOUT_FILENO};
 use net_text::float_of;
 use rng::Xoshiro256;
+use std::io::{self, BufReader, Read};
 
-fn end() {
-    io::write_all(STDOUT_FILENO, b"\n");
+fn end(rt: &impl Print) -> io::Result<()> {
+    rt.write_all(b"\n")
 }
 
-fn space() {
-    io::write_all(STDOUT_FILENO, b" ");
+fn space(rt: &impl Print) -> io::Result<()> {
+    rt.write_all(b" ")
 }
 
-fn print_word(n: u64) {
-    io::print_hex(STDOUT_FILENO, n, 16);
+fn print_word(rt: &impl Print, n: u64) -> io::Result<()> {
+    print!(rt; "{n:016x}")
 }
 
-fn print_float(x: f64) {
+fn print_float(rt: &impl Print, x: f64) -> io::Result<()> {
     if x != x {
-        io::write_all(STDOUT_FILENO, b"nan");
+        rt.write_all(b"nan")
     } else {
-        print_word(f64::to_bits(x));
+        print_word(rt, f64::to_bits(x))
     }
 }
 
-fn word_line(n: u64) {
-    print_word(n);
-    end();
+fn word_line(rt: &impl Print, n: u64) -> io::Result<()> {
+    print_word(rt, n)?;
+    end(rt)
 }
 
-fn float_line(x: f64) {
-    print_float(x);
-    end();
+fn float_line(rt: &impl Print, x: f64) -> io::Result<()> {
+    print_float(rt, x)?;
+    end(rt)
 }
 
-fn state_line(s: [u64; 4]) {
-    print_word(s[0]);
-    space();
-    print_word(s[1]);
-    space();
-    print_word(s[2]);
-    space();
-    word_line(s[3]);
+fn state_line(rt: &impl Print, s: [u64; 4]) -> io::Result<()> {
+    print_word(rt, s[0])?;
+    space(rt)?;
+    print_word(rt, s[1])?;
+    space(rt)?;
+    print_word(rt, s[2])?;
+    space(rt)?;
+    word_line(rt, s[3])
 }
 
-fn refused_line() {
-    io::write_all(STDOUT_FILENO, b"refused\n");
+fn refused_line(rt: &impl Print) -> io::Result<()> {
+    rt.write_all(b"refused\n")
 }
 
-fn ways_line(w: Ways) {
+fn ways_line(rt: &impl Print, w: Ways) -> io::Result<()> {
     match w {
-        Ways::Value(x, _) => float_line(x),
-        Ways::Refused => refused_line(),
+        Ways::Value(x, _) => float_line(rt, x),
+        Ways::Refused => refused_line(rt),
     }
 }
 
-fn real_ways_line(w: RealWays) {
+fn real_ways_line(rt: &impl Print, w: RealWays) -> io::Result<()> {
     match w {
-        RealWays::Value(x) => float_line(x),
-        RealWays::Refused => refused_line(),
+        RealWays::Value(x) => float_line(rt, x),
+        RealWays::Refused => refused_line(rt),
     }
 }
 
 // The exponent is written as a float too.
-fn parts_line(x: f64) {
+fn parts_line(rt: &impl Print, x: f64) -> io::Result<()> {
     let p = portable_log::frexp(x);
-    print_float(p.frac);
-    space();
-    float_line(p.exp as f64);
+    print_float(rt, p.frac)?;
+    space(rt)?;
+    float_line(rt, p.exp as f64)
 }
 
 fn digit(b: u8) -> u64 {
@@ -104,58 +104,73 @@ fn signed(n: u64) -> i64 {
     (n % 0x8000_0000_0000_0000) as i64 - 0x4000_0000_0000_0000
 }
 
-fn output(state: &mut [u64; 4]) {
+fn output(rt: &impl Print, state: &mut [u64; 4]) -> io::Result<()> {
     let drawn = Xoshiro256::from_state(*state).next_u64();
     let rng = drawn.rng;
     *state = rng.state();
-    word_line(drawn.value);
+    word_line(rt, drawn.value)
 }
 
-fn uniform(state: &mut [u64; 4]) {
+fn uniform(rt: &impl Print, state: &mut [u64; 4]) -> io::Result<()> {
     let drawn = Xoshiro256::from_state(*state).uniform();
     let rng = drawn.rng;
     *state = rng.state();
-    float_line(drawn.value);
+    float_line(rt, drawn.value)
 }
 
-fn answer(letter: u8, a: u64, b: u64, state: &mut [u64; 4]) {
+fn answer(rt: &impl Print, letter: u8, a: u64, b: u64, state: &mut [u64; 4]) -> io::Result<()> {
     match letter {
-        b'm' => word_line(words::wrapping_mul(a, b)),
-        b'r' => word_line(words::rotate_left(a, (b % 0x1_0000_0000) as u32)),
+        b'm' => word_line(rt, words::wrapping_mul(a, b)),
+        b'r' => word_line(rt, words::rotate_left(a, (b % 0x1_0000_0000) as u32)),
         b's' => {
             *state = rng::splitmix64(a);
-            state_line(*state);
+            state_line(rt, *state)
         }
         b't' => {
             *state = [a, b, state[0], state[1]];
-            state_line(*state);
+            state_line(rt, *state)
         }
-        b'n' => output(state),
-        b'u' => uniform(state),
-        b'f' => parts_line(float_of(a)),
-        b'l' => float_line(portable_log::plog(float_of(a))),
-        b'q' => float_line(root::sqrt(float_of(a))),
-        b'c' => ways_line(combinations::combinations(signed(a), signed(b))),
-        b'd' => real_ways_line(combinations::combinations_real(float_of(a), signed(b))),
-        _ => end(),
+        b'n' => output(rt, state),
+        b'u' => uniform(rt, state),
+        b'f' => parts_line(rt, float_of(a)),
+        b'l' => float_line(rt, portable_log::plog(float_of(a))),
+        b'q' => float_line(rt, root::sqrt(float_of(a))),
+        b'c' => ways_line(rt, combinations::combinations(signed(a), signed(b))),
+        b'd' => real_ways_line(rt, combinations::combinations_real(float_of(a), signed(b))),
+        _ => end(rt),
     }
+}
+
+// Reads until the bytes are full, the input ends or a read fails; how many were read.
+fn read_full(input: &mut impl Read, text: &mut [u8]) -> usize {
+    let mut done = 0usize;
+    while done < text.len() {
+        let n = input.read(&mut text[done..]).unwrap_or(0);
+        if n == 0 {
+            return done;
+        }
+        done += n;
+    }
+    done
 }
 
 // Reads a line, if there is one, and answers it.
-fn turn(state: &mut [u64; 4]) -> bool {
+fn turn(rt: &impl Print, input: &mut impl Read, state: &mut [u64; 4]) -> io::Result<bool> {
     let mut text = [0u8; 36];
-    let n = io::read_full(STDIN_FILENO, &mut text);
+    let n = read_full(input, &mut text);
     if n < 36 {
-        return false;
+        return Ok(false);
     }
-    answer(text[0], word(&text, 2), word(&text, 19), state);
-    true
+    answer(rt, text[0], word(&text, 2), word(&text, 19), state)?;
+    Ok(true)
 }
 
-fn main() {
+fn main(rt: HostRuntime) -> io::Result<()> {
+    let mut input = BufReader::new(rt.alloc(), rt.reader())?;
     let mut state = [0u64; 4];
     let mut turns = u64::MAX;
-    while turns > 0 && turn(&mut state) {
+    while turns > 0 && turn(&rt, &mut input, &mut state)? {
         turns -= 1;
     }
+    Ok(())
 }
