@@ -31,8 +31,8 @@ use Rattle.ssa.proofs.fields_carry.Tie as tie
 abbrev old_at : tie.Start → NetRecord
 old_at s =
     let a = s.args in
-    labelled a.old-places a.old-transitions a.old-initial.now a.old-capacity.now a.old-label.now a.old-lengths.now
-    a.old-rate.now a.old-delay.now a.old-arcs.now a.old-kind.now a.old-place.now a.old-weight.now
+    labelled a.old_places a.old_transitions a.old_initial.now a.old_capacity.now a.old_label.now a.old_lengths.now
+    a.old_rate.now a.old_delay.now a.old_arcs.now a.old_kind.now a.old_place.now a.old_weight.now
 
 abbrev new_at : tie.Start → NetRecord
 new_at s =
@@ -47,14 +47,14 @@ abbrev handed_at : tie.Start → Halted
 handed_at s = s.args.path
 
 abbrev path_at : tie.Start → Carried
-path_at s = let a = s.args in carried_from a.old-places (standing_of a.old-places (handed_at s)) a.instants.now a.table.now
+path_at s = let a = s.args in carried_from a.old_places (standing_of a.old_places (handed_at s)) a.instants.now a.table.now
 
 -- what the tests of the state and those of the list meet first
 abbrev stateFault : tie.Start → Option ℕ
 stateFault s =
     let a = s.args in
-    first_of (carried_tests 256 (not (table_fits a.old-places (length a.instants.now) a.table.now))
-    (record_strange a.old-places (length a.instants.now) (handed_at s).recorded a.table.now) (path_at s))
+    first_of (carried_tests 256 (not (table_fits a.old_places (length a.instants.now) a.table.now))
+    (record_strange a.old_places (length a.instants.now) (handed_at s).recorded a.table.now) (path_at s))
 
 abbrev list_fault : tie.Start → Option ℕ
 list_fault s = first_of (renaming_tests (readable (old_at s)) (readable (new_at s)) (path_at s) (pairs_at s))
@@ -102,7 +102,7 @@ plain c = sym (by_state_of c.before) ∙ ap meaning c.in_default-state_fault.is
 listed : (c : tie.In_default-list_fault) → list_fault (start4 c) ≡ none
 listed c = sym (by_words c.before) ∙ ap meaning c.in_default-list_fault.is
 
-as_many : (c : tie.In_default-list_fault) → (start4 c).args.old-places ≡ (start4 c).args.places
+as_many : (c : tie.In_default-list_fault) → (start4 c).args.old_places ≡ (start4 c).args.places
 as_many c = let s = start4 c in same_places (old_at s) (new_at s) (path_at s) (pairs_at s) (listed c)
 
 fields-fault-requires : tie.Need-fields_fault-requires
@@ -119,8 +119,8 @@ returns c =
     let f = c.before.before in
     let s = f.before.before.before.before in
     let a = s.args in
-    c.turned_down.ensures a.old-places a.table.now
-    ∙ by_old (old_at s) (new_at s) (pairs_at s) (standing_of a.old-places (handed_at s)) a.instants.now a.named a.table.now
+    c.turned_down.ensures a.old_places a.table.now
+    ∙ by_old (old_at s) (new_at s) (pairs_at s) (standing_of a.old_places (handed_at s)) a.instants.now a.named a.table.now
     (sym f.fields_fault.ensures ∙ ap meaning c.in-Refused.is)
 
 enum_told : tie.Need-enum_told-1
@@ -140,8 +140,8 @@ returns-2 c =
     let f = c.before.before in
     let s = start1 f.before in
     let a = s.args in
-    c.turned_down-in-Refused-fields_fault.ensures a.old-places a.table.now
-    ∙ by_new (old_at s) (new_at s) (pairs_at s) (standing_of a.old-places (handed_at s)) a.instants.now a.named a.table.now
+    c.turned_down-in-Refused-fields_fault.ensures a.old_places a.table.now
+    ∙ by_new (old_at s) (new_at s) (pairs_at s) (standing_of a.old_places (handed_at s)) a.instants.now a.named a.table.now
     (accepted f.before) (sym f.fields_fault-2.ensures ∙ ap meaning c.in-Refused-fields_fault.is)
 
 enum-told-2 : tie.Need-enum_told-in_default-fields_fault
@@ -165,8 +165,8 @@ returns-3 c =
     let n = new-passed f in
     let s = start2 n in
     let a = s.args in
-    c.turned_down-in-Refused-state_fault.ensures a.old-places a.table.now
-    ∙ by_state (old_at s) (new_at s) (pairs_at s) (standing_of a.old-places (handed_at s)) a.instants.now a.named a.table.now
+    c.turned_down-in-Refused-state_fault.ensures a.old_places a.table.now
+    ∙ by_state (old_at s) (new_at s) (pairs_at s) (standing_of a.old_places (handed_at s)) a.instants.now a.named a.table.now
     (accepted n.before.before.before) (accepted_new n) (sym (by_state_of f) ∙ ap meaning c.in-Refused-state_fault.is)
 
 enum-told-3 : tie.Need-enum_told-in_default-state_fault
@@ -180,7 +180,7 @@ list-fault-requires c κs =
     let a = s.args in (
       accepted_new n,
       (sound (old_at s) (accepted n.before.before.before)).transitions,
-      (carries a.old-places (handed_at s) a.instants.now a.table.now (plain p)).few,
+      (carries a.old_places (handed_at s) a.instants.now a.table.now (plain p)).few,
     )
 
 enum-known-c-4 : tie.Need-enum_known-c-in-Refused-list_fault
@@ -199,8 +199,8 @@ returns-4 c =
     let n = new-passed p.before.before in
     let s = start2 n in
     let a = s.args in
-    c.turned_down-in-Refused-list_fault.ensures a.old-places a.table.now
-    ∙ by_list (old_at s) (new_at s) (pairs_at s) (standing_of a.old-places (handed_at s)) a.instants.now a.named a.table.now
+    c.turned_down-in-Refused-list_fault.ensures a.old_places a.table.now
+    ∙ by_list (old_at s) (new_at s) (pairs_at s) (standing_of a.old_places (handed_at s)) a.instants.now a.named a.table.now
     (accepted n.before.before.before) (accepted_new n) (plain p) (sym (by_words f) ∙ ap meaning c.in-Refused-list_fault.is)
 
 enum-told-4 : tie.Need-enum_told-in_default-list_fault
@@ -232,7 +232,7 @@ returns-5 c =
     let a = s.args in
     answers_same (readable (new_at s)) (pairs_at s) (handed_at s) a.instants.now a.table.now a.named r.accepted_carry.result (as_many l)
     r.accepted_carry.ensures
-    ∙ by_run (old_at s) (new_at s) (pairs_at s) (standing_of a.old-places (handed_at s)) a.instants.now a.named a.table.now
+    ∙ by_run (old_at s) (new_at s) (pairs_at s) (standing_of a.old_places (handed_at s)) a.instants.now a.named a.table.now
     (accepted n.before.before.before) (accepted_new n) (plain p) (listed l)
 
 pub fields_carry_spec : {M : Type 1} → statement M

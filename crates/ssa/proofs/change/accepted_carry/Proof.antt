@@ -4,7 +4,7 @@ use borrow.Author.Rules.{rules}
 use mathlib.Core.Path.{◌≡◌, refl, sym, ◌∙◌}
 use mathlib.Core.List.{List, map}
 use native.Mathlib.Omega.{arith}
-use lib.ListN.{length, length-map}
+use lib.ListN.{length}
 use Rattle.net.specs.declared.Net.{Net as NetRecord}
 use Rattle.net.specs.Readable.{readable}
 use Rattle.net.specs.Record.{labelled}
@@ -35,7 +35,7 @@ pairs_at s = pairs_of s.args.pairs.now
 abbrev moved_at : tie.Start → Carried
 moved_at s =
     let a = s.args in
-    renamed (pairs_at s) (carried_from a.places (standing_of a.places a.t14) a.instants.now a.table.now)
+    renamed (pairs_at s) (carried_from a.places (standing_of a.places a.path) a.instants.now a.table.now)
 
 -- the start, from the names, from the timers in the ring, from the counts and from before the run
 abbrev start1 : tie.After-names_of-names → tie.Start
@@ -48,17 +48,17 @@ abbrev start3 : tie.After-first_counts-counts → tie.Start
 start3 c = start2 c.before.before
 
 abbrev counted : tie.After-resume-arg-1 → tie.After-first_counts-counts
-counted c = c.before.before.before.before.before.before.before.before.before.before.before
+counted c = c.before.before.before.before.before.before.before.before.before.before
 
 -- what the path brings
 brings : (s : tie.Start) → Carries s.args.places s.args.path s.args.instants.now s.args.table.now
 brings s =
     let a = s.args in
-    brought (net_at s) s.requires.0 a.places (pairs_at s) a.t14 a.instants.now a.table.now s.requires.1
+    brought (net_at s) s.requires.0 a.places (pairs_at s) a.path a.instants.now a.table.now s.requires.1
 
 -- the array of its counts is 32 long
 long : (s : tie.Start) → length s.args.path.counts ≡ 32
-long s = sym (length-map s.args.path.counts (λ v. v)) ∙ s.well_formed.1.1.1.1.1.1.1.1.1.1.1.1.1.0.1.1.1.0.1.0.1
+long s = s.well_formed.1.1.1.1.1.1.1.1.1.1.1.1.1.0.1.1.1.0.1.0.1
 
 -- its timers in the ring
 timers_are : (c : tie.After-hand_in-ring)
@@ -69,7 +69,7 @@ timers_are c =
     let s = start2 c in
     let a = s.args in
     c.hand_in-ring.ensures.list
-    ∙ renamed_queue (net_at s) s.pre.0 a.places (pairs_at s) a.t14 a.instants.now a.table.now s.pre.1 m.result m.ensures
+    ∙ renamed_queue (net_at s) s.requires.0 a.places (pairs_at s) a.path a.instants.now a.table.now s.requires.1 m.result m.ensures
     w.result w.ensures
 
 -- the state that the run begins with
@@ -82,48 +82,48 @@ state_at c =
 now_is : (c : tie.After-first_counts-counts) → state_at c ≡ (moved_at (start3 c)).now
 now_is c =
     let k = c.first_counts-counts in
-    let h = c.before.before.before in
-    let i = h.hand_in in
+    let h = c.before.before in
+    let i = h.hand_in-ring in
     let s = start3 c in
     let a = s.args in
     now_same (brings s) (pairs_at s) k.result i.new.ats i.new.owners i.result (timers_are h)
-    (counts_same a.places a.t14.counts k.result (omega (arith, long s, (sound (net_at s) s.pre.0).places)) k.ensures.0)
-    a.t14.generator.s
+    (counts_same a.places a.path.counts k.result (omega (arith, long s, (sound (net_at s) s.requires.0).places)) k.ensures.0)
+    a.path.generator.s
 
 names-of-requires : tie.Need-names_of-names-requires
 names-of-requires c κs = search rules
 
 new-numbers-requires : tie.Need-new_numbers-requires
 new-numbers-requires c κs =
-    let m = c.before.before.before.before.before in
-    let w = m.names_of in
+    let m = c.before.before.before.before in
+    let w = m.names_of-names in
     let s = start1 m in
     let a = s.args in (
       (brings s).few,
-      below (net_at s) s.pre.0 a.places (pairs_at s) a.t14 a.instants.now a.table.now s.pre.1 w.result w.ensures,
+      below (net_at s) s.requires.0 a.places (pairs_at s) a.path a.instants.now a.table.now s.requires.1 w.result w.ensures,
     )
 
 hand-in-requires : tie.Need-hand_in-ring-requires
 hand-in-requires c κs = search rules
 
 first-counts-requires : tie.Need-first_counts-counts-requires
-first-counts-requires c κs = let s = start2 c.before in ((sound (net_at s) s.pre.0).places, small (brings s))
+first-counts-requires c κs = let s = start2 c.before in ((sound (net_at s) s.requires.0).places, small (brings s))
 
 sum-requires : tie.Need-sum-requires
 sum-requires c κs =
     let k = c.before.before in
     let s = start3 k in
-    ((sound (net_at s) s.pre.0).places, k.first_counts-counts.ensures.1)
+    ((sound (net_at s) s.requires.0).places, k.first_counts-counts.ensures.1)
 
 taken-requires : tie.Need-taken-requires
 taken-requires c κs = let s = start3 c.before.before.before.before in ((brings s).few, light (brings s))
 
 add-resume : tie.Need-overflow_add-s
 add-resume c =
-    let k = c.before.before.before.before.before.before in
+    let k = c.before.before.before.before.before in
     let s = start3 k in
-    let few = sum_few s.args.places k.first-counts.result k.first-counts.ensures.1.small in
-    record { fits = omega (arith, c.sum.ensures, few, (sound (net_at s) s.pre.0).places, c.taken.ensures.0) }
+    let few = sum_few s.args.places k.first_counts-counts.result k.first_counts-counts.ensures.1.small in
+    record { fits = omega (arith, c.sum.ensures, few, (sound (net_at s) s.requires.0).places, c.taken.ensures.0) }
 
 sub-left : tie.Need-overflow_sub-left
 sub-left c = (brings (start3 c.before.before.before.before.before)).steps
@@ -135,19 +135,19 @@ resume-requires : tie.Need-resume-w-requires
 resume-requires c κs =
     let t = c.taken in
     let u = c.sum in
-    let k = (counted c).first-counts in
-    let h = (counted c).before.before.before in
-    let i = h.hand_in in
+    let k = (counted c).first_counts-counts in
+    let h = (counted c).before.before in
+    let i = h.hand_in-ring in
     let s = start2 h in
     let q = s.args.path.timers in
     let b = brings s in (
-      s.pre.0,
-      resumes b (pairs_at s) k.result i.last.0 i.last.1.0 i.result (timers_are h) k.ensures.1 i.ensures.sound,
+      s.requires.0,
+      resumes b (pairs_at s) k.result i.new.ats i.new.owners i.result (timers_are h) k.ensures.1 i.ensures.sound,
       b.instants.some_instant,
       b.recorded,
       b.instants.few,
       b.room,
-      tokens_same b (pairs_at s) k.result i.last.0 i.last.1.0 i.result (timers_are h) u.result t.result u.ensures
+      tokens_same b (pairs_at s) k.result i.new.ats i.new.owners i.result (timers_are h) u.result t.result u.ensures
           (t.ensures.1 q.ats q.whos),
     )
 
@@ -167,7 +167,7 @@ returns c =
     let s = start3 k in
     let a = s.args in
     c.turned_down.ensures a.places _
-    ∙ continued_refused (readable (net_at s)) a.places (pairs_at s) a.t14 a.instants.now a.table.now a.named (rest_rises (brings s))
+    ∙ continued_refused (readable (net_at s)) a.places (pairs_at s) a.path a.instants.now a.table.now a.named (rest_rises (brings s))
     (now_is k) refl r.fewer.ensures r.resume-w.ensures c.in-Refused.is
 
 handed-requires : tie.Need-handed-requires
@@ -179,7 +179,7 @@ handed-requires c κs =
     let m = r.fewer.ensures in
     let b = brings s in
     let few =
-    few_steps (readable (net_at s)) a.places (pairs_at s) a.t14 a.instants.now a.table.now a.named (rest_rises b)
+    few_steps (readable (net_at s)) a.places (pairs_at s) a.path a.instants.now a.table.now a.named (rest_rises b)
     (now_is k) refl m r.resume-w.ensures (not_refused r.resume-w.result.end c.in_default.in_default-own.keys2) in
     (omega (arith, few, m, b.steps, b.limit), omega (arith, few, m, b.steps, b.limit, b.rounded))
 
@@ -193,7 +193,7 @@ returns-2 c =
     let k = counted r.before in
     let s = start3 k in
     let a = s.args in
-    continued_to (readable (net_at s)) a.places (pairs_at s) a.t14 a.instants.now a.table.now a.named (rest_rises (brings s))
+    continued_to (readable (net_at s)) a.places (pairs_at s) a.path a.instants.now a.table.now a.named (rest_rises (brings s))
     (now_is k) refl r.fewer.ensures r.resume-w.ensures (not_refused r.resume-w.result.end c.in_default.in_default-own.keys2)
     h.result h.ensures.0 h.ensures.1 (h.ensures.2 a.places)
 

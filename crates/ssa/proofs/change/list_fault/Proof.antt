@@ -45,24 +45,24 @@ abbrev list-passed : tie.After-timers_fit → tie.Else-not-list_fits
 list-passed c = c.before.before.before
 
 -- what is known of an old net with as many places and transitions
-as_many : (c : tie.Else-old_places-places) (old : Net) → length old.places ≡ (start1 c).args.old-places
+as_many : (c : tie.Else-old_places-places) (old : Net) → length old.places ≡ (start1 c).args.old_places
     → length old.places ≡ length (readable (net_at (start1 c))).places
 as_many c old e = e ∙ c.if-old_places-places.false ∙ sym (places_length (net_at (start1 c)))
 
-listed : (c : tie.Else-not-list_fits) (old : Net) → length old.transitions ≡ (start2 c).args.old-transitions
+listed : (c : tie.Else-not-list_fits) (old : Net) → length old.transitions ≡ (start2 c).args.old_transitions
     → list_strange old (readable (net_at (start2 c))) (pairs_of (start2 c).args.pairs.now) ≡ false
 listed c old d =
     let n = net_at (start2 c) in
     not-true _ (sym (c.list_fits.ensures old (readable n) d (transitions_length n)) ∙ c.if-not-list_fits.false)
 
 sent : (c : tie.After-timers_fit) (old : Net) (ats : List Float) (takens : List ℕ) {q : List Timer}
-    → length old.transitions ≡ (start2 (list-passed c)).args.old-transitions
+    → length old.transitions ≡ (start2 (list-passed c)).args.old_transitions
     → q ≡ timers_in ats (start2 (list-passed c)).args.whos.now takens (start2 (list-passed c)).args.len
     → c.timers_fit.result ≡ not (wrong_in (start2 (list-passed c)) q)
 sent c old ats takens d e =
     let l = list-passed c in
     let s = start2 l in
-    c.timers_fit.ensures old (pairs_of s.args.pairs.now) ats takens (omega (arith, s.pre.1)) (listed l old d) c.names_of-names.ensures
+    c.timers_fit.ensures old (pairs_of s.args.pairs.now) ats takens (omega (arith, s.requires.1)) (listed l old d) c.names_of-names.ensures
     ∙ ap (λ (q : List Timer). not (wrong_in s q)) (sym e)
 
 returns : tie.Need-returns-then-old_places-places
@@ -72,7 +72,7 @@ returns c =
     by_places old (readable (net_at s)) path (pairs_of s.args.pairs.now) (λ q. c.if-old_places-places.true (sym e ∙ q ∙ places_length (net_at s)))
 
 list-fits-requires : tie.Need-list_fits-requires
-list-fits-requires c κs = let s = start1 c in (s.pre.1, (sound (net_at s) s.pre.0).transitions)
+list-fits-requires c κs = let s = start1 c in (s.requires.1, (sound (net_at s) s.requires.0).transitions)
 
 returns-2 : tie.Need-returns-then-not-list_fits
 returns-2 c =

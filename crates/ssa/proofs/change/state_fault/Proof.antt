@@ -133,7 +133,7 @@ returns-4 c =
 mul-if5 : tie.Need-overflow_mul-places
 mul-if5 c =
     let s = start4 c in
-    record { fits = cells_fit _ _ s.pre (fitting s.args.instants.now (timely c.before.before.before.before)).few }
+    record { fits = cells_fit _ _ s.requires (fitting s.args.instants.now (timely c.before.before.before.before)).few }
 
 returns-5 : tie.Need-returns-then-table-places
 returns-5 c =
@@ -148,7 +148,7 @@ cells-fit-requires : tie.Need-cells_fit-requires
 cells-fit-requires c κs =
     let r = c.before.before.before in
     let s = start3 r in
-    (few_noted r, s.pre, (fitting s.args.instants.now (timely r.before.before)).few, c.if-table-places.false)
+    (few_noted r, s.requires, (fitting s.args.instants.now (timely r.before.before)).few, c.if-table-places.false)
 
 returns-6 : tie.Need-returns-then-not-cells_fit
 returns-6 c =

@@ -1,4 +1,5 @@
 -- A refused path leaves the sums alone; any other is added to both (proofs/Summing, turn-stops and turn-goes). Assumes nothing.
+use borrow.Enum.Refused.{opened}
 use borrow.Author.Rules.{rules}
 use native.Mathlib.Omega.{arith}
 use mathlib.Core.Path.{refl}
@@ -39,4 +40,4 @@ returns c =
     let net = readable (lent a.places a.transitions a.initial.now a.capacity.now a.rate.now a.delay.now a.arcs.now a.kind.now a.place.now a.weight.now) in
     let xs = a.instants.now in
     turn_goes a.places (length xs) a.spent (seeded (seed_of a.seed a.k)) a.mean.now m.new.sums a.deviation.now d.new.squares a.path.now p.new.path p.result
-    c.one_if_spent.result _ (drawn net a.seed xs a.steps a.k) p.ensures (not_refused p.result.end c.in_default.in_default-own.keys2) c.one_if_spent.ensures refl m.ensures d.ensures
+    c.one_if_spent.result _ (drawn net a.seed xs a.steps a.k) p.ensures (not_refused p.result.end (opened c.in_default.in_default-own.keys2)) c.one_if_spent.ensures refl m.ensures d.ensures

@@ -1,4 +1,5 @@
 -- By the end (proofs/Answered, told). Assumes nothing.
+use borrow.Enum.Refused.{opened}
 use borrow.Author.Rules.{rules}
 use mathlib.Core.Path.{sym, ap, ◌∙◌}
 use mathlib.Core.List.{List}
@@ -27,4 +28,4 @@ returns c =
       generator = words w.rng.s;
       table = t;
     }) c.settled.ensures
-    ∙ sym (told w a.n (words a.rng.s) t w.end (not_refused w.end c.in_default.in_default-own.keys2))
+    ∙ sym (told w a.n (words a.rng.s) t w.end (not_refused w.end (opened c.in_default.in_default-own.keys2)))

@@ -96,13 +96,13 @@ resume-requires c κs =
     let b = c.before.before.before.before.before.before.before in
     let e = b.begin-s.ensures in
     let s = at b in
-    let f = fitting s.args.instants.now s.pre.1 in (
-      s.pre.0,
+    let f = fitting s.args.instants.now s.requires.1 in (
+      s.requires.0,
       resumes b,
       f.some_instant,
       shown_within _ _ _ _ _ _ _ _ e.0 (omega arith),
       f.few,
-      omega (arith, s.pre.3, e.0.cells.long),
+      omega (arith, s.requires.3, e.0.cells.long),
       omega (arith, e.3, ap taken_by_timers (none b)),
     )
 
@@ -123,7 +123,7 @@ returns c =
     let a = s.args in
     c.refused.ensures a.places r.resume-w.new.table
     ∙ sym (refused_first a.places (readable (net_at s)) (words a.generator.s) a.instants.now a.limit a.named
-    (rises zero64 a.instants.now (fitting a.instants.now s.pre.1).risen) (same b) b.begin-s.ensures.0 s.pre.3 (most b) (first b)
+    (rises zero64 a.instants.now (fitting a.instants.now s.requires.1).risen) (same b) b.begin-s.ensures.0 s.requires.3 (most b) (first b)
     refl r.fewer.ensures (unbegun a.places (words a.generator.s)) c.in-Refused.is r.resume-w.ensures)
 
 handed-requires : tie.Need-handed-requires
@@ -133,7 +133,7 @@ same-length-2 : tie.Need-shape_of-table
 same-length-2 c =
     let r = c.before.before.before.before.before.before.before in
     let b = r.before.before.before.before.before.before.before.before in
-    omega (arith, r.resume-w.auto.1.1.1.1.1.1.1.1.1.1.1.1.1.1.1.1.1.1.1.0, b.begin-s.ensures.0.cells.long)
+    omega (arith, r.resume-w.auto.table, b.begin-s.ensures.0.cells.long)
 
 returns-2 : tie.Need-returns
 returns-2 c =
@@ -145,7 +145,7 @@ returns-2 c =
     let table = r.resume-w.new.table in
     (λ i. record { end = end_of (h.0 i); settled = h.1 i; state = h.2 a.places i; table = table })
     ∙ sym (played_first a.places (readable (net_at s)) (words a.generator.s) a.instants.now a.limit a.named
-    (rises zero64 a.instants.now (fitting a.instants.now s.pre.1).risen) (same b) b.begin-s.ensures.0 s.pre.3 (most b) (first b)
+    (rises zero64 a.instants.now (fitting a.instants.now s.requires.1).risen) (same b) b.begin-s.ensures.0 s.requires.3 (most b) (first b)
     refl r.fewer.ensures (unbegun a.places (words a.generator.s))
     (not_refused r.resume-w.result.end c.in_default.in_default-own.keys2) r.resume-w.ensures)
 
