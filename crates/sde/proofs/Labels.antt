@@ -1,10 +1,8 @@
 -- The call is made of the net's fault and of the net that the rules see; the crate net has that neither depends on labels where 17 and 18 are not in
 -- question. Assumes nothing.
 use Prim.Native.Nat.{ℕ, ◌*◌}
-use mathlib.Core.List.{List}
 use mathlib.Core.Option.{Option}
 use lib.ListN.{length}
-use Rattle.net.specs.declared.Net.{Net as NetRecord}
 use Rattle.net.specs.Net.{Net}
 use Rattle.net.specs.Tests.{or_else}
 use Rattle.net.specs.Readable.{LabelsApart}

@@ -4,11 +4,11 @@ use Prim.Native.Nat.{ℕ, zero, suc, ◌+◌, ◌-◌, ◌*◌, ◌%◌, ◌^◌
 use mathlib.Core.Path.{◌≡◌, refl, sym, ap, ◌∙◌, subst}
 use mathlib.Core.Bool.{Bool, true, false, cond, ◌&&◌}
 use native.Mathlib.Omega.{arith}
-use native.Mathlib.Nat.{mul-one, one-mul, zero-mul, mul_assoc, zero-lt-suc, pow-succ', pow-suc, mul-pos, lt_irrefl, lt_of_lt_of_le, mul-lt-mul_of_pos_right}
+use native.Mathlib.Nat.{mul-one, one-mul, zero-mul, mul_assoc, zero-lt-suc, pow-succ', mul-pos, lt_irrefl, lt_of_lt_of_le, mul-lt-mul_of_pos_right}
 use lib.Dec.{T, eqb, ltb, leb, eqb→eq, ltb→lt, leb→le}
 use lib.IntN.{ℤ, pos, negsuc}
 use lib.Pow.{pow-add, pow_pos, pow-lt}
-use lib.Ieee.{Float, nan, inf, fin, Format, binary64, prec, emax, low, unlike, up, down, of_bits, of_int, fits, round, sum, add, sub, neg, mul, div}
+use lib.Ieee.{Float, nan, inf, fin, binary64, unlike, up, down, of_bits, of_int, fits, round, sum, add, sub, neg, mul, div}
 use lib.Ieee.Exact.{HasValue, round_exact}
 use lib.Ieee.Fits.{down_pos, up_pos, round-fits, and_l, and_r}
 use borrow.Author.Tests.{le-ltb, leb-true, leb-false}

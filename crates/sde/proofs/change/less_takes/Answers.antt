@@ -1,12 +1,7 @@
 -- What is left, on top of d, comes to the whole. Assumes nothing.
-use Rattle.net.specs.Net.{zero64}
-use Rattle.net.specs.Readable.{slots, takes_of}
-use Rattle.sde.specs.Diffusion.{less_takes}
 use Rattle.sde.proofs.Changes.{less_turn, less_end}
-use borrow.Author.Rules.{rules}
 use native.Mathlib.Omega.{arith}
-use mathlib.Core.Path.{◌≡◌, refl, ◌∙◌}
-use Prim.Native.Nat.{◌-◌, ◌≤◌}
+use mathlib.Core.Path.{refl, ◌∙◌}
 use Rattle.sde.proofs.change.less_takes.Goals as goal
 
 pub loop-a-init : goal.loop-a-init

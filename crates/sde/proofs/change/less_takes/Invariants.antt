@@ -2,10 +2,7 @@
 use Rattle.net.specs.Net.{zero64}
 use Rattle.net.specs.Readable.{slots, takes_of}
 use Rattle.sde.specs.Diffusion.{less_takes}
-use Rattle.sde.proofs.Changes.{less_turn, less_end}
-use borrow.Author.Rules.{rules}
-use native.Mathlib.Omega.{arith}
-use mathlib.Core.Path.{◌≡◌, refl, ◌∙◌}
+use mathlib.Core.Path.{◌≡◌}
 use Prim.Native.Nat.{◌-◌, ◌≤◌}
 use Rattle.sde.proofs.change.less_takes.Given as goal
 

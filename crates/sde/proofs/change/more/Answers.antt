@@ -3,7 +3,6 @@ use native.Mathlib.Omega.{arith}
 use borrow.Author.Tests.{eq-eqb, ne_eqb}
 use Rattle.combinations.proofs.Product.{in_f64}
 use Rattle.engine.proofs.Arcs.{amount_most}
-use borrow.Author.Rules.{rules}
 use Rattle.sde.proofs.change.more.Goals as goal
 
 pub int_to_float-result : goal.int_to_float-result

@@ -1,8 +1,5 @@
 -- No place from p to before q is changed; the test, or the end of the places, says the rest. Assumes nothing.
-use Rattle.sde.proofs.Skips.{Idle, idle_none, idle_more, skip_here}
-use borrow.Author.Rules.{rules}
-use native.Mathlib.Omega.{arith}
-use mathlib.Core.Path.{refl}
+use Rattle.sde.proofs.Skips.{Idle}
 use Prim.Native.Nat.{◌-◌}
 use Rattle.sde.proofs.change.next_changed.Given as goal
 

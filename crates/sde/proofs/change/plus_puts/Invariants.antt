@@ -1,10 +1,7 @@
 -- What is left, on top of d, comes to the whole. Assumes nothing.
 use Rattle.net.specs.Readable.{slots, arcs_of, is_put}
 use Rattle.sde.specs.Diffusion.{plus_puts}
-use Rattle.sde.proofs.Changes.{more_turn, more_end}
-use borrow.Author.Rules.{rules}
-use native.Mathlib.Omega.{arith}
-use mathlib.Core.Path.{◌≡◌, refl, ◌∙◌}
+use mathlib.Core.Path.{◌≡◌}
 use Prim.Native.Nat.{◌-◌, ◌≤◌}
 use Rattle.sde.proofs.change.plus_puts.Given as goal
 

@@ -1,6 +1,5 @@
 -- An accepted net is sound, and its fields lent without its labels read as the net. Assumes nothing.
 use Rattle.net.proofs.Sound.{sound, unlabelled}
-use borrow.Author.Rules.{rules}
 use Rattle.sde.proofs.paths.accepted.Goals as goal
 
 pub lent_run-requires : goal.lent_run-requires

@@ -1,7 +1,6 @@
 -- What sum_paths left, cleared where a path was refused, and else made into means and deviations. Assumes nothing.
 use Prim.Native.Nat.{◌*◌}
 use Rattle.sde.proofs.Members.{call_stopped, call_averaged}
-use borrow.Author.Rules.{rules}
 use Rattle.sde.proofs.paths.averaged.Goals as goal
 
 pub sum_paths-k-requires : goal.sum_paths-k-requires

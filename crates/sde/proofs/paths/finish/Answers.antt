@@ -2,7 +2,6 @@
 use native.Mathlib.Omega.{arith}
 use borrow.Author.Tests.{eq-eqb, ne_eqb}
 use Rattle.combinations.proofs.Product.{in_f64}
-use borrow.Author.Rules.{rules}
 use Rattle.sde.proofs.paths.finish.Goals as goal
 
 pub int_to_float-r : goal.int_to_float-r

@@ -5,7 +5,6 @@ use Prim.Native.Nat.{◌*◌}
 use Rattle.sde.specs.Call.{tabulated}
 use Rattle.sde.proofs.Rates.{rated, tidied_sound, members_same}
 use Rattle.sde.proofs.Tested.{by_gated, by_free}
-use borrow.Author.Rules.{rules}
 use Rattle.sde.proofs.paths.lent_run.Goals as goal
 
 pub gates_of-g-requires : goal.gates_of-g-requires

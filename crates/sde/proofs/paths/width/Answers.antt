@@ -3,7 +3,6 @@ use Prim.Native.Nat.{◌-◌}
 use lib.Ieee.{binary64, sub, mul, div}
 use Rattle.rules.specs.Propensity.{float}
 use Rattle.sde.proofs.Members.{twenty, nought}
-use borrow.Author.Rules.{rules}
 use Rattle.sde.proofs.paths.width.Goals as goal
 
 pub returns : goal.returns

@@ -1,12 +1,11 @@
 -- The cells below j are filled. Assumes nothing.
 use borrow.Author.Count.{below_none}
-use lib.ListN.{length, get_or, length-set}
+use lib.ListN.{get_or, length-set}
 use Rattle.sde.specs.Slots.{KineticEnd}
 use Rattle.sde.proofs.Skips.{skips_more}
-use borrow.Author.Rules.{rules}
 use native.Mathlib.Omega.{arith}
-use mathlib.Core.Path.{◌≡◌, ◌∙◌}
-use Prim.Native.Nat.{ℕ, ◌+◌, ◌-◌, ◌*◌, ◌<◌}
+use mathlib.Core.Path.{◌∙◌}
+use Prim.Native.Nat.{ℕ, ◌+◌, ◌*◌}
 use Rattle.sde.proofs.propensity.fill_ends.Goals as goal
 
 pub loop-j-init : goal.loop-j-init

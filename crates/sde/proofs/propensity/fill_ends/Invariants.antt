@@ -1,11 +1,7 @@
 -- The cells below j are filled. Assumes nothing.
-use borrow.Author.Count.{below_none}
-use lib.ListN.{length, get_or, length-set}
+use lib.ListN.{length, get_or}
 use Rattle.sde.specs.Slots.{KineticEnd}
-use Rattle.sde.proofs.Skips.{skips_more}
-use borrow.Author.Rules.{rules}
-use native.Mathlib.Omega.{arith}
-use mathlib.Core.Path.{◌≡◌, ◌∙◌}
+use mathlib.Core.Path.{◌≡◌}
 use Prim.Native.Nat.{ℕ, ◌+◌, ◌-◌, ◌*◌, ◌<◌}
 use Rattle.sde.proofs.propensity.fill_ends.Given as goal
 

@@ -1,12 +1,8 @@
 -- The rates below j are tidied. Assumes nothing.
-use borrow.Author.Count.{below_none}
-use lib.ListN.{length, get_or, length-set}
+use lib.ListN.{length, get_or}
 use lib.Ieee.{nan}
 use Rattle.sde.specs.Slots.{tidy}
-use Rattle.sde.proofs.Changes.{cells_more}
-use borrow.Author.Rules.{rules}
-use native.Mathlib.Omega.{arith}
-use mathlib.Core.Path.{◌≡◌, ◌∙◌}
+use mathlib.Core.Path.{◌≡◌}
 use Prim.Native.Nat.{ℕ, ◌-◌, ◌<◌}
 use Rattle.sde.proofs.propensity.fill_rates.Given as goal
 

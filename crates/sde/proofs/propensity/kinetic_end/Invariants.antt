@@ -1,10 +1,5 @@
 -- From e on no slot is a kinetic take. Assumes nothing.
 use Rattle.sde.specs.Slots.{KineticEnd}
-use Rattle.sde.proofs.Ends.{end_first, end_before}
-use borrow.Author.Rules.{rules}
-use native.Mathlib.Omega.{arith}
-use mathlib.Core.Path.{◌≡◌, refl}
-use Prim.Native.Nat.{ℕ, ◌-◌}
 use Rattle.sde.proofs.propensity.kinetic_end.Given as goal
 
 abbrev pub invariant-loop-e : goal.invariant-loop-e

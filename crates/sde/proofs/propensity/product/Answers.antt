@@ -2,12 +2,9 @@
 use mathlib.Core.Bool.{true, false}
 use lib.ListN.{get_or, take}
 use lib.Ieee.{nan}
-use Rattle.net.specs.Readable.{slots}
-use Rattle.sde.proofs.Factors.{left, made, factors_end, value_at}
-use borrow.Author.Rules.{rules}
+use Rattle.sde.proofs.Factors.{made, factors_end, value_at}
 use native.Mathlib.Omega.{arith}
-use mathlib.Core.Path.{◌≡◌, refl, sym, ◌∙◌}
-use Prim.Native.Nat.{◌-◌, ◌≤◌}
+use mathlib.Core.Path.{refl, sym, ◌∙◌}
 use Rattle.sde.proofs.propensity.product.Goals as goal
 
 pub loop-s-init : goal.loop-s-init

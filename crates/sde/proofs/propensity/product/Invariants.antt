@@ -1,12 +1,8 @@
 -- The factors that are left, on top of a, come to the whole. Assumes nothing.
-use mathlib.Core.Bool.{true, false}
-use lib.ListN.{get_or, take}
-use lib.Ieee.{nan}
+use lib.ListN.{take}
 use Rattle.net.specs.Readable.{slots}
-use Rattle.sde.proofs.Factors.{left, made, factors_end, value_at}
-use borrow.Author.Rules.{rules}
-use native.Mathlib.Omega.{arith}
-use mathlib.Core.Path.{◌≡◌, refl, sym, ◌∙◌}
+use Rattle.sde.proofs.Factors.{left}
+use mathlib.Core.Path.{◌≡◌}
 use Prim.Native.Nat.{◌-◌, ◌≤◌}
 use Rattle.sde.proofs.propensity.product.Given as goal
 

@@ -5,7 +5,6 @@ use Rattle.combinations.specs.Real.{meaning}
 use Rattle.sde.specs.Diffusion.{as_float}
 use Rattle.engine.proofs.Factors.{no_number}
 use Rattle.sde.proofs.Factors.{ways_answer}
-use borrow.Author.Rules.{rules}
 use Rattle.sde.proofs.propensity.ways.Goals as goal
 
 pub returns-in-Value : goal.returns-in-Value

@@ -2,10 +2,9 @@
 use lib.ListN.{get_or}
 use lib.Ieee.{Float, nan, binary64, add}
 use Rattle.sde.specs.Diffusion.{above_zero}
-use Rattle.sde.proofs.Each.{MapTo, map_none, map_more, map_all}
-use borrow.Author.Rules.{rules}
+use Rattle.sde.proofs.Each.{map_none, map_more, map_all}
 use native.Mathlib.Omega.{arith}
-use Prim.Native.Nat.{ℕ, ◌-◌, ◌≤◌}
+use Prim.Native.Nat.{ℕ}
 use Rattle.sde.proofs.substep.add_drift.Goals as goal
 
 pub loop-p-init : goal.loop-p-init

@@ -2,9 +2,7 @@
 use lib.ListN.{get_or}
 use lib.Ieee.{Float, nan, binary64, add}
 use Rattle.sde.specs.Diffusion.{above_zero}
-use Rattle.sde.proofs.Each.{MapTo, map_none, map_more, map_all}
-use borrow.Author.Rules.{rules}
-use native.Mathlib.Omega.{arith}
+use Rattle.sde.proofs.Each.{MapTo}
 use Prim.Native.Nat.{ℕ, ◌-◌, ◌≤◌}
 use Rattle.sde.proofs.substep.add_drift.Given as goal
 

@@ -1,11 +1,8 @@
 -- The drift below p is +0. Assumes nothing.
 use lib.Ieee.{Float}
 use Rattle.net.specs.Net.{zero64}
-use Rattle.sde.proofs.Each.{MapTo, map_none, map_more, map_all}
-use borrow.Author.Rules.{rules}
-use native.Mathlib.Omega.{arith}
-use mathlib.Core.Path.{refl}
-use Prim.Native.Nat.{ℕ, ◌+◌, ◌-◌, ◌≤◌}
+use Rattle.sde.proofs.Each.{MapTo}
+use Prim.Native.Nat.{ℕ, ◌-◌, ◌≤◌}
 use Rattle.sde.proofs.substep.clear.Given as goal
 
 abbrev pub invariant-loop-p : goal.invariant-loop-p

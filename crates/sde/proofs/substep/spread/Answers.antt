@@ -1,17 +1,11 @@
 -- State and drift below p have the transition's noise and drift: a skip steps over places that both leave as they are, to one that is changed.
 -- Assumes nothing.
 use lib.ListN.{get_or, set}
-use lib.Ieee.{Float, nan, binary64, add, mul, eq}
-use mathlib.Core.Path.{◌≡◌}
-use mathlib.Core.Bool.{false}
-use mathlib.Core.List.{List}
-use Rattle.net.specs.Net.{zero64}
-use Rattle.sde.specs.Diffusion.{noise_by, drift_by}
-use Rattle.sde.proofs.Each.{MapTo, map_none, map_more, map_all}
+use lib.Ieee.{nan, binary64, add, mul}
+use Rattle.sde.proofs.Each.{map_none, map_more, map_all}
 use Rattle.sde.proofs.Skips.{skips_first, map_skip, noise_idle, drift_idle, noise_changed, drift_changed}
-use borrow.Author.Rules.{rules}
 use native.Mathlib.Omega.{arith}
-use Prim.Native.Nat.{ℕ, ◌+◌, ◌-◌, ◌*◌, ◌≤◌, ◌<◌}
+use Prim.Native.Nat.{◌+◌, ◌*◌}
 use Rattle.sde.proofs.substep.spread.Invariants.{noisy, drifting}
 use Rattle.sde.proofs.substep.spread.Goals as goal
 

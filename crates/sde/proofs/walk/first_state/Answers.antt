@@ -8,11 +8,10 @@ use mir.Val.{to_z}
 use mir.Facts.{to_z_pos}
 use Rattle.combinations.proofs.Product.{in_f64}
 use Rattle.rules.specs.Propensity.{float}
-use Rattle.sde.proofs.Each.{MapTo, map_none, map_more, map_all}
-use borrow.Author.Rules.{rules}
+use Rattle.sde.proofs.Each.{map_none, map_more, map_all}
 use native.Mathlib.Omega.{arith}
 use mathlib.Core.Path.{ap, subst⁻¹}
-use Prim.Native.Nat.{ℕ, ◌-◌, ◌≤◌}
+use Prim.Native.Nat.{ℕ}
 use Rattle.sde.proofs.walk.first_state.Goals as goal
 
 pub loop-p-init : goal.loop-p-init

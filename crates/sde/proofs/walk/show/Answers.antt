@@ -3,9 +3,8 @@ use mathlib.Core.Path.{subst, ◌≡◌}
 use native.Mathlib.Nat.{mul-le-mul}
 use Rattle.sde.specs.Arrays.{Column}
 use Rattle.sde.proofs.Cells.{cell_in, column_none, column_more}
-use borrow.Author.Rules.{rules}
 use native.Mathlib.Omega.{arith}
-use Prim.Native.Nat.{ℕ, ◌-◌, ◌≤◌}
+use Prim.Native.Nat.{ℕ}
 use Rattle.sde.proofs.walk.show.Goals as goal
 
 pub loop-p-init : goal.loop-p-init

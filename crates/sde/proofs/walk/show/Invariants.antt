@@ -1,11 +1,6 @@
 -- The loop writes the cells of one instant, place by place. Assumes nothing.
-use mathlib.Core.Path.{subst, ◌≡◌}
-use native.Mathlib.Nat.{mul-le-mul}
 use Rattle.sde.specs.Arrays.{Column}
-use Rattle.sde.proofs.Cells.{cell_in, column_none, column_more}
-use borrow.Author.Rules.{rules}
-use native.Mathlib.Omega.{arith}
-use Prim.Native.Nat.{ℕ, ◌-◌, ◌≤◌}
+use Prim.Native.Nat.{◌-◌, ◌≤◌}
 use Rattle.sde.proofs.walk.show.Given as goal
 
 abbrev pub invariant-loop-p : goal.invariant-loop-p
