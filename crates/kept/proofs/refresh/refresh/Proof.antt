@@ -64,28 +64,27 @@ cast-from c =
 
 resum-requires : tie.Need-resum-total-requires
 resum-requires c κs =
-    let i = c.before.before in
-    let t = i.before in
-    let r = t.before in
+    let t = c.before.before in
+    let r = t.before.before in
     let s = r.args in
     let p = r.requires in
-    let x = t.settle.result in
-    let e = t.settle.ensures in (
+    let x = c.settle-settled.result in
+    let e = c.settle-settled.ensures in (
       p.0.transitions,
-      omega (arith, lowest_inside (net r) (tokens r) x.able s.props.now _ s.sums.now p.0 e.0 p.11 e.2 x.changed e.3 (changed_fits t) e.4 i.if1.false),
+      omega (arith, lowest_inside (net r) (tokens r) x.able s.props.now _ s.sums.now p.0 e.0 p.11 e.2 x.changed e.3 (changed_fits t) e.4 c.if-changed-eq0.false),
       e.2,
       p.12,
-      front_kept (net r) (tokens r) x.able s.props.now _ s.sums.now p.0 e.0 p.11 e.2 x.changed e.3 (changed_fits t) e.4 i.if1.false p.10.each,
+      front_kept (net r) (tokens r) x.able s.props.now _ s.sums.now p.0 e.0 p.11 e.2 x.changed e.3 (changed_fits t) e.4 c.if-changed-eq0.false p.10.each,
     )
 
 returns-2 : tie.Need-returns
 returns-2 c =
-    let t = c.before.before.before.before in
-    let r = t.before in
+    let t = c.before.before.before in
+    let r = t.before.before in
     let s = r.args in
     let p = r.requires in
-    let x = t.settle.result in
-    let e = t.settle.ensures in (
+    let x = c.settle-settled.result in
+    let e = c.settle-settled.ensures in (
       worked_whole (net r) (tokens r) x.able s.props.now _ s.sums.now p.0 e.0 p.11 e.2,
       e.0,
       e.1,

@@ -58,10 +58,10 @@ remark-requires c κs =
     let p = r.requires in (
       p.0,
       p.2,
-      due_below (net r) s.counts.now p.0 p.2 s.moved s.crossed s.able s.timed s.heavy s.marks s.props.now p.5 p.6 p.7 p.8 p.9 p.10 w.without.result w.without.ensures
-          t.retest.result t.retest.ensures.0 _ t.retest.ensures.1 _ v.revalue.ensures,
-      due_props (net r) s.counts.now p.0 p.2 s.moved s.crossed s.able s.timed s.heavy s.marks s.props.now p.5 p.6 p.7 p.8 p.9 p.10 w.without.result w.without.ensures
-          t.retest.result t.retest.ensures.0 _ t.retest.ensures.1 _ v.revalue.ensures,
+      due_below (net r) s.counts.now p.0 p.2 s.moved s.crossed s.able s.timed s.heavy s.marks s.props.now p.5 p.6 p.7 p.8 p.9 p.10 c.without-tested.result c.without-tested.ensures
+          c.retest-found.result c.retest-found.ensures.0 _ c.retest-found.ensures.1 _ c.revalue.ensures,
+      due_props (net r) s.counts.now p.0 p.2 s.moved s.crossed s.able s.timed s.heavy s.marks s.props.now p.5 p.6 p.7 p.8 p.9 p.10 c.without-tested.result c.without-tested.ensures
+          c.retest-found.result c.retest-found.ensures.0 _ c.retest-found.ensures.1 _ c.revalue.ensures,
     )
 
 returns : tie.Need-returns
@@ -73,8 +73,8 @@ returns c =
     let r = w in
     let s = r.args in
     let p = r.requires in
-    settled_all (net r) s.counts.now p.0 p.2 s.moved s.crossed s.able s.timed s.heavy s.marks s.props.now p.5 p.6 p.7 p.8 p.9 p.10 w.without.result w.without.ensures
-    t.retest.result t.retest.ensures.0 _ t.retest.ensures.1 _ v.revalue.ensures o.without2.result c.remark-fresh.result o.without2.ensures c.remark-fresh.ensures
+    settled_all (net r) s.counts.now p.0 p.2 s.moved s.crossed s.able s.timed s.heavy s.marks s.props.now p.5 p.6 p.7 p.8 p.9 p.10 c.without-tested.result c.without-tested.ensures
+    c.retest-found.result c.retest-found.ensures.0 _ c.retest-found.ensures.1 _ c.revalue.ensures c.without-old.result c.remark-fresh.result c.without-old.ensures c.remark-fresh.ensures
 
 pub settle_spec : {M : Type 1} → statement M
 settle_spec =

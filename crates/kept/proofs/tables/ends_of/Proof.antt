@@ -106,8 +106,8 @@ loop-again c =
     let i = c.before.before.before in
     let l = i.before in
     let e = c.end_of-e in
-    filling_more 0 (End (net l.before)) l.loop-j.ends l.loop-j.j l.loop-j.invariant (low i.before.before) c.told-x.result
-    (end_told (net l.before) l.loop-j.j e.result c.told-x.result (omega (arith, low i.before.before, l.requires.0.arcs l.loop-j.j)) e.ensures.0 e.ensures.1
+    filling_more 0 (End (net l.before.before.before)) l.loop-j.ends l.loop-j.j l.loop-j.invariant (low i.before.before) c.told-x.result
+    (end_told (net l.before.before.before) l.loop-j.j e.result c.told-x.result (omega (arith, low i.before.before, l.requires.0.arcs l.loop-j.j)) e.ensures.0 e.ensures.1
     (omega (arith, l.requires.0.place (16 * l.loop-j.j), l.requires.0.places)) c.told-x.ensures)
 
 returns : tie.Need-returns invariant-loop decreases-loop

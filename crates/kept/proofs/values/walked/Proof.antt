@@ -30,7 +30,7 @@ abbrev start : tie.In-loop-a invariant-loop decreases-loop → tie.Start invaria
 start c = c.before.before.before
 
 abbrev slot : tie.In-loop-a invariant-loop decreases-loop → ℕ
-slot c = c.before.loop.a
+slot c = c.loop-a.a
 
 -- the slot is one of transition j
 inside : (c : tie.In-loop-a invariant-loop decreases-loop) → slot c < 16 * (start c).args.j + get_or (start c).args.arcs.now (start c).args.j 0
@@ -44,8 +44,8 @@ taken_by_lem : (c : tie.In-loop-a invariant-loop decreases-loop) → get_or (sta
     → get_or (start c).args.limit.now (slot c) 0 ≡ at_least (amount (get_or (start c).args.weight.now (slot c) 0))
 taken_by_lem c k =
     let r = start c in
-    kinetic_says (net r) r.pre.1 (slot c) k r.args.j (get_or r.args.limit.now (slot c) 0) c.loop-a.invariant.low (inside c)
-    (r.pre.2 (slot c) (omega (arith, inside c, r.pre.0, r.pre.1.arcs r.args.j)))
+    kinetic_says (net r) r.requires.1 (slot c) k r.args.j (get_or r.args.limit.now (slot c) 0) c.loop-a.invariant.low (inside c)
+    (r.requires.2 (slot c) (omega (arith, inside c, r.requires.0, r.requires.1.arcs r.args.j)))
 
 mul-x : tie.Need-offset_bounds-rates-j invariant-loop decreases-loop
 mul-x c = omega (arith, c.requires.0, c.requires.1.transitions)
@@ -81,19 +81,19 @@ element-copy-out-times-2 c = omega (arith, in_table c.before.before.before.befor
 
 mul-times-3 : tie.Need-offset_bounds-counts-p invariant-loop decreases-loop
 mul-times-3 c =
-    let i = c.before.before.before in
+    let i = c.before.before.before.before.before.before in
     omega (arith, (start i).requires.1.place (slot i), (start i).requires.1.places)
 
 element-copy-out-times-3 : tie.Need-bounds-counts-p invariant-loop decreases-loop
 element-copy-out-times-3 c =
-    let i = c.before.before.before in
+    let i = c.before.before.before.before.before.before.before in
     omega (arith, (start i).requires.1.place (slot i), (start i).requires.1.places)
 
 times-requires : tie.Need-times-x-requires invariant-loop decreases-loop
 times-requires c κs =
-    let i = c.before.before.before.before in
+    let i = c.before.before.before.before.before.before.before.before in
     let r = start i in
-    (r.pre.3.small (get_or r.args.place.now (slot i) 0), λ k. omega (arith, taken_by_lem i.before.before.before.before k, amount_most (get_or r.args.weight.now (slot i) 0) (r.pre.1.weight (slot i))))
+    (r.requires.3.small (get_or r.args.place.now (slot i) 0), λ k. omega (arith, taken_by_lem i k, amount_most (get_or r.args.weight.now (slot i) 0) (r.requires.1.weight (slot i))))
 
 add_a : tie.Need-overflow_add-a invariant-loop decreases-loop
 add_a c = omega (arith, in_table c.before.before.before.before.before.before.before.before.before)
@@ -103,14 +103,14 @@ loop-less c = search rules
 
 loop-again : tie.Need-loop-a-preserved invariant-loop decreases-loop
 loop-again c =
-    let i = c.before.before.before.before.before in
+    let i = c.before.before.before.before.before.before.before.before.before in
     let r = start i in
     let s = r.args in
     let v = i.loop-a in
-    valuing_more (net r) s.counts.now s.j r.pre.1 v.x c.times-x.result v.a v.invariant (inside i.before.before.before.before)
+    valuing_more (net r) s.counts.now s.j r.requires.1 v.x c.times-x.result v.a v.invariant (inside i)
     (c.times-x.ensures
     ∙ times_limit v.x (get_or s.kind.now v.a 0) (get_or s.weight.now v.a 0) (get_or s.limit.now v.a 0)
-    (get_or s.counts.now (get_or s.place.now v.a 0) 0) (r.pre.1.weight v.a) (taken_by_lem i.before.before.before.before))
+    (get_or s.counts.now (get_or s.place.now v.a 0) 0) (r.requires.1.weight v.a) (taken_by_lem i))
 
 returns : tie.Need-returns invariant-loop decreases-loop
 returns c =
