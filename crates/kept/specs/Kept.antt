@@ -2,7 +2,7 @@
 -- transitions or a table by transition. Document 02, order 5: "the kept propensities equal a full working at each step". Of a transition
 -- in the word `crossed` it is not known whether it is enabled, and of one in `moved` not what its ways multiply to. The plain working is in the crate rules (Propensity, Exact); nothing here
 -- adds to it.
-use Rattle.std.specs.Prelude.{ℕ, ◌+◌, ◌-◌, ◌*◌, ◌≤◌, ◌<◌, ◌≡◌, Bool, true, false, ◌&&◌, not, List, eqb, leb, length, get_or, Float}
+use Rattle.std.specs.Prelude.{ℕ, ◌+◌, ◌-◌, ◌*◌, ◌≤◌, ◌<◌, ◌≡◌, Bool, true, false, ◌&&◌, List, eqb, leb, length, get_or, Float}
 use Rattle.std.specs.Float.{nan}
 use Rattle.words.specs.Bits.{bit}
 use Rattle.net.specs.declared.Net.{Net as NetRecord}

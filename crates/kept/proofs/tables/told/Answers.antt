@@ -1,5 +1,4 @@
 -- A first slot that is a kinetic take of one token, or two such slots, and no kinetic take behind them. Assumes nothing.
-use borrow.Author.Rules.{rules}
 use native.Mathlib.Omega.{arith}
 use mathlib.Core.Path.{refl, sym, ◌∙◌}
 use mathlib.Core.Logic.{inl, inr}

@@ -1,7 +1,7 @@
 -- By the table: the counts of one place or two, or the walk. Assumes nothing.
 use borrow.Author.Rules.{rules}
 use native.Mathlib.Omega.{arith}
-use Prim.Native.Nat.{ℕ, ◌-◌, ◌*◌, ◌≤◌, ◌<◌}
+use Prim.Native.Nat.{◌-◌, ◌*◌, ◌≤◌, ◌<◌}
 use lib.ListN.{get_or}
 use lib.Ieee.{nan}
 use Rattle.net.specs.declared.Net.{Net as NetRecord}
