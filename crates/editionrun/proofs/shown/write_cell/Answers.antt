@@ -8,4 +8,4 @@ pub truncating_f64_to_u64-requires : goal.truncating_f64_to_u64-requires
 truncating_f64_to_u64-requires c =
     let x = c.args.x in
     let low = c.if-x.true in
-    (subst T (sym (above x low)) tt, subst T (sym (below x low c.if-x-2.true)) tt)
+    record { lower_bound = subst T (sym (above x low)) tt; upper_bound = subst T (sym (below x low c.if-x-2.true)) tt }

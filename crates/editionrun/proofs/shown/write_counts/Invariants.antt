@@ -3,7 +3,7 @@ use Rattle.std.proofs.Common.{◌-◌, ◌≤◌, rules}
 use Rattle.editionrun.proofs.shown.write_counts.Given as goal
 
 abbrev pub invariant-loop-p : goal.invariant-loop-p
-invariant-loop-p l = p ≤ 32
+invariant-loop-p l = l.p ≤ 32
 
 abbrev pub decreases-loop-p : goal.decreases-loop-p
-decreases-loop-p l = 32 - p
+decreases-loop-p l = 32 - l.p
