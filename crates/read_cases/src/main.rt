@@ -4,126 +4,136 @@
 
 ghost use Rattle.std.specs.Prelude.{◌≡◌, ◌<◌, ◌≤◌, length};
 
-use libc::{STDIN_FILENO, STDOUT_FILENO};
 use net::Net;
 use net_text::{Judged, RunLine};
+use std::io::{self, BufReader, Read};
 
-fn word(text: &[u8]) {
-    io::write_all(STDOUT_FILENO, text);
+fn word(rt: &impl Print, text: &[u8]) -> io::Result<()> {
+    rt.write_all(text)
 }
 
-fn number(n: u64) {
-    word(b" ");
-    io::print_decimal(STDOUT_FILENO, n);
+fn number(rt: &impl Print, n: u64) -> io::Result<()> {
+    print!(rt; " {n}")
 }
 
-fn pattern(bits: u64) {
-    word(b" ");
-    io::print_hex(STDOUT_FILENO, bits, 16);
+fn pattern(rt: &impl Print, bits: u64) -> io::Result<()> {
+    print!(rt; " {bits:016x}")
 }
 
-fn float(x: f64) {
+fn float(rt: &impl Print, x: f64) -> io::Result<()> {
     if x != x {
-        word(b" nan");
+        word(rt, b" nan")
     } else {
-        pattern(f64::to_bits(x));
+        pattern(rt, f64::to_bits(x))
     }
 }
 
 // The label of place p, n bytes of those that are its own.
-fn name(label: &[u8; 512], p: usize, n: usize)
+fn name(rt: &impl Print, label: &[u8; 512], p: usize, n: usize) -> io::Result<()>
     requires { p < 32 }
 {
     let bytes: &[u8] = label;
-    word(b" ");
+    word(rt, b" ")?;
     if n <= 16 {
         let from = 16 * p;
         let end = from + n;
-        word(&bytes[from..end]);
+        word(rt, &bytes[from..end])?;
     }
+    Ok(())
 }
 
 fn places(
+    rt: &impl Print,
     n: usize,
     initial: [u64; 32],
     capacity: [u64; 32],
     label: [u8; 512],
     lengths: [usize; 32],
-) {
+) -> io::Result<()> {
     for p in 0..32usize {
         if p < n {
-            number(initial[p]);
-            number(capacity[p]);
-            name(&label, p, lengths[p]);
+            number(rt, initial[p])?;
+            number(rt, capacity[p])?;
+            name(rt, &label, p, lengths[p])?;
         }
     }
+    Ok(())
 }
 
 // The arcs of the transition whose slots begin at base.
-fn arcs(n: usize, base: usize, kind: [u64; 1024], place: [usize; 1024], weight: [u64; 1024])
+fn arcs(
+    rt: &impl Print,
+    n: usize,
+    base: usize,
+    kind: [u64; 1024],
+    place: [usize; 1024],
+    weight: [u64; 1024],
+) -> io::Result<()>
     requires { base ≤ 1008 }
 {
     for i in 0..16usize {
         if i < n {
             let a = base + i;
-            number(kind[a]);
-            number(place[a] as u64);
-            number(weight[a]);
+            number(rt, kind[a])?;
+            number(rt, place[a] as u64)?;
+            number(rt, weight[a])?;
         }
     }
+    Ok(())
 }
 
-fn transition(net: Net, j: usize)
+fn transition(rt: &impl Print, net: Net, j: usize) -> io::Result<()>
     requires { j < 64 }
 {
-    float(net.rate[j]);
-    float(net.delay[j]);
+    float(rt, net.rate[j])?;
+    float(rt, net.delay[j])?;
     let n = net.arcs[j];
-    number(n as u64);
+    number(rt, n as u64)?;
     let kind = net.kind;
     let place = net.place;
     let weight = net.weight;
-    arcs(n, 16 * j, kind, place, weight);
+    arcs(rt, n, 16 * j, kind, place, weight)
 }
 
-fn transitions(net: Net) {
+fn transitions(rt: &impl Print, net: Net) -> io::Result<()> {
     let n = net.transitions;
     for j in 0..64usize {
         if j < n {
-            transition(net, j);
+            transition(rt, net, j)?;
         }
     }
+    Ok(())
 }
 
-fn given(net: Net, run: RunLine) {
-    word(b"given");
-    number(net.places as u64);
-    number(net.transitions as u64);
+fn given(rt: &impl Print, net: Net, run: RunLine) -> io::Result<()> {
+    word(rt, b"given")?;
+    number(rt, net.places as u64)?;
+    number(rt, net.transitions as u64)?;
     let initial = net.initial;
     let capacity = net.capacity;
     let label = net.label;
     let lengths = net.lengths;
-    places(net.places, initial, capacity, label, lengths);
-    transitions(net);
-    number(run.samples);
-    number(run.realizations);
-    number(run.seed);
-    pattern(run.horizon);
-    word(b"\n");
+    places(rt, net.places, initial, capacity, label, lengths)?;
+    transitions(rt, net)?;
+    number(rt, run.samples)?;
+    number(rt, run.realizations)?;
+    number(rt, run.seed)?;
+    pattern(rt, run.horizon)?;
+    word(rt, b"\n")
 }
 
-fn answer(text: &[u8]) {
+fn answer(rt: &impl Print, text: &[u8]) -> io::Result<()> {
     let r = net_text::read_net(text);
     let judged = r.judged;
     let net = r.net;
     let run = r.run;
     match judged {
-        Judged::Given => given(net, run),
+        Judged::Given => given(rt, net, run),
         Judged::Refused(c, line) => {
-            word(b"refused");
-            number(c);
-            number(line);
-            word(b"\n");
+            word(rt, b"refused")?;
+            number(rt, c)?;
+            number(rt, line)?;
+            word(rt, b"\n")
         }
     }
 }
@@ -153,31 +163,32 @@ fn five(s: &[u8; 5]) -> usize
 }
 
 // Answers the case at the front of a batch; how many bytes it took, none where there is no whole case.
-fn one_case(batch: &[u8]) -> usize {
+fn one_case(rt: &impl Print, batch: &[u8]) -> io::Result<usize> {
     if batch.len() < 6 {
-        return 0;
+        return Ok(0);
     }
     let size = five(&[batch[0], batch[1], batch[2], batch[3], batch[4]]);
     let end = 6 + size;
     if batch.len() < end {
-        return 0;
+        return Ok(0);
     }
-    answer(&batch[6..end]);
-    end
+    answer(rt, &batch[6..end])?;
+    Ok(end)
 }
 
-fn all_cases(batch: &[u8]) {
+fn all_cases(rt: &impl Print, batch: &[u8]) -> io::Result<()> {
     let mut at: usize = 0;
     while at < batch.len() {
-        let taken = one_case(&batch[at..]);
+        let taken = one_case(rt, &batch[at..])?;
         if taken == 0 {
-            return;
+            return Ok(());
         }
         if batch.len() - at < taken {
-            return;
+            return Ok(());
         }
         at += taken;
     }
+    Ok(())
 }
 
 // Room for a batch.
@@ -187,8 +198,24 @@ fn room() -> [u8; 131072]
     [0; 131072]
 }
 
-fn main() {
+// Reads until the bytes are full, the input ends or a read fails; how many were read.
+fn read_full(input: &mut impl Read, text: &mut [u8]) -> usize
+    ensures { result ≤ length text.new }
+{
+    let mut done = 0usize;
+    while done < text.len() {
+        let n = input.read(&mut text[done..]).unwrap_or(0);
+        if n == 0 {
+            return done;
+        }
+        done += n;
+    }
+    done
+}
+
+fn main(rt: HostRuntime) -> io::Result<()> {
+    let mut input = BufReader::new(rt.alloc(), rt.reader())?;
     let mut buffer = room();
-    let n = io::read_full(STDIN_FILENO, &mut buffer);
-    all_cases(&buffer[..n]);
+    let n = read_full(&mut input, &mut buffer);
+    all_cases(&rt, &buffer[..n])
 }

@@ -4,4 +4,4 @@ use Rattle.portable_log.proofs.Laws.{no_nan}
 use Rattle.read_cases.proofs.float.Goals as goal
 
 pub float_to_bits-x : goal.float_to_bits-x
-float_to_bits-x c = no_nan c.args.x c.if-x.false
+float_to_bits-x g c = no_nan c.args.x c.if-x.false
