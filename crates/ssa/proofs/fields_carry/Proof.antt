@@ -68,7 +68,7 @@ start2 c = start1 c.before.before
 
 -- behind the tests of the state stands that of the new net, and behind those of the list that of the state
 abbrev new-passed : tie.After-state_fault → tie.In_default-fields_fault
-new-passed c = c.before.before.before.before.before.before.before
+new-passed c = c.before.before.before.before.before
 
 abbrev state-passed : tie.After-list_fault → tie.In_default-state_fault
 state-passed c = c.before.before
@@ -148,7 +148,7 @@ enum-told-2 : tie.Need-enum_told-in_default-fields_fault
 enum-told-2 c = search rules
 
 state-fault-requires : tie.Need-state_fault-requires
-state-fault-requires c κs = let o = c.before.before.before.before.before.before.before.before in (sound (old_at (start1 o)) (accepted o)).places
+state-fault-requires c κs = let o = c.before.before.before.before.before.before in (sound (old_at (start1 o)) (accepted o)).places
 
 enum-known-c-3 : tie.Need-enum_known-c-in-Refused-state_fault
 enum-known-c-3 c = search rules
@@ -167,7 +167,7 @@ returns-3 c =
     let a = s.args in
     c.turned_down-in-Refused-state_fault.ensures a.old_places a.table.now
     ∙ by_state (old_at s) (new_at s) (pairs_at s) (standing_of a.old_places (handed_at s)) a.instants.now a.named a.table.now
-    (accepted n.before.before.before) (accepted_new n) (sym (by_state_of f) ∙ ap meaning c.in-Refused-state_fault.is)
+    (accepted n.before.before) (accepted_new n) (sym (by_state_of f) ∙ ap meaning c.in-Refused-state_fault.is)
 
 enum-told-3 : tie.Need-enum_told-in_default-state_fault
 enum-told-3 c = search rules
@@ -179,7 +179,7 @@ list-fault-requires c κs =
     let s = start2 n in
     let a = s.args in (
       accepted_new n,
-      (sound (old_at s) (accepted n.before.before.before)).transitions,
+      (sound (old_at s) (accepted n.before.before)).transitions,
       (carries a.old_places (handed_at s) a.instants.now a.table.now (plain p)).few,
     )
 
@@ -196,12 +196,12 @@ returns-4 : tie.Need-returns-in-Refused-list_fault
 returns-4 c =
     let f = c.before.before in
     let p = state-passed f in
-    let n = new-passed p.before.before in
+    let n = new-passed p.before in
     let s = start2 n in
     let a = s.args in
     c.turned_down-in-Refused-list_fault.ensures a.old_places a.table.now
     ∙ by_list (old_at s) (new_at s) (pairs_at s) (standing_of a.old_places (handed_at s)) a.instants.now a.named a.table.now
-    (accepted n.before.before.before) (accepted_new n) (plain p) (sym (by_words f) ∙ ap meaning c.in-Refused-list_fault.is)
+    (accepted n.before.before) (accepted_new n) (plain p) (sym (by_words f) ∙ ap meaning c.in-Refused-list_fault.is)
 
 enum-told-4 : tie.Need-enum_told-in_default-list_fault
 enum-told-4 c = search rules
@@ -210,10 +210,10 @@ accepted-carry-requires : tie.Need-accepted_carry-requires
 accepted-carry-requires c κs =
     let l = c.before in
     let p = state-passed l.before in
-    let n = new-passed p.before.before in
+    let n = new-passed p.before in
     let s = start2 n in
     let a = s.args in
-    let few = (sound (old_at s) (accepted n.before.before.before)).transitions in (
+    let few = (sound (old_at s) (accepted n.before.before)).transitions in (
       accepted_new n,
       subst (λ (k : ℕ). Passes k (readable (new_at s)) (pairs_at s) (handed_at s) a.instants.now a.table.now) (as_many l)
           (plain p, (readable (old_at s), places_length (old_at s), omega (arith, few, transitions_length (old_at s)), listed l)),
@@ -227,13 +227,13 @@ returns-5 c =
     let r = c.before.before in
     let l = r.before.before in
     let p = state-passed l.before in
-    let n = new-passed p.before.before in
+    let n = new-passed p.before in
     let s = start2 n in
     let a = s.args in
     answers_same (readable (new_at s)) (pairs_at s) (handed_at s) a.instants.now a.table.now a.named r.accepted_carry.result (as_many l)
     r.accepted_carry.ensures
     ∙ by_run (old_at s) (new_at s) (pairs_at s) (standing_of a.old_places (handed_at s)) a.instants.now a.named a.table.now
-    (accepted n.before.before.before) (accepted_new n) (plain p) (listed l)
+    (accepted n.before.before) (accepted_new n) (plain p) (listed l)
 
 pub fields_carry_spec : {M : Type 1} → statement M
 fields_carry_spec =
