@@ -159,7 +159,7 @@ module _ (n : Net) (places from : ℕ) (c : Carried) (t : List Float) (w : Plays
   pub shown_whole : a.end ≢ halted → length a.shown ≡ length c.instants
   shown_whole e =
       let A = answered 256 n c h a q in
-      let all = shows_all 256 n c h A.ending rise A.Ended-so (λ z. e (ap (λ (b : Onward). b.end) A.is ∙ z)) in
+      let all = shows_all 256 n c h A.ending rise A.ended_so (λ z. e (ap (λ (b : Onward). b.end) A.is ∙ z)) in
       omega (
         arith,
         ap (λ (b : Onward). length b.shown) A.is ∙ ap length all,
