@@ -17,7 +17,6 @@ use Rattle.ssa.proofs.until.handed.Goals as goal
 
 queued : {ats : List Float} {owners : List ℕ} {r : Ring} {q : Queue} → HandedOut ats owners r q
     → timers_in q.ats q.whos q.takens q.len ≡ timers_of ats owners r
-
 queued {q = q} h = let e : q.len ≡ min q.len 256 = omega (arith, h.long) in ap (from (waiting q) 0) e ∙ h.list
 
 pub returns : goal.returns
