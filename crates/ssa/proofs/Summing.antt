@@ -32,9 +32,7 @@ use Rattle.playing.specs.declared.PathEnd.{PathEnd}
 use Rattle.playing.specs.declared.PathEnd.TheVariants.{Quiet, Spent, Reached, Halted, Refused}
 use Rattle.ssa.specs.declared.PathAnswer.{PathAnswer}
 use Rattle.ssa.specs.declared.members.Turn.{Turn}
-use Rattle.ssa.specs.declared.members.Turn.TheVariants as Turn
 use Rattle.ssa.specs.declared.members.Summed.{Summed}
-use Rattle.ssa.specs.declared.members.Summed.TheVariants as Summed
 use Rattle.playing.specs.Cells.{rows_from, table_of, cleared}
 use Rattle.ssa.specs.Path as Path
 use Rattle.ssa.specs.Path.{end_of, call_of, played}

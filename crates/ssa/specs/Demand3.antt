@@ -11,7 +11,7 @@ use Rattle.net.specs.Readable.{readable}
 use Rattle.rng.specs.State.{State as Generator}
 use Rattle.rules.specs.Propensity.{float}
 use Rattle.rules.specs.Moves.{initial_counts, put_at, taken_at}
-use Rattle.rules.specs.Step.{Answer, given}
+use Rattle.rules.specs.Step.{given}
 use Rattle.rules.specs.Run.{End, trace}
 use Rattle.rules.specs.Shown.{run_of}
 use Rattle.rules.specs.Demand3.{instant, earlier, EachAllowed}

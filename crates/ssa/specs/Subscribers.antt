@@ -3,18 +3,16 @@
 -- As in demand 3, `path` (src/lib.rt) promises for every input that its answer and its table are those of `called` (Path). n is any net record, ws a list of
 -- weights by which every transition of it balances, g any generator state. The theorem is proofs/Subscribers, subscribers-kept.
 use Rattle.std.specs.Prelude.{ℕ, ◌+◌, ◌^◌, ◌≤◌, ◌<◌, ◌≡◌, List, ◌++◌, length, Float}
-use Rattle.std.proofs.Math.Option.{none}
 use Rattle.net.specs.declared.Net.{Net as NetRecord}
 use Rattle.net.specs.Net.{Marking, held}
 use Rattle.net.specs.Readable.{readable}
 use Rattle.rng.specs.State.{State as Generator}
 use Rattle.rules.specs.Propensity.{float}
 use Rattle.rules.specs.Moves.{Entry, initial_counts}
-use Rattle.rules.specs.Step.{given}
 use Rattle.rules.specs.Run.{trace}
 use Rattle.rules.specs.Shown.{run_of}
 use Rattle.rules.specs.Moments.{start, moment_after}
-use Rattle.rules.specs.Balance.{balance, counts_weigh, weight_of, starts_of, completions_of, running_of, AllCompleted}
+use Rattle.rules.specs.Balance.{counts_weigh, weight_of, starts_of, completions_of, running_of, AllCompleted}
 use Rattle.rules.specs.Demand3.{earlier}
 use Rattle.ssa.specs.Path.{called}
 use Rattle.ssa.specs.Demand3.{Answered, cell}

@@ -13,9 +13,7 @@ pub use Rattle.averages.specs.Members.{paths_from}
 use Rattle.playing.specs.declared.PathEnd.{PathEnd}
 use Rattle.playing.specs.declared.PathEnd.TheVariants.{Quiet, Spent, Reached, Halted, Refused}
 use Rattle.ssa.specs.declared.members.Turn.{Turn}
-use Rattle.ssa.specs.declared.members.Turn.TheVariants as Turn
 use Rattle.ssa.specs.declared.members.Summed.{Summed}
-use Rattle.ssa.specs.declared.members.Summed.TheVariants as Summed
 use Rattle.engine.specs.Engine.{Tidy}
 use Rattle.engine.specs.Limits.{Limits}
 use Rattle.playing.specs.Keeping.{Tables}

@@ -1,7 +1,6 @@
 -- Each answer is that of the call by the tests that led to it (Accepted). A net without a fault has at most 32 places, so the product of places and
 -- instants fits. Assumes nothing.
 use borrow.Author.Rules.{rules}
-use borrow.Author.Tests.{not-true, not-false}
 use mathlib.Core.Path.{◌≡◌, sym, ap, ◌∙◌}
 use mathlib.Core.Bool.{true}
 use mathlib.Core.Option.{none}

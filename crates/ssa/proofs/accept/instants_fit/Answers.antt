@@ -1,11 +1,6 @@
 -- What is left to test of the instants, from instant i on, is the whole test. Assumes nothing.
-use borrow.Author.Rules.{rules}
-use borrow.Author.Tests.{not-true, not-false}
 use native.Mathlib.Omega.{arith}
-use mathlib.Core.Path.{◌≡◌, sym, ◌∙◌}
-use Prim.Native.Nat.{◌-◌}
-use lib.ListN.{drop}
-use Rattle.rules.specs.Shown.{rising, instants_fit}
+use mathlib.Core.Path.{sym, ◌∙◌}
 use Rattle.ssa.proofs.Accepted.{too_few, too_many, few_enough, instants_stop, instants_go, instants_end}
 use Rattle.ssa.proofs.accept.instants_fit.Goals as goal
 

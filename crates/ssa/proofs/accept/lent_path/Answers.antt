@@ -1,5 +1,4 @@
 -- The tables that the run asks for are those that the calls before it make. Assumes nothing.
-use borrow.Author.Rules.{rules}
 use mathlib.Core.Path.{◌∙◌}
 use Rattle.net.specs.Record.{lent}
 use Rattle.engine.proofs.Lists.{initial_is}

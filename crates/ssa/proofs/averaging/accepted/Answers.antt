@@ -1,5 +1,4 @@
 -- The tidied net reads as the net, and has its places and initial counts; it is lent without its labels. Assumes nothing.
-use borrow.Author.Rules.{rules}
 use Rattle.net.proofs.Sound.{sound}
 use Rattle.engine.proofs.Tidying.{tidy_unlabelled}
 use Rattle.ssa.proofs.Accepted.{first_small, same_room}

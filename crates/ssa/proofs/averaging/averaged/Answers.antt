@@ -1,5 +1,4 @@
 -- The sums start from cleared cells; what is made of them is the answer (proofs/Summing, stopped_call and finished-call). Assumes nothing.
-use borrow.Author.Rules.{rules}
 use Prim.Native.Nat.{◌*◌}
 use lib.ListN.{length}
 use Rattle.net.specs.Readable.{readable}

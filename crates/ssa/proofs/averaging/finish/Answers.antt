@@ -1,5 +1,4 @@
 -- Each return rewrites the definition by the test of the realizations. A whole number of at most 65,535 is a float. Assumes nothing.
-use borrow.Author.Rules.{rules}
 use borrow.Author.Tests.{eq-eqb, ne_eqb}
 use Prim.Native.Nat.{◌^◌}
 use native.Mathlib.Omega.{arith}

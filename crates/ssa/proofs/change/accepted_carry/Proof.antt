@@ -1,7 +1,7 @@
 -- A path that passes its tests brings what the run asks for (Brought): its counts in a fresh array, its timers by their new numbers in the ring, and its
 -- tokens. What the run leaves is the answer of the rules over the renamed path (Continued).
 use borrow.Author.Rules.{rules}
-use mathlib.Core.Path.{◌≡◌, refl, sym, ◌∙◌}
+use mathlib.Core.Path.{◌≡◌, refl, ◌∙◌}
 use mathlib.Core.List.{List, map}
 use native.Mathlib.Omega.{arith}
 use lib.ListN.{length}

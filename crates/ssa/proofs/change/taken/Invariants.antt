@@ -1,8 +1,6 @@
 -- The loop adds what the timers before timer i took; with what is left it is the whole, and each took at most 16,000,000 (Changed).
-use borrow.Author.Rules.{rules}
-use native.Mathlib.Omega.{arith}
 use Prim.Native.Nat.{◌-◌}
-use Rattle.ssa.proofs.Changed.{Adding, adding_none, adding_all, adding_few, adding_more}
+use Rattle.ssa.proofs.Changed.{Adding}
 use Rattle.ssa.proofs.change.taken.Given as goal
 
 abbrev pub invariant-loop-i : goal.invariant-loop-i

@@ -1,6 +1,5 @@
 -- A refused path leaves the sums alone; any other is added to both (proofs/Summing, turn-stops and turn-goes). Assumes nothing.
 use borrow.Enum.Refused.{opened}
-use borrow.Author.Rules.{rules}
 use native.Mathlib.Omega.{arith}
 use mathlib.Core.Path.{refl}
 use lib.ListN.{length}

@@ -1,5 +1,4 @@
 -- The tables that the run asks for are lent, the counts are made here, and the generator is that of the path's own seed. Assumes nothing.
-use borrow.Author.Rules.{rules}
 use mathlib.Core.Path.{ap, ◌∙◌}
 use Rattle.net.specs.Readable.{readable}
 use Rattle.net.specs.Record.{lent}

@@ -1,12 +1,10 @@
 -- The paths below k are added (proofs/Summing, SumsAt); a turn adds one more or ends it. The measure is what is left of them. Assumes nothing.
-use borrow.Author.Rules.{rules}
-use native.Mathlib.Omega.{arith}
 use Prim.Native.Nat.{◌-◌}
 use lib.ListN.{length}
 use Rattle.net.specs.Readable.{readable}
 use Rattle.net.specs.Record.{lent}
 use Rattle.ssa.specs.Summing.{drawn}
-use Rattle.ssa.proofs.Summing.{SumsAt, drawn_count, none_added, one_added, one_refused, all_added}
+use Rattle.ssa.proofs.Summing.{SumsAt}
 use Rattle.ssa.proofs.members.sum_paths.Given as goal
 
 abbrev pub invariant-loop-k : goal.invariant-loop-k

@@ -1,5 +1,4 @@
 -- The beginning shows the instants at most 0, and the run from there is the path's (proofs/Answered, path-answered).
-use borrow.Author.Rules.{rules}
 use native.Mathlib.Omega.{arith}
 use mathlib.Core.Path.{refl, ap, sym, subst, ◌∙◌}
 use mathlib.Core.Logic.{inl}

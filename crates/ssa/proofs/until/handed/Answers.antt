@@ -1,5 +1,4 @@
 -- A list that is handed out is the queue's (timers, HandedOut), which has at most 256 timers: so it is what the state says. Assumes nothing.
-use borrow.Author.Rules.{rules}
 use native.Mathlib.Omega.{arith}
 use mathlib.Core.Path.{◌≡◌, refl, ap, ◌∙◌}
 use mathlib.Core.List.{List}

@@ -1,6 +1,5 @@
 -- The tables that the run asks for are those that the calls before it make, and the run with the peak to go on with is the run with the peak that is
 -- carried. Assumes nothing.
-use borrow.Author.Rules.{rules}
 use native.Mathlib.Omega.{arith}
 use lib.ListN.{drop}
 use Rattle.playing.specs.Playing.{out_of}

@@ -1,5 +1,4 @@
 -- The answer of a call that is refused, with the state of a path that has not begun. Assumes nothing.
-use borrow.Author.Rules.{rules}
 use mathlib.Core.Path.{ap, ◌∙◌}
 use Rattle.ssa.specs.Halted.{Standing, turned_down}
 use Rattle.ssa.proofs.until.refused.Goals as goal
