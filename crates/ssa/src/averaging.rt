@@ -71,9 +71,9 @@ fn averaged<'a>(
 ) -> EnsembleAnswer
     requires { let net = lent places transitions initial.now capacity.now rate.now delay.now arcs.now kind.now place.now weight.now in Summing.Lent net limit.now rates.now ends.now guards.now timed heavy instants.now × (realizations ≤ 65_535) × (places * length instants.now ≤ length mean.old)
         × (places * length instants.now ≤ length deviation.old) × (places * length instants.now ≤ length path.old) }
-    ensures { let net = lent places transitions initial.now capacity.now rate.now delay.now arcs.now kind.now place.now weight.now in Ensemble.call_of result mean.exit.now deviation.new path.new
+    ensures { let net = lent places transitions initial.now capacity.now rate.now delay.now arcs.now kind.now place.now weight.now in Ensemble.call_of result mean.new deviation.new path.new
         ≡ Ensemble.tabulated places (length instants.now)
-        (record { mean = mean.entry.now; deviation = deviation.old; path = path.old })
+        (record { mean = mean.old; deviation = deviation.old; path = path.old })
         (Summing.paths_from (Summing.drawn (Record.readable net) seed instants.now steps) 0 realizations) }
 {
     let cells = places * instants.len();
@@ -140,8 +140,8 @@ fn lent_ensemble<'a>(
     requires { let net = lent places transitions initial.now capacity.now rate.now delay.now arcs.now kind.now place.now weight.now in Engine.Tidy net × ((p : ℕ) → p < places → get_or initial.now p 0 ≤ 2 ^ 53)
         × (Request.request_fault (record { samples = samples; realizations = realizations; seed = seed; horizon = horizon }) ≡ none)
         × (places * samples ≤ length mean.old) × (places * samples ≤ length deviation.old) × (places * samples ≤ length path.old) }
-    ensures { let net = lent places transitions initial.now capacity.now rate.now delay.now arcs.now kind.now place.now weight.now in Ensemble.call_of result mean.exit.now deviation.new path.new
-        ≡ Ensemble.tabulated places samples (record { mean = mean.entry.now; deviation = deviation.old; path = path.old })
+    ensures { let net = lent places transitions initial.now capacity.now rate.now delay.now arcs.now kind.now place.now weight.now in Ensemble.call_of result mean.new deviation.new path.new
+        ≡ Ensemble.tabulated places samples (record { mean = mean.old; deviation = deviation.old; path = path.old })
         (Ensemble.members_from (Record.readable net) (record { samples = samples; realizations = realizations; seed = seed; horizon = horizon }) 0 realizations) }
 {
     let mut limit = [0u64; 1024];
@@ -208,8 +208,8 @@ pub fn accepted(
 ) -> EnsembleAnswer
     requires { (Record.fault net ≡ none) × (Request.request_fault (record { samples = samples; realizations = realizations; seed = seed; horizon = horizon }) ≡ none)
         × (net.places * samples ≤ length mean.old) × (net.places * samples ≤ length deviation.old) × (net.places * samples ≤ length path.old) }
-    ensures { Ensemble.call_of result mean.exit.now deviation.new path.new ≡ Ensemble.tabulated net.places samples
-        (record { mean = mean.entry.now; deviation = deviation.old; path = path.old })
+    ensures { Ensemble.call_of result mean.new deviation.new path.new ≡ Ensemble.tabulated net.places samples
+        (record { mean = mean.old; deviation = deviation.old; path = path.old })
         (Ensemble.members_from (Record.readable net) (record { samples = samples; realizations = realizations; seed = seed; horizon = horizon }) 0 realizations) }
 {
     let n = slots::tidied(net);

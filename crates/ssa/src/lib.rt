@@ -466,9 +466,9 @@ pub fn ensemble(
     deviation: &mut [f64],
     path: &mut [f64],
 ) -> EnsembleAnswer
-    ensures { Ensemble.call_of result mean.exit.now deviation.new path.new
+    ensures { Ensemble.call_of result mean.new deviation.new path.new
         ≡ Ensemble.called net (record { samples = samples; realizations = realizations; seed = seed; horizon = horizon })
-        (record { mean = mean.entry.now; deviation = deviation.old; path = path.old }) }
+        (record { mean = mean.old; deviation = deviation.old; path = path.old }) }
 {
     if let Verdict::Refused(c) = net::test_net(net) {
         return EnsembleAnswer::TurnedDown(c);
