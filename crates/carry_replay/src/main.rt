@@ -16,90 +16,93 @@ use replay_io::{
 };
 use rng::Xoshiro256;
 use ssa::{Halted, Onward, PathEnd};
+use std::io::{self, BufReader, Read};
 use timers::queue::Queue;
 
-fn read_generator() -> Xoshiro256 {
-    let a = number();
-    let b = number();
-    let c = number();
-    let d = number();
+fn read_generator(input: &mut impl Read) -> Xoshiro256 {
+    let a = number(input);
+    let b = number(input);
+    let c = number(input);
+    let d = number(input);
     Xoshiro256::from_state([a, b, c, d])
 }
 
-fn read_instants(n: usize, instants: &mut [f64; 2048]) {
+fn read_instants(input: &mut impl Read, n: usize, instants: &mut [f64; 2048]) {
     for i in 0..2048usize {
         if i < n {
-            instants[i] = float_of(number());
+            instants[i] = float_of(number(input));
         }
     }
 }
 
-fn read_pairs(n: usize, pairs: &mut [u64; 128]) {
+fn read_pairs(input: &mut impl Read, n: usize, pairs: &mut [u64; 128]) {
     for i in 0..128usize {
         if i < n {
-            pairs[i] = number();
+            pairs[i] = number(input);
         }
     }
 }
 
-fn write_end(end: PathEnd) {
+fn write_end(rt: &impl Print, end: PathEnd) -> io::Result<()> {
     match end {
-        PathEnd::Quiet => write(b"quiet"),
-        PathEnd::Spent => write(b"spent"),
-        PathEnd::Reached => write(b"reached"),
-        PathEnd::Halted => write(b"halted"),
+        PathEnd::Quiet => write(rt, b"quiet"),
+        PathEnd::Spent => write(rt, b"spent"),
+        PathEnd::Reached => write(rt, b"reached"),
+        PathEnd::Halted => write(rt, b"halted"),
         PathEnd::Refused(c) => {
-            write(b"refused");
-            write_number(c);
+            write(rt, b"refused")?;
+            write_number(rt, c)
         }
     }
 }
 
-fn write_generator(generator: Xoshiro256) {
+fn write_generator(rt: &impl Print, generator: Xoshiro256) -> io::Result<()> {
     let s = generator.state();
-    write_word(s[0]);
-    write_word(s[1]);
-    write_word(s[2]);
-    write_word(s[3]);
+    write_word(rt, s[0])?;
+    write_word(rt, s[1])?;
+    write_word(rt, s[2])?;
+    write_word(rt, s[3])
 }
 
-fn write_counts(counts: &[u64; 32]) {
+fn write_counts(rt: &impl Print, counts: &[u64; 32]) -> io::Result<()> {
     for p in 0..32usize {
-        write_number(counts[p]);
+        write_number(rt, counts[p])?;
     }
+    Ok(())
 }
 
-fn write_timers(q: Queue) {
-    write_number(q.len as u64);
+fn write_timers(rt: &impl Print, q: Queue) -> io::Result<()> {
+    write_number(rt, q.len as u64)?;
     for i in 0..256usize {
         if i < q.len {
-            write_float(q.ats[i]);
-            write_number(q.whos[i] as u64);
-            write_number(q.takens[i]);
+            write_float(rt, q.ats[i])?;
+            write_number(rt, q.whos[i] as u64)?;
+            write_number(rt, q.takens[i])?;
         }
     }
+    Ok(())
 }
 
-fn write_path(s: Halted) {
-    write_number(s.steps);
-    write_number(s.limit);
-    write_number(s.peak);
-    write_number(s.rounded);
-    write_number(s.recorded as u64);
-    write_float(s.clock);
+fn write_path(rt: &impl Print, s: Halted) -> io::Result<()> {
+    write_number(rt, s.steps)?;
+    write_number(rt, s.limit)?;
+    write_number(rt, s.peak)?;
+    write_number(rt, s.rounded)?;
+    write_number(rt, s.recorded as u64)?;
+    write_float(rt, s.clock)?;
     let generator = s.generator;
-    write_generator(generator);
-    write_counts(&s.counts);
+    write_generator(rt, generator)?;
+    write_counts(rt, &s.counts)?;
     let q = s.timers;
-    write_timers(q);
+    write_timers(rt, q)
 }
 
-fn write_answer(r: Onward) {
+fn write_answer(rt: &impl Print, r: Onward) -> io::Result<()> {
     let end = r.end;
-    write_end(end);
-    write_number(r.settled);
+    write_end(rt, end)?;
+    write_number(rt, r.settled)?;
     let s = r.state;
-    write_path(s);
+    write_path(rt, s)
 }
 
 // A number, or the other if it is larger.
@@ -144,6 +147,7 @@ fn carry(
 }
 
 fn name_and_write(
+    rt: &impl Print,
     net: Net,
     generator: Xoshiro256,
     n: usize,
@@ -151,13 +155,14 @@ fn name_and_write(
     limit: u64,
     named: u64,
     table: &mut [f64; 2048],
-) -> Halted {
+) -> io::Result<Halted> {
     let r = name(net, generator, n, instants, limit, named, table);
-    write_answer(r);
-    r.state
+    write_answer(rt, r)?;
+    Ok(r.state)
 }
 
 fn carry_and_write(
+    rt: &impl Print,
     old: Net,
     new: Net,
     k: usize,
@@ -167,45 +172,53 @@ fn carry_and_write(
     instants: &[f64; 2048],
     named: u64,
     table: &mut [f64; 2048],
-) {
-    write_answer(carry(old, new, k, pairs, path, n, instants, named, table));
+) -> io::Result<()> {
+    write_answer(
+        rt,
+        carry(old, new, k, pairs, path, n, instants, named, table),
+    )
 }
 
-fn play(places: usize) {
-    let old = read_net(places);
-    let generator = read_generator();
-    let limit = number();
-    let named = number();
-    let n = size();
+fn play(rt: &impl Print, input: &mut impl Read, places: usize) -> io::Result<()> {
+    let old = read_net(input, places);
+    let generator = read_generator(input);
+    let limit = number(input);
+    let named = number(input);
+    let n = size(input);
     let mut instants = [0.0f64; 2048];
-    read_instants(n, &mut instants);
+    read_instants(input, n, &mut instants);
     let mut table = [7.0f64; 2048];
-    let path = name_and_write(old, generator, n, &instants, limit, named, &mut table);
-    write_cells(shown(places, n), &table);
-    write(b"\n");
-    let new = read_net(size());
-    let k = size();
+    let path = name_and_write(rt, old, generator, n, &instants, limit, named, &mut table)?;
+    write_cells(rt, shown(places, n), &table)?;
+    write(rt, b"\n")?;
+    let new_places = size(input);
+    let new = read_net(input, new_places);
+    let k = size(input);
     let mut pairs = [0u64; 128];
-    read_pairs(k, &mut pairs);
-    let more = number();
-    carry_and_write(old, new, k, &pairs, path, n, &instants, more, &mut table);
-    write_cells(shown(places, n), &table);
-    write(b"\n");
+    read_pairs(input, k, &mut pairs);
+    let more = number(input);
+    carry_and_write(
+        rt, old, new, k, &pairs, path, n, &instants, more, &mut table,
+    )?;
+    write_cells(rt, shown(places, n), &table)?;
+    write(rt, b"\n")
 }
 
 // Plays a case, if there is one.
-fn turn() -> bool {
-    let places = next_number();
+fn turn(rt: &impl Print, input: &mut impl Read) -> io::Result<bool> {
+    let places = next_number(input);
     if !places.there {
-        return false;
+        return Ok(false);
     }
-    play(places.value as usize);
-    true
+    play(rt, input, places.value as usize)?;
+    Ok(true)
 }
 
-fn main() {
+fn main(rt: HostRuntime) -> io::Result<()> {
+    let mut input = BufReader::new(rt.alloc(), rt.reader())?;
     let mut turns = u64::MAX;
-    while turns > 0 && turn() {
+    while turns > 0 && turn(&rt, &mut input)? {
         turns -= 1;
     }
+    Ok(())
 }

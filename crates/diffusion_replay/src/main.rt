@@ -10,46 +10,48 @@ use net::Net;
 use net_text::float_of;
 use replay_io::{next_number, number, read_net, shown, write, write_cells, write_number};
 use sde::DiffusionAnswer;
+use std::io::{self, BufReader, Read};
 
-fn write_flag(b: bool) {
+fn write_flag(rt: &impl Print, b: bool) -> io::Result<()> {
     if b {
-        write_number(1);
+        write_number(rt, 1)
     } else {
-        write_number(0);
+        write_number(rt, 0)
     }
 }
 
-fn write_gates(g: Gates) {
-    write_number(g.reads);
-    write_number(g.inhibitors);
-    write_number(g.nonkinetic);
-    write_number(g.bounded);
-    write_flag(g.delayed);
+fn write_gates(rt: &impl Print, g: Gates) -> io::Result<()> {
+    write_number(rt, g.reads)?;
+    write_number(rt, g.inhibitors)?;
+    write_number(rt, g.nonkinetic)?;
+    write_number(rt, g.bounded)?;
+    write_flag(rt, g.delayed)
 }
 
-fn write_answer(answer: DiffusionAnswer) {
+fn write_answer(rt: &impl Print, answer: DiffusionAnswer) -> io::Result<()> {
     match answer {
         DiffusionAnswer::Averaged(deviates) => {
-            write(b"averaged");
-            write_flag(deviates);
+            write(rt, b"averaged")?;
+            write_flag(rt, deviates)
         }
         DiffusionAnswer::Gated(g) => {
-            write(b"gated");
-            write_gates(g);
+            write(rt, b"gated")?;
+            write_gates(rt, g)
         }
         DiffusionAnswer::TurnedDown(c) => {
-            write(b"refused");
-            write_number(c);
+            write(rt, b"refused")?;
+            write_number(rt, c)
         }
         DiffusionAnswer::Stopped(c, k) => {
-            write(b"stopped");
-            write_number(c);
-            write_number(k);
+            write(rt, b"stopped")?;
+            write_number(rt, c)?;
+            write_number(rt, k)
         }
     }
 }
 
 fn answer(
+    rt: &impl Print,
     net: Net,
     samples: u64,
     realizations: u64,
@@ -58,20 +60,24 @@ fn answer(
     mean: &mut [f64],
     deviation: &mut [f64],
     path: &mut [f64],
-) {
-    write_answer(sde::diffuse(
-        net,
-        samples,
-        realizations,
-        seed,
-        horizon,
-        mean,
-        deviation,
-        path,
-    ));
+) -> io::Result<()> {
+    write_answer(
+        rt,
+        sde::diffuse(
+            net,
+            samples,
+            realizations,
+            seed,
+            horizon,
+            mean,
+            deviation,
+            path,
+        ),
+    )
 }
 
 fn answer_in(
+    rt: &impl Print,
     net: Net,
     samples: u64,
     realizations: u64,
@@ -80,8 +86,9 @@ fn answer_in(
     mean: &mut [f64; 2048],
     deviation: &mut [f64; 2048],
     path: &mut [f64; 2048],
-) {
+) -> io::Result<()> {
     answer(
+        rt,
         net,
         samples,
         realizations,
@@ -90,19 +97,20 @@ fn answer_in(
         mean,
         deviation,
         path,
-    );
+    )
 }
 
-fn play(places: usize) {
-    let net = read_net(places);
-    let samples = number();
-    let realizations = number();
-    let seed = number();
-    let horizon = float_of(number());
+fn play(rt: &impl Print, input: &mut impl Read, places: usize) -> io::Result<()> {
+    let net = read_net(input, places);
+    let samples = number(input);
+    let realizations = number(input);
+    let seed = number(input);
+    let horizon = float_of(number(input));
     let mut mean = [7.0f64; 2048];
     let mut deviation = [7.0f64; 2048];
     let mut path = [7.0f64; 2048];
     answer_in(
+        rt,
         net,
         samples,
         realizations,
@@ -111,27 +119,29 @@ fn play(places: usize) {
         &mut mean,
         &mut deviation,
         &mut path,
-    );
+    )?;
     let cells = shown(places, samples as usize);
-    write_cells(cells, &mean);
-    write_cells(cells, &deviation);
-    write_cells(cells, &path);
-    write(b"\n");
+    write_cells(rt, cells, &mean)?;
+    write_cells(rt, cells, &deviation)?;
+    write_cells(rt, cells, &path)?;
+    write(rt, b"\n")
 }
 
 // Plays a case, if there is one.
-fn turn() -> bool {
-    let places = next_number();
+fn turn(rt: &impl Print, input: &mut impl Read) -> io::Result<bool> {
+    let places = next_number(input);
     if !places.there {
-        return false;
+        return Ok(false);
     }
-    play(places.value as usize);
-    true
+    play(rt, input, places.value as usize)?;
+    Ok(true)
 }
 
-fn main() {
+fn main(rt: HostRuntime) -> io::Result<()> {
+    let mut input = BufReader::new(rt.alloc(), rt.reader())?;
     let mut turns = u64::MAX;
-    while turns > 0 && turn() {
+    while turns > 0 && turn(&rt, &mut input)? {
         turns -= 1;
     }
+    Ok(())
 }

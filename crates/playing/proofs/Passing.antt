@@ -16,7 +16,6 @@ use Rattle.net.specs.declared.Net.{Net as NetRecord}
 use Rattle.net.specs.Net.{Marking, timed}
 use Rattle.net.specs.Readable.{readable}
 use Rattle.net.proofs.Lengths.{transitions_length}
-use Rattle.rules.specs.Moves.{transition}
 use Rattle.rules.specs.Timers.{Timer}
 use Rattle.rules.specs.Step.{Answer, Starts, passes}
 use Rattle.engine.specs.Guards.{Quiet}

@@ -6,4 +6,4 @@ use lib.Seq.{length-take-le}
 use Rattle.carry_replay.proofs.name.Goals as goal
 
 pub slice_bounds-path_until-end : goal.slice_bounds-path_until-end
-slice_bounds-path_until-end c = sym (length-take-le c.at_most-m.result c.before.args.instants.now (omega (arith, c.at_most-m.ensures)))
+slice_bounds-path_until-end c = sym (length-take-le c.at_most-m.result c.args.instants.now (omega (arith, c.at_most-m.ensures)))

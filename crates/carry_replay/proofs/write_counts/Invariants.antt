@@ -4,7 +4,7 @@ use Prim.Native.Nat.{◌-◌, ◌≤◌}
 use Rattle.carry_replay.proofs.write_counts.Given as goal
 
 abbrev pub invariant-loop-p : goal.invariant-loop-p
-invariant-loop-p l = l.p ≤ 32
+invariant-loop-p g l = l.p ≤ 32
 
 abbrev pub decreases-loop-p : goal.decreases-loop-p
-decreases-loop-p l = 32 - l.p
+decreases-loop-p g l = 32 - l.p

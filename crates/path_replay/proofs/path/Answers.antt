@@ -6,4 +6,4 @@ use lib.Seq.{length-take-le}
 use Rattle.path_replay.proofs.path.Goals as goal
 
 pub slice_bounds-path-end : goal.slice_bounds-path-end
-slice_bounds-path-end c = sym (length-take-le c.before.args.n c.before.args.instants.now (omega arith))
+slice_bounds-path-end g c = sym (length-take-le c.args.n c.args.instants.now (omega arith))

@@ -1,5 +1,4 @@
 -- Part by part. Assumes nothing.
-use borrow.Author.Rules.{rules}
 use mathlib.Core.Path.{refl}
 use Rattle.playing.proofs.begin.begin.Goals as goal
 

@@ -1,13 +1,8 @@
 -- The loop adds the counts of the places below p; each is at most 2^53, so 32 of them are at most 2^58.
-use mathlib.Core.List.{List, [], ◌∷◌, ◌++◌}
-use native.Mathlib.Numerals.{add-one}
-use lib.ListN.{length, take, get_or}
-use lib.Seq.{take-suc}
+use lib.ListN.{take}
 use Rattle.rules.specs.Moments.{sum_of}
-use borrow.Author.Rules.{rules}
-use native.Mathlib.Omega.{arith}
-use mathlib.Core.Path.{◌≡◌, refl, ap, ◌∙◌}
-use Prim.Native.Nat.{ℕ, ◌+◌, ◌-◌, ◌*◌, ◌^◌, ◌≤◌, ◌<◌}
+use mathlib.Core.Path.{◌≡◌}
+use Prim.Native.Nat.{◌-◌, ◌*◌, ◌^◌, ◌≤◌}
 use Rattle.playing.proofs.begin.sum.Given as goal
 
 abbrev pub invariant-loop-p : goal.invariant-loop-p

@@ -1,5 +1,4 @@
 -- The test says which of the two the definition picks.
-use borrow.Author.Rules.{rules}
 use Rattle.playing.proofs.firing.after_event.Goals as goal
 
 pub returns-then-completes : goal.returns-then-completes

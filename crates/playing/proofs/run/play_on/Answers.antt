@@ -1,5 +1,4 @@
 -- What is kept is as at a first step (proofs/Carrying, carried_first); the loop and the end leave the cells of the run (proofs/Finished, played-by).
-use borrow.Author.Rules.{rules}
 use native.Mathlib.Omega.{arith}
 use mathlib.Core.Path.{sym, subst}
 use lib.ListN.{length, drop}

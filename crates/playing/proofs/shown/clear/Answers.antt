@@ -5,10 +5,9 @@ use lib.Ieee.{Float}
 use Rattle.net.specs.Net.{zero64}
 use Rattle.playing.proofs.Cells.{cleared_more, cleared_long}
 use Rattle.playing.specs.Cells.{cleared}
-use borrow.Author.Rules.{rules}
 use native.Mathlib.Omega.{arith}
 use mathlib.Core.Path.{◌≡◌, refl, ap, ◌∙◌}
-use Prim.Native.Nat.{ℕ, ◌-◌, ◌≤◌}
+use Prim.Native.Nat.{ℕ}
 use Rattle.playing.proofs.shown.clear.Goals as goal
 
 pub loop-c-init : goal.loop-c-init

@@ -1,9 +1,7 @@
 -- The loop fills the instants one by one, and the columns join (proofs/Cells). Where `to` is not above `from` no turn is made. The counts beyond the places do not matter.
-use Rattle.playing.specs.Cells.{Filled}
 use Rattle.playing.proofs.Cells.{filled_none, filled_join, filled_end, filled_marking}
-use borrow.Author.Rules.{rules}
 use native.Mathlib.Omega.{arith}
-use Prim.Native.Nat.{◌+◌, ◌-◌, max, ◌≤◌}
+use Prim.Native.Nat.{◌+◌}
 use Rattle.playing.proofs.shown.fill.Goals as goal
 
 pub loop-i-init : goal.loop-i-init

@@ -8,10 +8,9 @@ use mir.Syntax.{w64}
 use mir.Facts.{to_z_pos}
 use Rattle.rng.proofs.Floats.{in_f64}
 use Rattle.playing.proofs.Cells.{cell_in, Column, column_none, column_more, column_all}
-use borrow.Author.Rules.{rules}
 use native.Mathlib.Omega.{arith}
 use mathlib.Core.Path.{◌≡◌, ap, subst, subst⁻¹}
-use Prim.Native.Nat.{ℕ, ◌+◌, ◌-◌, ◌*◌, ◌≤◌}
+use Prim.Native.Nat.{ℕ, ◌+◌, ◌*◌}
 use Rattle.playing.proofs.shown.fill_column.Goals as goal
 
 pub loop-p-init : goal.loop-p-init

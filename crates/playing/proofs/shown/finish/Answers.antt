@@ -1,5 +1,4 @@
 -- By the end. Assumes nothing.
-use borrow.Author.Rules.{rules}
 use mathlib.Core.Path.{refl}
 use Rattle.playing.proofs.shown.finish.Goals as goal
 

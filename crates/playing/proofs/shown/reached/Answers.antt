@@ -1,11 +1,7 @@
 -- The loop keeps what is still reached from here: next plus the instants reached from next on is i plus those reached from i on.
-use lib.ListN.{length, drop}
-use Rattle.playing.specs.Cells.{reached_by}
 use Rattle.playing.proofs.Playing.{reached_turn, reached_none}
-use borrow.Author.Rules.{rules}
 use native.Mathlib.Omega.{arith}
-use mathlib.Core.Path.{◌≡◌, refl}
-use Prim.Native.Nat.{◌+◌, ◌-◌, ◌≤◌}
+use mathlib.Core.Path.{refl}
 use Rattle.playing.proofs.shown.reached.Goals as goal
 
 pub loop-i-init : goal.loop-i-init

@@ -2,7 +2,6 @@
 -- nothing is shown.
 use Rattle.engine.specs.Engine.{marking}
 use Rattle.playing.proofs.Playing.{reached_few, reached_turn, reached_none, shows_none}
-use borrow.Author.Rules.{rules}
 use native.Mathlib.Omega.{arith}
 use Rattle.playing.proofs.shown.show.Goals as goal
 

@@ -1,11 +1,11 @@
 -- What has started stands in front of the part of the pass from a transition on; a turn goes on to the next one that may start, and adds what it starts.
 use native.Mathlib.Omega.{arith}
 use mathlib.Core.Path.{refl, sym, ap, ◌∙◌}
-use mathlib.Core.Bool.{false, ◌&&◌, true≢false}
+use mathlib.Core.Bool.{◌&&◌, true≢false}
 use mathlib.Core.List.{[]}
 use Prim.Native.Nat.{◌+◌, ◌-◌, ◌≤◌}
 use lib.Count.{count_trailing_zeros}
-use lib.Dec.{leb, leb-zero}
+use lib.Dec.{leb-zero}
 use Rattle.words.specs.Bits.{bit}
 use Rattle.net.specs.declared.Net.{Net as NetRecord}
 use Rattle.net.specs.Readable.{readable}
