@@ -27,4 +27,4 @@ returns c =
     let out = args.out.now in
     let s = words args.state.now in
     let all : c.loop-i.i ≡ length out = omega (arith, m.same) in
-    (m.cells ∙ rw all (swept_drawn output s out), ap words c.state.ensures ∙ m.state ∙ rw all (moved_after _ (length out) s))
+    record { out_after = m.cells ∙ rw all (swept_drawn output s out); state_after = ap words c.state.ensures ∙ m.state ∙ rw all (moved_after _ (length out) s) }

@@ -15,7 +15,7 @@ loop-i-init c = sweep_none _ _ _ _
 pub loop-i-preserved : goal.loop-i-preserved
 loop-i-preserved c =
     let l = c in
-    sweep_more _ _ nan l.loop-i.invariant (omega arith) c.sqrt.ensures.1 refl
+    sweep_more _ _ nan l.loop-i.invariant (omega arith) c.sqrt.ensures.worked refl
 
 pub shape_of-xs : goal.shape_of-xs
 shape_of-xs c = c.loop-i.invariant.same
