@@ -1,5 +1,4 @@
 -- `played` meets its contract: a buffer that could be too short is left alone; in another, a refusal of the reader or the run's answer is printed.
-use borrow.Author.Rules.{rules}
 use mathlib.Core.Path.{ap, ◌∙◌}
 use Rattle.pathrun_text.specs.Pathrun.{output}
 use Rattle.pathrun_text.specs.Printing.{in_front}

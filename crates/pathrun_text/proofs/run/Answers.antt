@@ -11,7 +11,7 @@ result-requires c =
     let a = c.args in
     let e = c.ensemble-answer in
     let call : call_of e.result e.new.mean e.new.deviation e.new.path ≡ called a.net (request (run_of a.asked)) tables =
-        as_lent a.net a.asked c.float_of-horizon.ensures c.table-mean.ensures c.table-deviation.ensures c.table-path.ensures e.ensures in
+    as_lent a.net a.asked c.float_of-horizon.ensures c.table-mean.ensures c.table-deviation.ensures c.table-path.ensures e.ensures in
     let fits = bounds a.net a.asked e.result e.new.mean e.new.deviation e.new.path c.requires.1 call _ _ c.in-Averaged.is in
     (search rules, fits.0, fits.1, fits.2, search rules, search rules)
 
@@ -20,7 +20,7 @@ returns-in-TurnedDown c =
     let a = c.args in
     let e = c.ensemble-answer in
     let call : call_of e.result e.new.mean e.new.deviation e.new.path ≡ called a.net (request (run_of a.asked)) tables =
-        as_lent a.net a.asked c.float_of-horizon.ensures c.table-mean.ensures c.table-deviation.ensures c.table-path.ensures e.ensures in
+    as_lent a.net a.asked c.float_of-horizon.ensures c.table-mean.ensures c.table-deviation.ensures c.table-path.ensures e.ensures in
     turned_down a.net a.asked e.result e.new.mean e.new.deviation e.new.path c.requires.1 call _ c.in-TurnedDown.is a.out.now c.refused.ensures
 
 pub returns-in-Stopped : goal.returns-in-Stopped
@@ -28,7 +28,7 @@ returns-in-Stopped c =
     let a = c.args in
     let e = c.ensemble-answer in
     let call : call_of e.result e.new.mean e.new.deviation e.new.path ≡ called a.net (request (run_of a.asked)) tables =
-        as_lent a.net a.asked c.float_of-horizon.ensures c.table-mean.ensures c.table-deviation.ensures c.table-path.ensures e.ensures in
+    as_lent a.net a.asked c.float_of-horizon.ensures c.table-mean.ensures c.table-deviation.ensures c.table-path.ensures e.ensures in
     stopped_run a.net a.asked e.result e.new.mean e.new.deviation e.new.path c.requires.1 call _ _ c.in-Stopped.is a.out.now c.refused-in-Stopped.ensures
 
 pub returns-in-Averaged : goal.returns-in-Averaged
@@ -36,5 +36,5 @@ returns-in-Averaged c =
     let a = c.args in
     let e = c.ensemble-answer in
     let call : call_of e.result e.new.mean e.new.deviation e.new.path ≡ called a.net (request (run_of a.asked)) tables =
-        as_lent a.net a.asked c.float_of-horizon.ensures c.table-mean.ensures c.table-deviation.ensures c.table-path.ensures e.ensures in
+    as_lent a.net a.asked c.float_of-horizon.ensures c.table-mean.ensures c.table-deviation.ensures c.table-path.ensures e.ensures in
     averaged_run a.net a.asked e.result e.new.mean e.new.deviation e.new.path c.requires.1 call _ _ c.in-Averaged.is a.out.now c.result.ensures

@@ -1,5 +1,4 @@
 -- Each arm is the arm of the definition that the test leaves. Assumes nothing.
-use borrow.Author.Rules.{rules}
 use borrow.Author.Tests.{eq-eqb, ne_eqb}
 use Rattle.balance.proofs.weighing.put_weight.Goals as goal
 

@@ -1,10 +1,6 @@
 -- One of the weights from place p on is above 1,000 just where one of all is, since none before p is. Assumes nothing.
-use borrow.Author.Rules.{rules}
-use mathlib.Core.Path.{◌≡◌, refl}
-use Prim.Native.Nat.{◌-◌, ◌≤◌}
+use mathlib.Core.Path.{refl}
 use native.Mathlib.Omega.{arith}
-use lib.ListN.{length, drop}
-use Rattle.rules.specs.Balance.{some_above1000}
 use Rattle.balance.proofs.Asked.{above_stop, above_go, above_end}
 use Rattle.balance.proofs.weighing.some_above.Goals as goal
 

@@ -1,11 +1,8 @@
 -- One of the weights from place p on is above 1,000 just where one of all is, since none before p is. Assumes nothing.
-use borrow.Author.Rules.{rules}
-use mathlib.Core.Path.{◌≡◌, refl}
+use mathlib.Core.Path.{◌≡◌}
 use Prim.Native.Nat.{◌-◌, ◌≤◌}
-use native.Mathlib.Omega.{arith}
 use lib.ListN.{length, drop}
 use Rattle.rules.specs.Balance.{some_above1000}
-use Rattle.balance.proofs.Asked.{above_stop, above_go, above_end}
 use Rattle.balance.proofs.weighing.some_above.Given as goal
 
 abbrev pub invariant-loop-p : goal.invariant-loop-p

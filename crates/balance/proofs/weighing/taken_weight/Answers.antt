@@ -1,5 +1,4 @@
 -- Each arm is the arm of the definition that the test leaves. Assumes nothing.
-use borrow.Author.Rules.{rules}
 use borrow.Author.Tests.{le-leb, lt-leb}
 use Rattle.balance.proofs.weighing.taken_weight.Goals as goal
 

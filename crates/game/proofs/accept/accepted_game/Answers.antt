@@ -1,5 +1,4 @@
 -- The tidied net reads as the net, and has its places and initial counts. Assumes nothing.
-use borrow.Author.Rules.{rules}
 use Prim.Native.Nat.{ℕ}
 use mathlib.Core.Path.{sym, subst}
 use native.Mathlib.Omega.{arith}

@@ -1,10 +1,6 @@
 -- What is left to test from here is the whole. Assumes nothing.
-use borrow.Author.Rules.{rules}
-use mathlib.Core.Path.{◌≡◌, refl}
-use Prim.Native.Nat.{◌≤◌, ◌-◌}
+use mathlib.Core.Path.{refl}
 use native.Mathlib.Omega.{arith}
-use lib.ListN.{length, drop}
-use Rattle.game.specs.Call.{each_side}
 use Rattle.game.proofs.Asked.{each_stop, each_go, each_end}
 use Rattle.game.proofs.accept.each_side.Goals as goal
 

@@ -1,11 +1,8 @@
 -- What is left to test from here is the whole. Assumes nothing.
-use borrow.Author.Rules.{rules}
-use mathlib.Core.Path.{◌≡◌, refl}
+use mathlib.Core.Path.{◌≡◌}
 use Prim.Native.Nat.{◌≤◌, ◌-◌}
-use native.Mathlib.Omega.{arith}
 use lib.ListN.{length, drop}
 use Rattle.game.specs.Call.{each_side}
-use Rattle.game.proofs.Asked.{each_stop, each_go, each_end}
 use Rattle.game.proofs.accept.each_side.Given as goal
 
 abbrev pub invariant-loop-j : goal.invariant-loop-j

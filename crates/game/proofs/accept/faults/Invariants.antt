@@ -1,14 +1,10 @@
 -- What was counted and what is left to count is the whole. Assumes nothing.
-use borrow.Author.Rules.{rules}
 use mathlib.Core.Path.{◌≡◌}
 use Prim.Native.Nat.{◌≤◌, ◌-◌, ◌+◌}
-use native.Mathlib.Omega.{arith}
-use lib.Dec.{eqb}
-use lib.ListN.{length, get_or}
+use lib.ListN.{length}
 use Rattle.game.specs.Game.{fault}
 use Rattle.game.specs.Play.{sides_of, owned}
 use Rattle.game.proofs.Tries.{left_of}
-use Rattle.game.proofs.Asked.{owned_turn, owned_end, at_most_one}
 use Rattle.game.proofs.accept.faults.Given as goal
 
 abbrev pub invariant-loop-j : goal.invariant-loop-j

@@ -1,5 +1,4 @@
 -- The tables that the search asks for are those that the calls before it make. Assumes nothing.
-use borrow.Author.Rules.{rules}
 use mathlib.Core.Path.{ap, ◌∙◌}
 use Rattle.net.specs.Net.{Marking}
 use Rattle.net.specs.Readable.{readable}

@@ -1,6 +1,4 @@
 -- Each answer is the definition's by the tests that led to it (Asked). Assumes nothing.
-use borrow.Author.Rules.{rules}
-use borrow.Author.Tests.{not-true, not-false}
 use mathlib.Core.Path.{sym, ◌∙◌}
 use Rattle.game.proofs.Asked.{not_long, not_each, not_few, few_enough}
 use Rattle.game.proofs.accept.sides_fit.Goals as goal

@@ -1,5 +1,4 @@
 -- `line_at` meets its contract: the flag picks the line.
-use borrow.Author.Rules.{rules}
 use mathlib.Core.Path.{sym, ap, ◌∙◌}
 use mathlib.Core.Bool.{Bool}
 use Rattle.text.specs.Buffer.{written}

@@ -1,5 +1,4 @@
 -- `refused` meets its contract: the line is at most 52 bytes, so it is written.
-use borrow.Author.Rules.{rules}
 use native.Mathlib.Omega.{arith}
 use mathlib.Core.Path.{refl}
 use Prim.Native.Nat.{◌≤◌}

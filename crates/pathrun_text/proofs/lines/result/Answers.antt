@@ -1,5 +1,4 @@
 -- `result` meets its contract: the lines fit, since no output is longer than `longest`, and each stands behind those before it.
-use borrow.Author.Rules.{rules}
 use Rattle.net.specs.Labels.{labels_from}
 use Rattle.pathrun_text.proofs.Names.{labels_short}
 use Rattle.pathrun_text.proofs.Rows.{with_deviations, without_deviations}

@@ -1,5 +1,4 @@
 -- `then_line` meets its contract: each arm is one case of `and_then`.
-use borrow.Author.Rules.{rules}
 use Rattle.text.proofs.Places.{then_next, then_short}
 use Rattle.pathrun_text.specs.Printing.{line_of}
 use Rattle.pathrun_text.proofs.lines.then_line.Goals as goal

@@ -1,5 +1,4 @@
 -- `then_lines` meets its contract. The invariant: what is left of the table, written from here, is the whole table written.
-use borrow.Author.Rules.{rules}
 use lib.ListN.{length, take, drop}
 use Rattle.net.specs.Labels.{labels_from}
 use Rattle.text.specs.Text.{Bytes}
@@ -10,7 +9,7 @@ use Rattle.pathrun_text.specs.Printing.{line_of, then_lines}
 use Rattle.pathrun_text.proofs.Rows.{left_turn, lines_turn}
 use native.Mathlib.Omega.{arith}
 use mathlib.Core.Path.{◌≡◌, refl, sym, ap, ◌∙◌}
-use Prim.Native.Nat.{ℕ, ◌+◌, ◌-◌, ◌*◌, ◌≤◌, ◌<◌}
+use Prim.Native.Nat.{◌+◌, ◌-◌, ◌*◌, ◌≤◌, ◌<◌}
 use Rattle.pathrun_text.proofs.lines.then_lines.Goals as goal
 
 pub loop-p-init : goal.loop-p-init

@@ -1,16 +1,10 @@
 -- `then_lines` meets its contract. The invariant: what is left of the table, written from here, is the whole table written.
-use borrow.Author.Rules.{rules}
-use lib.ListN.{length, take, drop}
+use lib.ListN.{length, drop}
 use Rattle.net.specs.Labels.{labels_from}
-use Rattle.text.specs.Text.{Bytes}
-use Rattle.text.specs.Buffer.{and_then}
-use Rattle.text.specs.declared.Written.{Written}
 use Rattle.pathrun_text.specs.Pathrun.{rows}
-use Rattle.pathrun_text.specs.Printing.{line_of, then_lines}
-use Rattle.pathrun_text.proofs.Rows.{left_turn, lines_turn}
-use native.Mathlib.Omega.{arith}
-use mathlib.Core.Path.{◌≡◌, refl, sym, ap, ◌∙◌}
-use Prim.Native.Nat.{ℕ, ◌+◌, ◌-◌, ◌*◌, ◌≤◌, ◌<◌}
+use Rattle.pathrun_text.specs.Printing.{then_lines}
+use mathlib.Core.Path.{◌≡◌}
+use Prim.Native.Nat.{◌+◌, ◌-◌, ◌*◌, ◌≤◌}
 use Rattle.pathrun_text.proofs.lines.then_lines.Given as goal
 
 abbrev pub invariant-loop-p : goal.invariant-loop-p
