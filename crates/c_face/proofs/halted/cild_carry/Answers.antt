@@ -5,7 +5,5 @@ use Rattle.c_face.proofs.halted.cild_carry.Goals as goal
 
 pub returns : goal.returns
 returns c =
-    let p = c in
-    let s = p.before.before.args in
-    let e = rw (p.path_in-path.ensures s.old-places) at p.fields_carry-r.ensures in
+    let e = rw (c.path_in-path.ensures c.args.old_places) at c.fields_carry-r.ensures in
     left_by e (c.leave.ensures _)

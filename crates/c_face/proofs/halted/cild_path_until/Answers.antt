@@ -9,7 +9,5 @@ use Rattle.c_face.proofs.halted.cild_path_until.Goals as goal
 pub returns : goal.returns
 returns c =
     let p = c in
-    let e = rw p.from_state.ensures at p.fields_path_until-r.ensures in (
-      left_by e (c.leave.ensures _),
-      ap words c.state.ensures ∙ ap (λ (x : Call). x.state.now.generator) e,
-    )
+    let e = rw p.from_state.ensures at p.fields_path_until-r.ensures in
+    record { is = (left_by e (c.leave.ensures _), ap words c.state.ensures ∙ ap (λ (x : Call). x.state.now.generator) e) }

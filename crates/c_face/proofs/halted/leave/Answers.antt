@@ -11,7 +11,7 @@ use Rattle.playing.specs.declared.PathEnd.TheVariants.{Quiet, Spent, Reached, Ha
 use Rattle.ssa.specs.declared.Onward.{Onward}
 use Rattle.ssa.specs.Path.{end_of}
 use Rattle.ssa.specs.Halted.{standing_of, call_of}
-use Rattle.ssa.proofs.Answered.{NotRefused, not_refused}
+use Rattle.ssa.proofs.Answered.{NotRefused}
 use Rattle.c_face.specs.Played.{end_number}
 use Rattle.c_face.specs.Halted.{Written, Left}
 use Rattle.c_face.proofs.Written.{written}
@@ -23,6 +23,13 @@ end_given Spent h = (spent, refl)
 end_given Reached h = (reached, refl)
 end_given Halted h = (halted, refl)
 end_given (Refused k) h = absurd h
+
+unrefused : (e : PathEnd) → ((k : ℕ) → e ≡ Refused k → ⊥) → NotRefused e
+unrefused Quiet h = tt
+unrefused Spent h = tt
+unrefused Reached h = tt
+unrefused Halted h = tt
+unrefused (Refused k) h = absurd (h k refl)
 
 module _ (places : ℕ) (r : Onward) (k : ℕ) (ws : List ℕ) (ts : List Float) where
   left_refused : r.end ≡ Refused k → (table : List Float) → Left (call_of places r table) (k ∷ 0 ∷ 0 ∷ 0 ∷ 0 ∷ []) ws ts ws ts table
@@ -41,14 +48,10 @@ module _ (places : ℕ) (r : Onward) (k : ℕ) (ws : List ℕ) (ts : List Float)
 pub returns-in-Refused : goal.returns-in-Refused
 returns-in-Refused c =
     let s = c.args in
-    let e = c.end-1.given in
-    left_refused s.places s.r e.0.0 s.halted.now s.times.now e.1
+    left_refused s.places s.r c.in-Refused.c s.halted.now s.times.now c.in-Refused.is
 
 pub returns : goal.returns
 returns c =
-    let w = c in
-    let e = w in
-    let s = e.before.before.before.args in
-    let n = not_refused s.r.end e.before.before.match.keys2 in
-    left_given s.places s.r e.end_number.result s.halted.now s.times.now _ _ n e.end_number.ensures
-    (written s.places s.r.state e.state-w.ensures w.write_words.ensures c.write_times.ensures)
+    let s = c.args in
+    left_given s.places s.r c.end_number.result s.halted.now s.times.now _ _ (unrefused s.r.end c.in_default.not-Refused) c.end_number.ensures
+    (written s.places s.r.state c.state-w.ensures c.write_words.ensures c.write_times.ensures)

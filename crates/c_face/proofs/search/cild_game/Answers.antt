@@ -5,4 +5,4 @@ use Rattle.c_face.specs.Searched.{told_of}
 use Rattle.c_face.proofs.search.cild_game.Goals as goal
 
 pub returns : goal.returns
-returns c = c.numbers.ensures ∙ ap told_of c.game-r.ensures.0
+returns c = c.numbers.ensures ∙ ap told_of c.game-r.ensures.is
