@@ -1,5 +1,4 @@
 -- `ask_front` is safe: past the test the part has the t bytes that are asked for. Assumes nothing.
-use borrow.Author.Rules.{rules}
 use mathlib.Core.Path.{sym}
 use lib.Seq.{length-take-le}
 use Rattle.balancerun.proofs.ask_front.Goals as goal

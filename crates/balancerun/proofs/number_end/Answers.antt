@@ -1,8 +1,5 @@
 -- `number_end` meets its contract: i goes from `from` up to the list's end. Assumes nothing.
-use borrow.Author.Rules.{rules}
 use native.Mathlib.Omega.{arith}
-use Prim.Native.Nat.{◌-◌, ◌≤◌}
-use lib.ListN.{length}
 use Rattle.balancerun.proofs.number_end.Goals as goal
 
 pub loop-i-preserved : goal.loop-i-preserved

@@ -1,8 +1,5 @@
 -- `read_weights` is safe and ends: each number ends behind its beginning or at it, and the next begins behind that. Assumes nothing.
-use borrow.Author.Rules.{rules}
 use native.Mathlib.Omega.{arith}
-use Prim.Native.Nat.{◌+◌, ◌-◌, ◌≤◌}
-use lib.ListN.{length}
 use Rattle.balancerun.proofs.read_weights.Goals as goal
 
 pub loop-from-init : goal.loop-from-init

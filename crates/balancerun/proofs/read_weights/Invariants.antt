@@ -1,6 +1,4 @@
 -- `read_weights` is safe and ends: each number ends behind its beginning or at it, and the next begins behind that. Assumes nothing.
-use borrow.Author.Rules.{rules}
-use native.Mathlib.Omega.{arith}
 use Prim.Native.Nat.{◌+◌, ◌-◌, ◌≤◌}
 use lib.ListN.{length}
 use Rattle.balancerun.proofs.read_weights.Given as goal

@@ -1,5 +1,4 @@
 -- `weigh` is safe: past the test the part has the n weights that are asked for. Assumes nothing.
-use borrow.Author.Rules.{rules}
 use mathlib.Core.Path.{sym}
 use lib.Seq.{length-take-le}
 use Rattle.balancerun.proofs.weigh.Goals as goal

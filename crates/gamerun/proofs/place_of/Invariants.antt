@@ -1,5 +1,4 @@
 -- `place_of` is safe and ends: p stays at 32 or below. Assumes nothing.
-use borrow.Author.Rules.{rules}
 use Prim.Native.Nat.{◌-◌, ◌≤◌}
 use Rattle.gamerun.proofs.place_of.Given as goal
 

@@ -1,5 +1,4 @@
 -- `play` is safe: past the test the part has the n numbers that are asked for. Assumes nothing.
-use borrow.Author.Rules.{rules}
 use mathlib.Core.Path.{sym}
 use lib.Seq.{length-take-le}
 use Rattle.gamerun.proofs.play.Goals as goal

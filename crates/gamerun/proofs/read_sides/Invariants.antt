@@ -1,5 +1,4 @@
 -- `read_sides` is safe and ends: j stays at 65 or below. Assumes nothing.
-use borrow.Author.Rules.{rules}
 use Prim.Native.Nat.{◌-◌, ◌≤◌}
 use Rattle.gamerun.proofs.read_sides.Given as goal
 

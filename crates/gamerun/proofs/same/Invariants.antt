@@ -1,5 +1,4 @@
 -- `same` is safe and ends: i stays within the name. Assumes nothing.
-use borrow.Author.Rules.{rules}
 use Prim.Native.Nat.{◌-◌, ◌≤◌}
 use lib.ListN.{length}
 use Rattle.gamerun.proofs.same.Given as goal

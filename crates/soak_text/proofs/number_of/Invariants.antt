@@ -1,5 +1,4 @@
 -- `number_of` is safe and ends: the loop passes one byte a turn.
-use borrow.Author.Rules.{rules}
 use lib.ListN.{length}
 use Prim.Native.Nat.{◌-◌, ◌≤◌}
 use Rattle.soak_text.proofs.number_of.Given as goal

@@ -1,5 +1,4 @@
 -- `write_front` is safe: past the test the part has the n bytes that are asked for.
-use borrow.Author.Rules.{rules}
 use mathlib.Core.Path.{sym}
 use lib.Seq.{length-take-le}
 use Rattle.soak_text.proofs.write_front.Goals as goal

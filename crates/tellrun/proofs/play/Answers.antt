@@ -1,5 +1,4 @@
 -- `play` is safe: past the test the part has the n instants that are asked for.
-use borrow.Author.Rules.{rules}
 use mathlib.Core.Path.{sym}
 use lib.Seq.{length-take-le}
 use Rattle.tellrun.proofs.play.Goals as goal

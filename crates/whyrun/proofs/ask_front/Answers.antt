@@ -1,5 +1,4 @@
 -- `ask_front` is safe: past the test the part has the n bytes that are asked for.
-use borrow.Author.Rules.{rules}
 use mathlib.Core.Path.{sym}
 use lib.Seq.{length-take-le}
 use Rattle.whyrun.proofs.ask_front.Goals as goal

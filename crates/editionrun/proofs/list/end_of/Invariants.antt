@@ -1,5 +1,5 @@
 -- `list::end_of` meets its contract: i goes from `from` up to the list's end. Assumes nothing.
-use Rattle.std.proofs.Common.{◌-◌, ◌≤◌, length, arith, rules}
+use Rattle.std.proofs.Common.{◌-◌, ◌≤◌, length}
 use Rattle.editionrun.proofs.list.end_of.Given as goal
 
 abbrev pub invariant-loop-i : goal.invariant-loop-i

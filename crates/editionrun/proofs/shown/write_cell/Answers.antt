@@ -1,5 +1,5 @@
 -- `shown::write_cell` is safe: what is cut off is a fraction of a number in 0..2^53. Assumes nothing.
-use Rattle.std.proofs.Common.{T, sym, subst, rules}
+use Rattle.std.proofs.Common.{T, sym, subst}
 use Prim.{tt}
 use Rattle.carried.proofs.Cells.{above, below}
 use Rattle.editionrun.proofs.shown.write_cell.Goals as goal

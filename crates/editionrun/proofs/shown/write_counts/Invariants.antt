@@ -1,5 +1,5 @@
 -- `shown::write_counts` is safe and ends: p stays at 32 or below. Assumes nothing.
-use Rattle.std.proofs.Common.{◌-◌, ◌≤◌, rules}
+use Rattle.std.proofs.Common.{◌-◌, ◌≤◌}
 use Rattle.editionrun.proofs.shown.write_counts.Given as goal
 
 abbrev pub invariant-loop-p : goal.invariant-loop-p

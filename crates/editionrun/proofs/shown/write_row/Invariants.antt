@@ -1,5 +1,5 @@
 -- `shown::write_row` is safe and ends: i stays within the row. Assumes nothing.
-use Rattle.std.proofs.Common.{◌-◌, ◌≤◌, length, rules}
+use Rattle.std.proofs.Common.{◌-◌, ◌≤◌, length}
 use Rattle.editionrun.proofs.shown.write_row.Given as goal
 
 abbrev pub invariant-loop-i : goal.invariant-loop-i

@@ -1,5 +1,5 @@
 -- `shown::write_rows` is safe and ends: a row ends within the table, and the next begins there. Assumes nothing.
-use Rattle.std.proofs.Common.{◌-◌, ◌≤◌, length, rules}
+use Rattle.std.proofs.Common.{◌-◌, ◌≤◌, length}
 use Rattle.editionrun.proofs.shown.write_rows.Given as goal
 
 abbrev pub invariant-loop-p : goal.invariant-loop-p

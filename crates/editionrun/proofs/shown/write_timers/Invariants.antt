@@ -1,5 +1,5 @@
 -- `shown::write_timers` is safe and ends: i stays at 256 or below. Assumes nothing.
-use Rattle.std.proofs.Common.{◌-◌, ◌≤◌, rules}
+use Rattle.std.proofs.Common.{◌-◌, ◌≤◌}
 use Rattle.editionrun.proofs.shown.write_timers.Given as goal
 
 abbrev pub invariant-loop-i : goal.invariant-loop-i
