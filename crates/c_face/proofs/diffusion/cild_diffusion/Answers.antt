@@ -1,5 +1,4 @@
 -- `c_face::diffusion::cild_diffusion` meets its contract: what `diffuse` ensures of the fields lent, read off table by table. Assumes nothing.
-use borrow.Author.Rules.{rules}
 use Prim.Native.Nat.{ℕ}
 use mathlib.Core.Path.{◌≡◌, ap, ◌∙◌}
 use mathlib.Core.List.{List}

@@ -1,8 +1,7 @@
 -- `c_face::diffusion::diffusion_numbers` meets its contract: the case that the answer is says its numbers; the mask of the bits of a mask is the mask. Assumes
 -- nothing.
-use borrow.Author.Rules.{rules}
 use mathlib.Core.Path.{sym, ap, ap₂, ◌∙◌}
-use mathlib.Core.List.{List, [], ◌∷◌}
+use mathlib.Core.List.{[], ◌∷◌}
 use Prim.Native.Nat.{ℕ}
 use native.Mathlib.Omega.{arith}
 use Rattle.sde.specs.declared.DiffusionAnswer.{DiffusionAnswer}

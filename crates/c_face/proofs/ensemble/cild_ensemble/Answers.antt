@@ -1,5 +1,4 @@
 -- `c_face::ensemble::cild_ensemble` meets its contract: what `ensemble` ensures of the fields lent, read off table by table. Assumes nothing.
-use borrow.Author.Rules.{rules}
 use Prim.Native.Nat.{ℕ}
 use mathlib.Core.Path.{◌≡◌, ap, ◌∙◌}
 use mathlib.Core.List.{List}

@@ -1,7 +1,6 @@
 -- `c_face::ensemble::ensemble_numbers` meets its contract: the case that the answer is says its numbers. Assumes nothing.
-use borrow.Author.Rules.{rules}
-use mathlib.Core.Path.{sym, ap, ap₂, ◌∙◌}
-use mathlib.Core.List.{List, [], ◌∷◌}
+use mathlib.Core.Path.{sym, ap, ◌∙◌}
+use mathlib.Core.List.{[], ◌∷◌}
 use Prim.Native.Nat.{ℕ}
 use Rattle.ssa.specs.declared.EnsembleAnswer.{EnsembleAnswer}
 use Rattle.ssa.specs.Ensemble.{outcome_of}

@@ -1,5 +1,4 @@
 -- `c_face::generator::cild_next_u64` meets its contract: it is what `next_u64` ensures of the words lent. Assumes nothing.
-use borrow.Author.Rules.{rules}
 use Rattle.c_face.proofs.generator.cild_next_u64.Goals as goal
 
 pub returns : goal.returns

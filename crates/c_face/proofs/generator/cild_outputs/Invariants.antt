@@ -1,11 +1,8 @@
 -- `c_face::generator::cild_outputs` meets its contract: the loop is a sweep whose state is the generator. Assumes nothing.
-use borrow.Author.Rules.{rules}
-use native.Mathlib.Omega.{arith}
-use mathlib.Core.Path.{◌≡◌, ap, ◌∙◌}
 use lib.ListN.{length}
 use Rattle.rng.specs.State.{State, words}
 use Rattle.rng.specs.Xoshiro.{output, step}
-use Rattle.c_face.proofs.Sweep.{Sweep, sweep_none, sweep_more, swept_drawn, moved_after}
+use Rattle.c_face.proofs.Sweep.{Sweep}
 use Prim.Native.Nat.{ℕ, ◌-◌}
 use Rattle.c_face.proofs.generator.cild_outputs.Given as goal
 

@@ -1,6 +1,5 @@
 -- `c_face::generator::cild_step_back` meets its contract: it is what `step_back` ensures of the words lent. Assumes nothing.
-use borrow.Author.Rules.{rules}
-use mathlib.Core.Path.{◌≡◌, ap, ◌∙◌}
+use mathlib.Core.Path.{ap, ◌∙◌}
 use Rattle.rng.specs.State.{words}
 use Rattle.rng.specs.Laws.{step_back}
 use Rattle.c_face.proofs.generator.cild_step_back.Goals as goal

@@ -1,5 +1,4 @@
 -- `c_face::generator::cild_uniform` meets its contract: it is what `uniform` ensures of the words lent. Assumes nothing.
-use borrow.Author.Rules.{rules}
 use Rattle.c_face.proofs.generator.cild_uniform.Goals as goal
 
 pub returns : goal.returns

@@ -1,13 +1,11 @@
 -- `c_face::generator::cild_uniforms` meets its contract: the loop is a sweep whose state is the generator. Assumes nothing.
-use borrow.Author.Rules.{rules}
 use native.Mathlib.Omega.{arith}
 use mathlib.Core.Path.{◌≡◌, ap, ◌∙◌}
 use lib.ListN.{length}
-use lib.Ieee.{Float, nan}
-use Rattle.rng.specs.State.{State, words}
-use Rattle.rng.specs.Xoshiro.{uniform, step}
-use Rattle.c_face.proofs.Sweep.{Sweep, sweep_none, sweep_more, swept_drawn, moved_after}
-use Prim.Native.Nat.{◌-◌}
+use lib.Ieee.{nan}
+use Rattle.rng.specs.State.{words}
+use Rattle.rng.specs.Xoshiro.{uniform}
+use Rattle.c_face.proofs.Sweep.{sweep_none, sweep_more, swept_drawn, moved_after}
 use Rattle.c_face.proofs.generator.cild_uniforms.Goals as goal
 
 pub loop-i-init : goal.loop-i-init

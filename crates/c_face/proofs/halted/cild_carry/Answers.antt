@@ -1,5 +1,4 @@
 -- What fields_carry ensures of the fields lent and the path read, told and written by leave.
-use borrow.Author.Rules.{rules}
 use Rattle.c_face.proofs.Written.{left_by}
 use Rattle.c_face.proofs.halted.cild_carry.Goals as goal
 

@@ -1,5 +1,4 @@
 -- What fields_path_until ensures of the fields and words lent, told and written by leave.
-use borrow.Author.Rules.{rules}
 use mathlib.Core.Path.{ap, ◌∙◌}
 use Rattle.rng.specs.State.{words}
 use Rattle.ssa.specs.Halted.{Call}

@@ -1,5 +1,4 @@
 -- By the end: a refused answer is told by its number, and any other is told and written (proofs/Written).
-use borrow.Author.Rules.{rules}
 use Prim.Native.Nat.{ℕ}
 use mathlib.Core.Path.{◌≡◌, refl, ap}
 use mathlib.Core.List.{List, [], ◌∷◌}

@@ -1,5 +1,4 @@
 -- Field by field, by what each of the calls ensures.
-use borrow.Author.Rules.{rules}
 use mathlib.Core.Path.{◌∙◌}
 use lib.ListN.{get_or}
 use lib.Ieee.{nan}

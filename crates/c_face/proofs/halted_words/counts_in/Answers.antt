@@ -3,9 +3,9 @@ use borrow.Author.Rules.{rules}
 use native.Mathlib.Omega.{arith}
 use native.Mathlib.Nat.{zero-add}
 use mathlib.Core.Path.{◌≡◌, refl, sym, ap}
-use Prim.Native.Nat.{ℕ, ◌+◌, ◌-◌}
+use Prim.Native.Nat.{ℕ}
 use lib.ListN.{length, get_or}
-use Rattle.c_face.proofs.Parts.{Holds, holds_none, holds_more, holds_part}
+use Rattle.c_face.proofs.Parts.{holds_none, holds_more, holds_part}
 use Rattle.c_face.proofs.halted_words.counts_in.Goals as goal
 
 pub loop-p-init : goal.loop-p-init

@@ -1,11 +1,7 @@
 -- The first p counts are those of the words.
-use borrow.Author.Rules.{rules}
-use native.Mathlib.Omega.{arith}
-use native.Mathlib.Nat.{zero-add}
-use mathlib.Core.Path.{◌≡◌, refl, sym, ap}
 use Prim.Native.Nat.{ℕ, ◌+◌, ◌-◌}
-use lib.ListN.{length, get_or}
-use Rattle.c_face.proofs.Parts.{Holds, holds_none, holds_more, holds_part}
+use lib.ListN.{get_or}
+use Rattle.c_face.proofs.Parts.{Holds}
 use Rattle.c_face.proofs.halted_words.counts_in.Given as goal
 
 abbrev pub invariant-loop-p : goal.invariant-loop-p

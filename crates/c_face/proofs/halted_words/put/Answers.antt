@@ -1,10 +1,6 @@
 -- The first k of them are put.
 use borrow.Author.Rules.{rules}
 use native.Mathlib.Omega.{arith}
-use mathlib.Core.Path.{◌≡◌}
-use Prim.Native.Nat.{◌-◌, ◌≤◌}
-use lib.ListN.{length}
-use Rattle.c_face.specs.Layout.{Put}
 use Rattle.c_face.proofs.Putting.{put_none, put_more, put_all}
 use Rattle.c_face.proofs.halted_words.put.Goals as goal
 

@@ -2,12 +2,11 @@
 use borrow.Author.Rules.{rules}
 use native.Mathlib.Omega.{arith}
 use mathlib.Core.Path.{◌≡◌, refl, ◌∙◌}
-use Prim.Native.Nat.{ℕ, ◌+◌, ◌-◌}
 use lib.ListN.{length, get_or, drop, length-drop}
 use lib.Seq.{take_all}
 use lib.Ieee.{nan}
 use Rattle.carried.specs.Timers.{timers_in}
-use Rattle.c_face.proofs.Parts.{Holds, holds_none, holds_more, holds_part}
+use Rattle.c_face.proofs.Parts.{holds_none, holds_more, holds_part}
 use Rattle.c_face.proofs.halted_words.timers_in.Goals as goal
 
 pub loop-i-init : goal.loop-i-init

@@ -1,13 +1,8 @@
 -- The first i timers are those of the words and times.
-use borrow.Author.Rules.{rules}
-use native.Mathlib.Omega.{arith}
-use mathlib.Core.Path.{◌≡◌, refl, ◌∙◌}
 use Prim.Native.Nat.{ℕ, ◌+◌, ◌-◌}
-use lib.ListN.{length, get_or, drop, length-drop}
-use lib.Seq.{take_all}
+use lib.ListN.{get_or}
 use lib.Ieee.{nan}
-use Rattle.carried.specs.Timers.{timers_in}
-use Rattle.c_face.proofs.Parts.{Holds, holds_none, holds_more, holds_part}
+use Rattle.c_face.proofs.Parts.{Holds}
 use Rattle.c_face.proofs.halted_words.timers_in.Given as goal
 
 abbrev pub invariant-loop-i : goal.invariant-loop-i

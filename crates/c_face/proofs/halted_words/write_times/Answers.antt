@@ -3,14 +3,11 @@ use borrow.Author.Rules.{rules}
 use native.Mathlib.Omega.{arith}
 use native.Mathlib.Numerals.{add-one}
 use mathlib.Core.Path.{◌≡◌, refl, sym, ap, ◌∙◌}
-use mathlib.Core.List.{List}
-use Prim.Native.Nat.{ℕ, ◌+◌, ◌-◌}
 use lib.ListN.{length}
 use lib.Ieee.{nan}
 use Rattle.rules.specs.Timers.{Timer}
-use Rattle.carried.specs.Timers.{timers_in}
 use Rattle.c_face.specs.Layout.{time_in}
-use Rattle.c_face.proofs.Parts.{Holds, holds_none, holds_more}
+use Rattle.c_face.proofs.Parts.{holds_none, holds_more}
 use Rattle.c_face.proofs.Running.{timer_at_lem, timer_past}
 use Rattle.c_face.proofs.halted_words.write_times.Goals as goal
 

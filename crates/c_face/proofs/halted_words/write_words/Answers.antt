@@ -1,5 +1,4 @@
 -- Each call puts its part into what the calls before it left, the first into zeros.
-use borrow.Author.Rules.{rules}
 use lib.ListN.{get_or-replicate}
 use Rattle.c_face.proofs.Putting.{words_put}
 use Rattle.c_face.proofs.halted_words.write_words.Goals as goal

@@ -1,5 +1,4 @@
 -- `c_face::leaves::cild_combinations` meets its contract: what the answer ensures, read as a flag and numbers; m and w are passed on as they came. Assumes nothing.
-use borrow.Author.Rules.{rules}
 use mathlib.Core.Path.{ap, ◌∙◌}
 use mir.Facts.{to_z-of_z}
 use Rattle.c_face.specs.Told.{is_value, or_zero, one_if_exact}

@@ -1,5 +1,4 @@
 -- `c_face::leaves::cild_combinations_real` meets its contract: what the answer ensures, read as a flag and a float; w is passed on as it came. Assumes nothing.
-use borrow.Author.Rules.{rules}
 use mathlib.Core.Path.{ap, ◌∙◌}
 use mir.Facts.{to_z-of_z}
 use Rattle.c_face.specs.Told.{is_real, real_or_zero}

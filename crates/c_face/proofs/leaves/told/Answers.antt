@@ -1,5 +1,4 @@
 -- `c_face::leaves::told` meets its contract: the case that the answer is says its flag and numbers. Assumes nothing.
-use borrow.Author.Rules.{rules}
 use mathlib.Core.Path.{sym, ap, ◌∙◌}
 use Rattle.combinations.specs.declared.Ways.{Ways}
 use Rattle.combinations.specs.Combinations.{meaning}

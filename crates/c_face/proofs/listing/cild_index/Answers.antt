@@ -1,5 +1,4 @@
 -- What `index_of` ensures of the fields lent, by its verdict, told as a number. Assumes nothing.
-use borrow.Author.Rules.{rules}
 use Prim.Native.Nat.{ℕ}
 use mathlib.Core.Path.{◌≡◌, sym, subst}
 use mathlib.Core.List.{List}

@@ -1,6 +1,5 @@
 -- `c_face::objections::cild_reason` meets its contract: what `reason` ensures of the fields lent. Assumes nothing.
-use borrow.Author.Rules.{rules}
-use mathlib.Core.Path.{◌≡◌, ap, ◌∙◌}
+use mathlib.Core.Path.{ap, ◌∙◌}
 use Rattle.text.specs.Text.{Bytes}
 use Rattle.reason.specs.declared.ReasonAnswer.{ReasonAnswer}
 use Rattle.c_face.specs.Reasoned.{told_of}

@@ -1,7 +1,5 @@
 -- `c_face::objections::reason_numbers` meets its contract: the case that the answer is says its numbers. Assumes nothing.
-use borrow.Author.Rules.{rules}
 use mathlib.Core.Path.{sym, ap}
-use Rattle.reason.specs.declared.ReasonAnswer.{ReasonAnswer}
 use Rattle.c_face.specs.Reasoned.{told_of}
 use Rattle.c_face.proofs.objections.reason_numbers.Goals as goal
 

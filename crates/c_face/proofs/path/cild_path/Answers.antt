@@ -1,5 +1,4 @@
 -- `c_face::path::cild_path` meets its contract: what `fields_path` ensures of the fields and words lent, read off field by field. Assumes nothing.
-use borrow.Author.Rules.{rules}
 use Prim.Native.Nat.{ℕ}
 use mathlib.Core.Path.{◌≡◌, ap, ◌∙◌}
 use mathlib.Core.List.{List, [], ◌∷◌}

@@ -1,5 +1,4 @@
 -- `c_face::sampler::cild_normals` meets its contract: what `fill` ensures of the sampler lent, read off field by field. Assumes nothing.
-use borrow.Author.Rules.{rules}
 use Prim.Native.Nat.{ℕ}
 use mathlib.Core.Path.{ap, ◌∙◌}
 use mathlib.Core.List.{List}

@@ -1,11 +1,8 @@
 -- `c_face::sampler::fill` meets its contract: the loop is a filling whose state is the sampler. Assumes nothing.
-use borrow.Author.Rules.{rules}
 use native.Mathlib.Omega.{arith}
 use mathlib.Core.Path.{sym, ap, ◌∙◌}
-use Prim.Native.Nat.{◌-◌}
-use lib.ListN.{length}
-use Rattle.normals.specs.Normal.{Drawn, sampler_of, answer_of}
-use Rattle.c_face.proofs.Filling.{Filling, filling_none, filling_more, filling_stop, filling_end}
+use Rattle.normals.specs.Normal.{Drawn, answer_of}
+use Rattle.c_face.proofs.Filling.{filling_none, filling_more, filling_stop, filling_end}
 use Rattle.c_face.proofs.sampler.fill.Goals as goal
 
 pub loop-i-init : goal.loop-i-init

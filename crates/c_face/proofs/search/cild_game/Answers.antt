@@ -1,5 +1,4 @@
 -- What `game` ensures of the fields lent, told in numbers. Assumes nothing.
-use borrow.Author.Rules.{rules}
 use mathlib.Core.Path.{ap, ◌∙◌}
 use Rattle.c_face.specs.Searched.{told_of}
 use Rattle.c_face.proofs.search.cild_game.Goals as goal

@@ -1,10 +1,7 @@
 -- `c_face::slices::cild_products` meets its contract: the loop is a sweep in which the state plays no part. Assumes nothing.
-use borrow.Author.Rules.{rules}
-use native.Mathlib.Omega.{arith}
-use mathlib.Core.Path.{◌≡◌, refl, ◌∙◌}
 use lib.ListN.{length}
 use Rattle.words.specs.Product.{product}
-use Rattle.c_face.proofs.Sweep.{Sweep, sweep_none, sweep_more, swept_map}
+use Rattle.c_face.proofs.Sweep.{Sweep}
 use Prim.Native.Nat.{ℕ, ◌-◌}
 use Rattle.c_face.proofs.slices.cild_products.Given as goal
 

@@ -1,11 +1,9 @@
 -- `c_face::slices::cild_rotations` meets its contract: the loop is a sweep in which the state plays no part. Assumes nothing.
-use borrow.Author.Rules.{rules}
 use native.Mathlib.Omega.{arith}
 use mathlib.Core.Path.{◌≡◌, refl, ◌∙◌}
 use lib.ListN.{length}
 use Rattle.words.specs.Rotation.{rotl}
-use Rattle.c_face.proofs.Sweep.{Sweep, sweep_none, sweep_more, swept_map}
-use Prim.Native.Nat.{ℕ, ◌-◌}
+use Rattle.c_face.proofs.Sweep.{sweep_none, sweep_more, swept_map}
 use Rattle.c_face.proofs.slices.cild_rotations.Goals as goal
 
 pub loop-i-init : goal.loop-i-init

@@ -1,5 +1,4 @@
 -- `c_face::soak_load::cild_soak` meets its contract: what `soak` ensures of the buffer lent, read off part by part. Assumes nothing.
-use borrow.Author.Rules.{rules}
 use Prim.Native.Nat.{ℕ}
 use mathlib.Core.Path.{◌≡◌, ap, ◌∙◌}
 use mathlib.Core.List.{List}

@@ -1,5 +1,4 @@
 -- `c_face::soak_load::soak_numbers` meets its contract: the case that the answer is says its numbers. Assumes nothing.
-use borrow.Author.Rules.{rules}
 use mathlib.Core.Path.{sym, ap}
 use Rattle.c_face.specs.Soaked.{told_of}
 use Rattle.c_face.proofs.soak_load.soak_numbers.Goals as goal

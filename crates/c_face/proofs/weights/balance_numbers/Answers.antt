@@ -1,5 +1,4 @@
 -- The case that the answer is says its numbers. Assumes nothing.
-use borrow.Author.Rules.{rules}
 use mathlib.Core.Path.{sym, ap}
 use Rattle.balance.specs.declared.BalanceAnswer.{BalanceAnswer}
 use Rattle.balance.specs.Call.{call_of}

@@ -1,5 +1,4 @@
 -- What `balance` ensures of the fields lent, told in numbers. Assumes nothing.
-use borrow.Author.Rules.{rules}
 use mathlib.Core.Path.{ap, ◌∙◌}
 use Rattle.c_face.specs.Weighed.{told_of}
 use Rattle.c_face.proofs.weights.cild_balance.Goals as goal
