@@ -45,8 +45,8 @@ pub extern "C" fn cild_ensemble(
     ensures { Averaged.Left (Ensemble.called (labelled places transitions initial.now capacity.now label.now lengths.now
         rate.now delay.now arcs.now kind.now place.now weight.now)
         (record { samples = samples; realizations = realizations; seed = seed; horizon = horizon })
-        (record { mean = mean.entry.now; deviation = deviation.old; path = path.old }))
-        told.new mean.exit.now deviation.new path.new }
+        (record { mean = mean.old; deviation = deviation.old; path = path.old }))
+        told.new mean.new deviation.new path.new }
 {
     let net = Net {
         places: places,
