@@ -1,8 +1,6 @@
 -- `read_cases::all_cases` is safe and ends: each case takes a byte or more of what is left. Assumes nothing.
-use borrow.Author.Rules.{rules}
-use native.Mathlib.Omega.{arith}
 use lib.ListN.{length}
-use Prim.Native.Nat.{ℕ, ◌+◌, ◌-◌, ◌*◌, ◌≤◌, ◌<◌}
+use Prim.Native.Nat.{◌-◌, ◌≤◌}
 use Rattle.read_cases.proofs.all_cases.Given as goal
 
 abbrev pub invariant-loop-at : goal.invariant-loop-at

@@ -1,5 +1,4 @@
 -- `read_cases::float` is safe and ends: what does not differ from itself is no NaN, so its bits can be read. Assumes nothing.
-use borrow.Author.Rules.{rules}
 use Rattle.portable_log.proofs.Laws.{no_nan}
 use Rattle.read_cases.proofs.float.Goals as goal
 

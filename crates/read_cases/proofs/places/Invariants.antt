@@ -1,6 +1,4 @@
 -- `read_cases::places` is safe and ends: it looks at 32 places at most. Assumes nothing.
-use borrow.Author.Rules.{rules}
-use native.Mathlib.Omega.{arith}
 use Prim.Native.Nat.{◌-◌, ◌≤◌}
 use Rattle.read_cases.proofs.places.Given as goal
 

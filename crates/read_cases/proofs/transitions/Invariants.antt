@@ -1,8 +1,5 @@
 -- `read_cases::transitions` is safe and ends: it looks at 64 transitions at most. Assumes nothing.
-use borrow.Author.Rules.{rules}
-use native.Mathlib.Omega.{arith}
-use mathlib.Core.Path.{◌≡◌, refl, sym, ap, ◌∙◌}
-use Prim.Native.Nat.{ℕ, ◌+◌, ◌-◌, ◌*◌, ◌≤◌, ◌<◌}
+use Prim.Native.Nat.{◌-◌, ◌≤◌}
 use Rattle.read_cases.proofs.transitions.Given as goal
 
 abbrev pub invariant-loop-j : goal.invariant-loop-j

@@ -1,5 +1,4 @@
 -- `replay::print_float` is safe and ends: what does not differ from itself is no NaN, so its bits can be read. Assumes nothing.
-use borrow.Author.Rules.{rules}
 use Rattle.portable_log.proofs.Laws.{no_nan}
 use Rattle.replay.proofs.print_float.Goals as goal
 

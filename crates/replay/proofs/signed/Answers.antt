@@ -1,5 +1,4 @@
 -- `replay::signed` is safe and ends: both terms of the difference are below 2 ^ 63, so it fits. Assumes nothing.
-use borrow.Author.Rules.{rules}
 use native.Mathlib.Omega.{arith}
 use Prim.Native.Nat.{◌%◌, ◌^◌}
 use mir.Syntax.{w64}

@@ -1,5 +1,4 @@
 -- Where no number is left the value is 0; elsewhere one is there. Assumes nothing.
-use borrow.Author.Rules.{rules}
 use mathlib.Core.Path.{subst}
 use lib.Dec.{T}
 use Rattle.replay_io.proofs.next_number.Goals as goal

@@ -1,5 +1,4 @@
 -- `replay_io::put_bytes` is safe and ends: i stays at 8 or below. Assumes nothing.
-use borrow.Author.Rules.{rules}
 use Prim.Native.Nat.{◌-◌, ◌≤◌}
 use Rattle.replay_io.proofs.put_bytes.Given as goal
 

@@ -1,5 +1,4 @@
 -- `replay_io::read_arcs` is safe and ends: it fills 16 slots at most, from 1,008 or below. Assumes nothing.
-use borrow.Author.Rules.{rules}
 use Prim.Native.Nat.{◌-◌, ◌≤◌}
 use Rattle.replay_io.proofs.read_arcs.Given as goal
 

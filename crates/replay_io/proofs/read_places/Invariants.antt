@@ -1,5 +1,4 @@
 -- `replay_io::read_places` is safe and ends: it fills 32 places at most. Assumes nothing.
-use borrow.Author.Rules.{rules}
 use Prim.Native.Nat.{◌-◌, ◌≤◌}
 use Rattle.replay_io.proofs.read_places.Given as goal
 

@@ -1,5 +1,4 @@
 -- `replay_io::read_transitions` is safe and ends: it fills 64 transitions at most. Assumes nothing.
-use borrow.Author.Rules.{rules}
 use Prim.Native.Nat.{◌-◌, ◌≤◌}
 use Rattle.replay_io.proofs.read_transitions.Given as goal
 

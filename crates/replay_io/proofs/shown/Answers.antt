@@ -1,9 +1,7 @@
 -- `replay_io::shown` meets its contract, test by test; the product is at most 32 × 2,048. Assumes nothing.
-use borrow.Author.Rules.{rules}
 use borrow.Author.Tests.{lt-ltb, le-ltb}
 use native.Mathlib.Omega.{arith}
 use native.Mathlib.Nat.{mul-le-mul}
-use Prim.Native.Nat.{◌*◌, ◌≤◌}
 use Rattle.replay_io.proofs.shown.Goals as goal
 
 pub returns-then-places-gt32 : goal.returns-then-places-gt32

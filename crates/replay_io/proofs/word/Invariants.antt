@@ -1,5 +1,4 @@
 -- `replay_io::word` is safe and ends: the loop only has to keep i at 16 or below. Assumes nothing.
-use borrow.Author.Rules.{rules}
 use Prim.Native.Nat.{◌-◌, ◌≤◌}
 use Rattle.replay_io.proofs.word.Given as goal
 

@@ -1,5 +1,4 @@
 -- `replay_io::write_cells` is safe and ends: it looks at 2,048 cells at most. Assumes nothing.
-use borrow.Author.Rules.{rules}
 use Prim.Native.Nat.{◌-◌, ◌≤◌}
 use Rattle.replay_io.proofs.write_cells.Given as goal
 

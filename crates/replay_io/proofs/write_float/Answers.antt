@@ -1,5 +1,4 @@
 -- `replay_io::write_float` is safe and ends: what does not differ from itself is no NaN, so its bits can be read. Assumes nothing.
-use borrow.Author.Rules.{rules}
 use Rattle.portable_log.proofs.Laws.{no_nan}
 use Rattle.replay_io.proofs.write_float.Goals as goal
 
