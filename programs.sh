@@ -13,6 +13,7 @@ built() {
     began=$(date +%s)
     mkdir -p "$top/target/bin"
     # the program is run once, on nothing
+    rm -f "$made"
     (cd "$top/crates/$1" && rt run) >"$log" 2>&1 </dev/null || true
     if [ ! -x "$made" ] || grep -q '^logic=not-proved' "$log"; then tail -n 20 "$log" >&2; exit 1; fi
     cp "$made" "$program"

@@ -38,6 +38,7 @@ build_oracle() {
 # build_program NAME: proves and builds target/bin/NAME, where it has changed since. The program is run once, on nothing.
 build_program() {
     local made=$top/crates/$1/out/$1
+    rm -f "$made"
     (cd "$top/crates/$1" && rt run) </dev/null >"$work/program.log" 2>&1
     if [ ! -x "$made" ] || grep -q '^logic=not-proved' "$work/program.log"; then
         tail -n 20 "$work/program.log"

@@ -16,7 +16,7 @@ use replay_io::{
 };
 use rng::Xoshiro256;
 use ssa::{Halted, Onward, PathEnd};
-use std::io::{self, BufReader, Read};
+use std::io::{self, Read};
 use timers::queue::Queue;
 
 fn read_generator(input: &mut impl Read) -> Xoshiro256 {
@@ -215,7 +215,7 @@ fn turn(rt: &impl Print, input: &mut impl Read) -> io::Result<bool> {
 }
 
 fn main(rt: HostRuntime) -> io::Result<()> {
-    let mut input = BufReader::new(rt.alloc(), rt.reader())?;
+    let mut input = rt.stdin();
     let mut turns = u64::MAX;
     while turns > 0 && turn(&rt, &mut input)? {
         turns -= 1;

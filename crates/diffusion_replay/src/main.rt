@@ -10,7 +10,7 @@ use net::Net;
 use net_text::float_of;
 use replay_io::{next_number, number, read_net, shown, write, write_cells, write_number};
 use sde::DiffusionAnswer;
-use std::io::{self, BufReader, Read};
+use std::io::{self, Read};
 
 fn write_flag(rt: &impl Print, b: bool) -> io::Result<()> {
     if b {
@@ -138,7 +138,7 @@ fn turn(rt: &impl Print, input: &mut impl Read) -> io::Result<bool> {
 }
 
 fn main(rt: HostRuntime) -> io::Result<()> {
-    let mut input = BufReader::new(rt.alloc(), rt.reader())?;
+    let mut input = rt.stdin();
     let mut turns = u64::MAX;
     while turns > 0 && turn(&rt, &mut input)? {
         turns -= 1;

@@ -11,7 +11,7 @@ use replay_io::{
 };
 use rng::Xoshiro256;
 use ssa::{PathAnswer, PathEnd};
-use std::io::{self, BufReader, Read};
+use std::io::{self, Read};
 
 fn read_generator(input: &mut impl Read) -> Xoshiro256 {
     let a = number(input);
@@ -112,7 +112,7 @@ fn turn(rt: &impl Print, input: &mut impl Read) -> io::Result<bool> {
 }
 
 fn main(rt: HostRuntime) -> io::Result<()> {
-    let mut input = BufReader::new(rt.alloc(), rt.reader())?;
+    let mut input = rt.stdin();
     let mut turns = u64::MAX;
     while turns > 0 && turn(&rt, &mut input)? {
         turns -= 1;

@@ -6,7 +6,7 @@ ghost use Rattle.std.specs.Prelude.{◌≡◌, ◌<◌, ◌≤◌, length};
 
 use net::Net;
 use net_text::{Judged, RunLine};
-use std::io::{self, BufReader, Read};
+use std::io::{self, Read};
 
 fn word(rt: &impl Print, text: &[u8]) -> io::Result<()> {
     rt.write_all(text)
@@ -214,7 +214,7 @@ fn read_full(input: &mut impl Read, text: &mut [u8]) -> usize
 }
 
 fn main(rt: HostRuntime) -> io::Result<()> {
-    let mut input = BufReader::new(rt.alloc(), rt.reader())?;
+    let mut input = rt.stdin();
     let mut buffer = room();
     let n = read_full(&mut input, &mut buffer);
     all_cases(&rt, &buffer[..n])

@@ -8,7 +8,7 @@ ghost use Rattle.std.specs.Prelude.{◌≤◌};
 use combinations::{RealWays, Ways};
 use net_text::float_of;
 use rng::Xoshiro256;
-use std::io::{self, BufReader, Read};
+use std::io::{self, Read};
 
 fn end(rt: &impl Print) -> io::Result<()> {
     rt.write_all(b"\n")
@@ -166,7 +166,7 @@ fn turn(rt: &impl Print, input: &mut impl Read, state: &mut [u64; 4]) -> io::Res
 }
 
 fn main(rt: HostRuntime) -> io::Result<()> {
-    let mut input = BufReader::new(rt.alloc(), rt.reader())?;
+    let mut input = rt.stdin();
     let mut state = [0u64; 4];
     let mut turns = u64::MAX;
     while turns > 0 && turn(&rt, &mut input, &mut state)? {
