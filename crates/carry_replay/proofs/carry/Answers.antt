@@ -1,5 +1,4 @@
 -- `carry_replay::carry` is safe and ends: the parts have as many as are asked for, or all. Assumes nothing.
-use borrow.Author.Rules.{rules}
 use native.Mathlib.Omega.{arith}
 use mathlib.Core.Path.{sym}
 use lib.Seq.{length-take-le}

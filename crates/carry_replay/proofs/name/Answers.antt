@@ -1,5 +1,4 @@
 -- `carry_replay::name` is safe and ends: the part has as many instants as are asked for, or all. Assumes nothing.
-use borrow.Author.Rules.{rules}
 use native.Mathlib.Omega.{arith}
 use mathlib.Core.Path.{sym}
 use lib.Seq.{length-take-le}

@@ -1,5 +1,4 @@
 -- `carry_replay::read_instants` is safe and ends: it fills 2,048 instants at most. Assumes nothing.
-use borrow.Author.Rules.{rules}
 use Prim.Native.Nat.{◌-◌, ◌≤◌}
 use Rattle.carry_replay.proofs.read_instants.Given as goal
 

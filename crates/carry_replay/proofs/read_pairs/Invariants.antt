@@ -1,5 +1,4 @@
 -- `carry_replay::read_pairs` is safe and ends: it fills 128 words at most. Assumes nothing.
-use borrow.Author.Rules.{rules}
 use Prim.Native.Nat.{◌-◌, ◌≤◌}
 use Rattle.carry_replay.proofs.read_pairs.Given as goal
 

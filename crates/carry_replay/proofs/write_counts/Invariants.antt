@@ -1,5 +1,4 @@
 -- `carry_replay::write_counts` is safe and ends: it writes 32 counts. Assumes nothing.
-use borrow.Author.Rules.{rules}
 use Prim.Native.Nat.{◌-◌, ◌≤◌}
 use Rattle.carry_replay.proofs.write_counts.Given as goal
 

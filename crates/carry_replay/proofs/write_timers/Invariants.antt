@@ -1,5 +1,4 @@
 -- `carry_replay::write_timers` is safe and ends: it writes 256 timers at most. Assumes nothing.
-use borrow.Author.Rules.{rules}
 use Prim.Native.Nat.{◌-◌, ◌≤◌}
 use Rattle.carry_replay.proofs.write_timers.Given as goal
 

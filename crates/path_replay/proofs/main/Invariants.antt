@@ -1,5 +1,4 @@
 -- `path_replay::main` is safe and ends: the measure is the number of turns that are left, and nothing has to hold from turn to turn. Assumes nothing.
-use borrow.Author.Rules.{rules}
 use Rattle.path_replay.proofs.main.Given as goal
 
 abbrev pub invariant-loop-turns : goal.invariant-loop-turns

@@ -1,5 +1,4 @@
 -- `path_replay::path` is safe and ends: n is at most the length, so the part has n instants. Assumes nothing.
-use borrow.Author.Rules.{rules}
 use native.Mathlib.Omega.{arith}
 use mathlib.Core.Path.{sym}
 use lib.Seq.{length-take-le}
