@@ -1,52 +1,43 @@
-// The numbers by which an operation turns its input down, as document 01 lists them. specs/ says what each means.
+// The reasons for which an operation turns its input down, with the numbers by which the documents and C name them. specs/ says what each means.
 #![tactic(auto)]
 
-pub const WRONG_FORM: u64 = 1;
+ghost use Rattle.std.specs.Prelude.{◌≡◌};
+ghost use Rattle.refusals.specs.Number.{number_of};
 
-pub const BAD_SIZE: u64 = 2;
+#[derive(Clone, Copy, Debug, PartialEq, Eq)]
+pub enum Refusal {
+    WrongForm = 1,
+    BadSize = 2,
+    NoSuchPlace = 3,
+    OutsideDomain = 4,
+    TakenTwice = 5,
+    DelayWithoutTake = 6,
+    KineticTotal = 7,
+    BadSamples = 8,
+    BadRealizations = 9,
+    BadHorizon = 10,
+    ShortTable = 11,
+    BadInstants = 12,
+    BadLimit = 13,
+    CountTooLarge = 14,
+    TooManyTimers = 15,
+    NoNormal = 16,
+    BadLabel = 17,
+    UsedLabel = 18,
+    ShortBuffer = 19,
+    UnequalPlaces = 20,
+    BadRenaming = 21,
+    BadTimer = 22,
+    DelayedTransition = 23,
+    BadSides = 24,
+    NoSuchGoal = 25,
+}
 
-pub const NO_SUCH_PLACE: u64 = 3;
-
-pub const OUTSIDE_DOMAIN: u64 = 4;
-
-pub const TAKEN_TWICE: u64 = 5;
-
-pub const DELAY_WITHOUT_TAKE: u64 = 6;
-
-pub const KINETIC_TOTAL: u64 = 7;
-
-pub const BAD_SAMPLES: u64 = 8;
-
-pub const BAD_REALIZATIONS: u64 = 9;
-
-pub const BAD_HORIZON: u64 = 10;
-
-pub const SHORT_TABLE: u64 = 11;
-
-pub const BAD_INSTANTS: u64 = 12;
-
-pub const BAD_LIMIT: u64 = 13;
-
-pub const COUNT_TOO_LARGE: u64 = 14;
-
-pub const TOO_MANY_TIMERS: u64 = 15;
-
-pub const NO_NORMAL: u64 = 16;
-
-pub const BAD_LABEL: u64 = 17;
-
-pub const USED_LABEL: u64 = 18;
-
-pub const SHORT_BUFFER: u64 = 19;
-
-pub const UNEQUAL_PLACES: u64 = 20;
-
-pub const BAD_RENAMING: u64 = 21;
-
-pub const BAD_TIMER: u64 = 22;
-
-pub const DELAYED_TRANSITION: u64 = 23;
-
-pub const BAD_SIDES: u64 = 24;
-
-pub const NO_SUCH_GOAL: u64 = 25;
+impl Refusal {
+    // The number that the documents and C know it by.
+    pub fn number(self) -> u64
+        ensures { result ≡ number_of self }
+    {
+        self as u64
+    }
+}
