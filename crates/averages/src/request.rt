@@ -4,49 +4,50 @@ ghost use Rattle.net.specs.Readable as Readable;
 ghost use Rattle.averages.specs.Request as Spec;
 ghost use Rattle.averages.specs.Front as Front;
 
-use net::Verdict;
+use refusals::Refusal;
+
 
 // 2^30
 const MOST_HORIZON: f64 = 1073741824.0;
 
 // The first of 8, 9 and 10 that applies.
-pub fn request_fault(samples: u64, realizations: u64, seed: u64, horizon: f64) -> Verdict
+pub fn request_fault(samples: u64, realizations: u64, seed: u64, horizon: f64) -> Result<(), Refusal>
     ensures { Readable.meaning result ≡ Spec.request_fault (record { samples = samples; realizations = realizations; seed = seed; horizon = horizon }) }
 {
     if samples < 2 {
-        return Verdict::Refused(refusals::BAD_SAMPLES);
+        return Err(Refusal::BadSamples);
     }
     if 1024 < samples {
-        return Verdict::Refused(refusals::BAD_SAMPLES);
+        return Err(Refusal::BadSamples);
     }
     if realizations < 1 {
-        return Verdict::Refused(refusals::BAD_REALIZATIONS);
+        return Err(Refusal::BadRealizations);
     }
     if 65_535 < realizations {
-        return Verdict::Refused(refusals::BAD_REALIZATIONS);
+        return Err(Refusal::BadRealizations);
     }
     if 0.0 < horizon {
         if horizon <= MOST_HORIZON {
-            return Verdict::Accepted;
+            return Ok(());
         }
     }
-    Verdict::Refused(refusals::BAD_HORIZON)
+    Err(Refusal::BadHorizon)
 }
 
 // 11 where one of three tables has less than so many cells.
-pub fn tables_fault(cells: usize, mean: usize, deviation: usize, path: usize) -> Verdict
+pub fn tables_fault(cells: usize, mean: usize, deviation: usize, path: usize) -> Result<(), Refusal>
     ensures { Readable.meaning result ≡ Spec.tables_fault cells mean deviation path }
 {
     if mean < cells {
-        return Verdict::Refused(refusals::SHORT_TABLE);
+        return Err(Refusal::ShortTable);
     }
     if deviation < cells {
-        return Verdict::Refused(refusals::SHORT_TABLE);
+        return Err(Refusal::ShortTable);
     }
     if path < cells {
-        return Verdict::Refused(refusals::SHORT_TABLE);
+        return Err(Refusal::ShortTable);
     }
-    Verdict::Accepted
+    Ok(())
 }
 
 // The seed of path k: the seed given, or 1 for seed 0, and k more modulo 2^64.

@@ -7,7 +7,8 @@ ghost use Rattle.std.specs.Prelude.{◌≡◌};
 ghost use Rattle.net.specs.Record.{labelled};
 ghost use Rattle.balance.specs.Call as Call;
 
-use net::{Net, Verdict};
+use net::Net;
+use refusals::Refusal;
 
 // What a call answers: that every transition is balanced, the lowest that is not, or the number by which the call is turned down.
 #[derive(Clone, Copy)]
@@ -37,7 +38,7 @@ fn lent_balance<'a>(
         label.now lengths.now rate.now delay.now arcs.now
         kind.now place.now weight.now) weights.now }
 {
-    if let Verdict::Refused(c) = net::fields_fault(
+    if let Err(c) = net::fields_fault(
         places,
         transitions,
         initial,
@@ -54,10 +55,10 @@ fn lent_balance<'a>(
         return BalanceAnswer::Refused(c);
     }
     if weights.len() != places {
-        return BalanceAnswer::Refused(refusals::NO_SUCH_PLACE);
+        return BalanceAnswer::Refused(Refusal::NoSuchPlace);
     }
     if weighing::some_above(weights) {
-        return BalanceAnswer::Refused(refusals::OUTSIDE_DOMAIN);
+        return BalanceAnswer::Refused(Refusal::OutsideDomain);
     }
     weighing::first_uneven(
         places,

@@ -4,15 +4,16 @@ ghost use Rattle.net.specs.Readable as Record;
 ghost use Rattle.net.specs.Record.{labelled};
 ghost use Rattle.c_face.specs.Indexed as Indexed;
 
-use net::{Net, Verdict};
+use net::Net;
+use refusals::Refusal;
 
 // The refusal's number, or 0.
-fn verdict_number(verdict: Verdict) -> u64
+fn verdict_number(verdict: Result<(), Refusal>) -> u64
     ensures { result ≡ Indexed.number_of verdict }
 {
     match verdict {
-        Verdict::Accepted => 0,
-        Verdict::Refused(c) => c,
+        Ok(()) => 0,
+        Err(c) => c,
     }
 }
 

@@ -17,7 +17,7 @@ mod shown;
 ghost use Rattle.std.specs.Prelude.{◌≡◌, ◌≤◌, length};
 
 use averages::request;
-use net::{Net, Verdict};
+use net::Net;
 use net_io::arguments::{Number, number_of};
 use net_io::{Input, read_input, say, write_refused};
 use net_text::{Judged, RunLine};
@@ -172,8 +172,8 @@ fn run(
     let samples = asked.samples;
     let seed = asked.seed;
     match request::request_fault(samples, asked.realizations, seed, horizon) {
-        Verdict::Refused(c) => write_refused(rt, c, 0),
-        Verdict::Accepted => {
+        Err(c) => write_refused(rt, c, 0),
+        Ok(()) => {
             if samples <= 1_024 {
                 halt_on_grid(rt, net, samples, seed, horizon, steps, carries, pairs, new);
             }

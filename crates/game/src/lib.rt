@@ -8,7 +8,8 @@ ghost use Rattle.std.specs.Prelude.{◌≡◌};
 ghost use Rattle.game.specs.Call as Call;
 
 use engine::slots;
-use net::{Net, Verdict};
+use net::Net;
+use refusals::Refusal;
 
 // The first move by which the fault side wins, if there is one.
 #[derive(Clone, Copy)]
@@ -33,21 +34,21 @@ pub fn game(net: Net, sides: &[u64], place: usize, count: u64, turns: u64) -> Ga
     ensures is { Call.call_of result ≡ Call.called net sides.now place count turns }
     ensures exactly { Call.Exact net sides.now place count turns (Call.call_of result) }
 {
-    if let Verdict::Refused(c) = net::test_net(net) {
+    if let Err(c) = net::test_net(net) {
         return GameAnswer::Refused(c);
     }
     let transitions = net.transitions;
     if slots::any_timed(transitions, &net.delay) {
-        return GameAnswer::Refused(refusals::DELAYED_TRANSITION);
+        return GameAnswer::Refused(Refusal::DelayedTransition);
     }
     if !accept::sides_fit(sides, transitions) {
-        return GameAnswer::Refused(refusals::BAD_SIDES);
+        return GameAnswer::Refused(Refusal::BadSides);
     }
     if !accept::turns_fit(turns) {
-        return GameAnswer::Refused(refusals::BAD_SIDES);
+        return GameAnswer::Refused(Refusal::BadSides);
     }
     if net.places <= place {
-        return GameAnswer::Refused(refusals::NO_SUCH_GOAL);
+        return GameAnswer::Refused(Refusal::NoSuchGoal);
     }
     let r = accept::accepted_game(net, sides, place, count, turns);
     let first = r.first;

@@ -10,16 +10,15 @@ ghost use Rattle.net.specs.Readable as Record;
 ghost use Rattle.index.specs.Table as Table;
 
 use engine::slots;
-use net::{Net, Verdict};
+use net::Net;
+use refusals::Refusal;
 
 // Sets masks[p] to the transitions that are listed for place p: bit j is set exactly where transition j has an input, read or inhibitor on it, or a net change
 // above 0 on it where its capacity is above 0. A place that the net does not have gets 0. A net that is turned down leaves the masks as they were.
-pub fn index_of(net: Net, masks: &mut [u64; 32]) -> Verdict
+pub fn index_of(net: Net, masks: &mut [u64; 32]) -> Result<(), Refusal>
     ensures { Table.Answered (Record.fault net) (Record.readable net) masks.old masks.new result }
 {
-    if let Verdict::Refused(c) = net::test_net(net) {
-        return Verdict::Refused(c);
-    }
+    net::test_net(net)?;
     let n = slots::tidied(net);
     *masks = listed::listed_words(
         n.places,
@@ -33,5 +32,5 @@ pub fn index_of(net: Net, masks: &mut [u64; 32]) -> Verdict
         &n.place,
         &n.weight,
     );
-    Verdict::Accepted
+    Ok(())
 }

@@ -1,12 +1,12 @@
 -- The program's net record: the readable net that it stands for, the labels beside it, and its test. A record has room for 32 places, 64
 -- transitions and 16 arcs a transition. Arc i of transition j stands in slot 16 × j + i. Slots past the counts are not looked at.
-use Rattle.std.specs.Prelude.{ℕ, zero, suc, ◌+◌, ◌*◌, ◌≡◌, Bool, false, ◌||◌, List, [], ◌∷◌, eqb, leb, ltb, get_or, Float}
+use Rattle.std.specs.Prelude.{ℕ, zero, suc, ◌+◌, ◌*◌, ◌≡◌, Bool, false, ◌||◌, List, [], ◌∷◌, eqb, leb, ltb, get_or, Float, Result, Ok, Err}
 use Rattle.std.proofs.Math.Option.{Option, none, some}
 use Rattle.std.specs.Float.{nan}
 use Rattle.refusals.specs as Refusal
+use Rattle.refusals.specs.Number.{number_of}
+use Rattle.refusals.specs.declared.Refusal.{Refusal as RefusalEnum}
 use Rattle.net.specs.declared.Net.{Net as NetRecord}
-use Rattle.net.specs.declared.Verdict.{Verdict}
-use Rattle.net.specs.declared.Verdict.TheVariants.{Accepted, Refused}
 use Rattle.text.specs.Text.{Bytes}
 use Rattle.net.specs.Net.{Place, Arc, Take, Transition, Net, pick, numbered}
 use Rattle.net.specs.Tests.{first_of, any, empty, place_tests, move_tests, or_else, fault_from}
@@ -116,9 +116,9 @@ fault n =
     (moves_fault n 0 n.transitions))
 
 -- what an answer says: accepted, or refused by a number
-abbrev pub meaning : Verdict → Option ℕ
-meaning Accepted = none
-meaning (Refused c) = some c
+abbrev pub meaning : Result Unit RefusalEnum → Option ℕ
+meaning (Ok _) = none
+meaning (Err r) = some (number_of r)
 
 -- ---- labels decide 17 and 18, and nothing else: "The figures match those of the text without labels"
 

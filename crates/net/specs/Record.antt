@@ -1,6 +1,7 @@
 -- The program's net record, made of its fields.
 use Rattle.std.specs.Prelude.{ℕ, List, [], replicate, Float}
 use Rattle.net.specs.declared.Net.{Net as NetRecord}
+use Rattle.net.specs.declared.lent.LentNet.{LentNet}
 use Rattle.net.specs.Net.{zero64}
 
 -- the record with these fields, in their order
@@ -20,6 +21,12 @@ labelled places transitions initial capacity label lengths rate delay arcs kind 
       place = place;
       weight = weight;
     }
+
+-- the record whose fields are lent
+abbrev pub net_of : LentNet → NetRecord
+net_of n =
+    labelled n.places n.transitions n.initial.now n.capacity.now n.label.now n.lengths.now n.rate.now n.delay.now n.arcs.now n.kind.now n.place.now
+    n.weight.now
 
 -- the record of a function that is lent every field but the labels, which no rule of a run sees
 abbrev pub lent : ℕ → ℕ → List ℕ → List ℕ → List Float → List Float → List ℕ → List ℕ → List ℕ → List ℕ → NetRecord

@@ -4,6 +4,7 @@
 mod arcs;
 mod bounds;
 mod labels;
+mod lent;
 mod places;
 mod takes;
 mod transitions;
@@ -11,8 +12,11 @@ mod transitions;
 ghost use Rattle.std.specs.Prelude.{◌≡◌, ◌*◌};
 ghost use Rattle.net.specs.Tests as Tests;
 ghost use Rattle.net.specs.Readable as Readable;
-ghost use Rattle.net.specs.Record.{labelled, blank};
+ghost use Rattle.net.specs.Record.{net_of, blank};
 ghost use Rattle.net.specs.Labels as Labels;
+
+pub use lent::LentNet;
+use refusals::Refusal;
 
 // Up to 32 places, 64 transitions and 16 arcs a transition. The label of place p stands in label from byte 16 * p on; lengths[p] says how many
 // bytes it has. Arc i of transition j stands in slot 16 * j + i of kind, place and weight; arcs[j] says how many it has. Slots past the counts
@@ -44,47 +48,44 @@ pub const READ: u64 = 3;
 
 pub const BLOCK: u64 = 4;
 
-// What a test says: accepted, or turned down by this number.
-#[derive(Clone, Copy)]
-pub enum Verdict {
-    Accepted,
-    Refused(u64),
-}
-
 // The first of 2 and 4 that applies to a place with so many places before it. strange: its text holds a value that no place can have.
-pub fn place_fault(before: usize, strange: bool, initial: u64, capacity: u64) -> Verdict
+pub fn place_fault(before: usize, strange: bool, initial: u64, capacity: u64) -> Result<(), Refusal>
     ensures { Readable.meaning result ≡ Tests.first_of (Tests.place_tests before strange (record { initial = initial; capacity = capacity })) }
 {
     if bounds::MOST_PLACES <= before {
-        return Verdict::Refused(refusals::BAD_SIZE);
+        return Err(Refusal::BadSize);
     }
     if strange {
-        return Verdict::Refused(refusals::OUTSIDE_DOMAIN);
+        return Err(Refusal::OutsideDomain);
     }
     if bounds::MOST_TOKENS < initial {
-        return Verdict::Refused(refusals::OUTSIDE_DOMAIN);
+        return Err(Refusal::OutsideDomain);
     }
     if bounds::MOST_TOKENS < capacity {
-        return Verdict::Refused(refusals::OUTSIDE_DOMAIN);
+        return Err(Refusal::OutsideDomain);
     }
-    Verdict::Accepted
+    Ok(())
 }
 
 // The first of 17 and 18 that applies to the label of place p, behind those of the places before it.
-pub fn label_fault<'a>(label: &'a [u8; 512], lengths: &'a [usize; 32], p: usize) -> Verdict
+pub fn label_fault<'a>(
+    label: &'a [u8; 512],
+    lengths: &'a [usize; 32],
+    p: usize,
+) -> Result<(), Refusal>
     ensures { Readable.meaning result ≡ Labels.label_fault label.now lengths.now p }
 {
     let bytes: &[u8] = label;
     if bounds::MOST_PLACES <= p {
-        return Verdict::Refused(refusals::BAD_LABEL);
+        return Err(Refusal::BadLabel);
     }
     if !labels::label_fits(bytes, lengths, p) {
-        return Verdict::Refused(refusals::BAD_LABEL);
+        return Err(Refusal::BadLabel);
     }
     if labels::used_before(bytes, lengths, p) {
-        return Verdict::Refused(refusals::USED_LABEL);
+        return Err(Refusal::UsedLabel);
     }
-    Verdict::Accepted
+    Ok(())
 }
 
 // The label of a place, where the record has one of at most 16 bytes; else no byte.
@@ -105,103 +106,58 @@ pub fn label_of<'a>(label: &'a [u8; 512], lengths: &'a [usize; 32], p: usize) ->
     &bytes[from..end]
 }
 
-// The first of 2 to 7 that applies to a transition over so many places, with so many transitions before it. Its arcs stand in `count`
+// The first of 2 to 7 that applies to a transition over the net's places, with so many transitions before it. Its arcs stand in `count`
 // slots from 16 * before on. strange: its text holds a value that no transition can have.
-pub fn transition_fault<'a>(
-    places: usize,
+pub fn transition_fault(
+    net: &LentNet,
     before: usize,
     strange: bool,
     rate: f64,
     delay: f64,
     count: usize,
-    kind: &'a [u64; 1024],
-    place: &'a [usize; 1024],
-    weight: &'a [u64; 1024],
-) -> Verdict
-    ensures { Readable.meaning result ≡ Readable.slots_fault places before strange rate delay
-        (Readable.slots kind.now place.now weight.now (16 * before) count) }
+) -> Result<(), Refusal>
+    ensures { let net = net_of net.now in Readable.meaning result ≡ Readable.slots_fault net.places before strange rate delay
+        (Readable.slots net.kind net.place net.weight (16 * before) count) }
 {
-    if bounds::too_many(places, before, count) {
-        return Verdict::Refused(refusals::BAD_SIZE);
+    if bounds::too_many(net.places, before, count) {
+        return Err(Refusal::BadSize);
     }
     let from = 16 * before;
     let end = from + count;
-    if arcs::no_such_place(places, kind, place, weight, from, end) {
-        return Verdict::Refused(refusals::NO_SUCH_PLACE);
+    if arcs::no_such_place(net, from, end) {
+        return Err(Refusal::NoSuchPlace);
     }
-    if arcs::outside(strange, rate, delay, kind, place, weight, from, end) {
-        return Verdict::Refused(refusals::OUTSIDE_DOMAIN);
+    if arcs::outside(net, strange, rate, delay, from, end) {
+        return Err(Refusal::OutsideDomain);
     }
-    if takes::taken_twice(kind, place, weight, from, end) {
-        return Verdict::Refused(refusals::TAKEN_TWICE);
+    if takes::taken_twice(net, from, end) {
+        return Err(Refusal::TakenTwice);
     }
-    if takes::delayed_for_nothing(delay, kind, place, weight, from, end) {
-        return Verdict::Refused(refusals::DELAY_WITHOUT_TAKE);
+    if takes::delayed_for_nothing(net, delay, from, end) {
+        return Err(Refusal::DelayWithoutTake);
     }
-    if takes::kinetic_over(kind, place, weight, from, end) {
-        return Verdict::Refused(refusals::KINETIC_TOTAL);
+    if takes::kinetic_over(net, from, end) {
+        return Err(Refusal::KineticTotal);
     }
-    Verdict::Accepted
+    Ok(())
 }
 
-// The first of 2 to 7, 17 and 18 that applies to the net whose fields are lent: place by place, then 2 where there is no place, then transition by
-// transition. A caller that holds the fields already is spared the copy that test_net takes.
-pub fn fields_fault<'a>(
-    places: usize,
-    transitions: usize,
-    initial: &'a [u64; 32],
-    capacity: &'a [u64; 32],
-    label: &'a [u8; 512],
-    lengths: &'a [usize; 32],
-    rate: &'a [f64; 64],
-    delay: &'a [f64; 64],
-    arcs: &'a [usize; 64],
-    kind: &'a [u64; 1024],
-    place: &'a [usize; 1024],
-    weight: &'a [u64; 1024],
-) -> Verdict
-    ensures { Readable.meaning result ≡ Readable.fault (labelled places transitions initial.now capacity.now
-        label.now lengths.now rate.now delay.now arcs.now
-        kind.now place.now weight.now) }
+// The first of 2 to 7, 17 and 18 that applies to the net whose fields are lent: place by place, then 2 where there is no place, then transition by transition.
+pub fn fields_fault(net: &LentNet) -> Result<(), Refusal>
+    ensures { Readable.meaning result ≡ Readable.fault (net_of net.now) }
 {
-    if let Verdict::Refused(c) = places::places_fault(places, initial, capacity, label, lengths) {
-        return Verdict::Refused(c);
+    places::places_fault(net)?;
+    if net.places == 0 {
+        return Err(Refusal::BadSize);
     }
-    if places == 0 {
-        return Verdict::Refused(refusals::BAD_SIZE);
-    }
-    transitions::transitions_fault(
-        places,
-        transitions,
-        initial,
-        capacity,
-        rate,
-        delay,
-        arcs,
-        kind,
-        place,
-        weight,
-    )
+    transitions::transitions_fault(net)
 }
 
 // The first of 2 to 7, 17 and 18 that applies to a net.
-pub fn test_net(net: Net) -> Verdict
+pub fn test_net(net: Net) -> Result<(), Refusal>
     ensures { Readable.meaning result ≡ Readable.fault net }
 {
-    fields_fault(
-        net.places,
-        net.transitions,
-        &net.initial,
-        &net.capacity,
-        &net.label,
-        &net.lengths,
-        &net.rate,
-        &net.delay,
-        &net.arcs,
-        &net.kind,
-        &net.place,
-        &net.weight,
-    )
+    fields_fault(&net.lent())
 }
 
 // An empty net: no place, no transition, 0 in every slot.

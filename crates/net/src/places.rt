@@ -1,46 +1,30 @@
 // The tests of a net's places, in their order.
 ghost use Rattle.std.specs.Prelude.{◌≡◌};
 ghost use Rattle.net.specs.Readable as Readable;
+ghost use Rattle.net.specs.Record.{net_of};
 
-use crate::{Verdict, bounds};
+use crate::{LentNet, bounds};
+use refusals::Refusal;
 
 // The first of 2, 4, 17 and 18 that applies to place p. The 33rd place is 2, and its slots are not looked at.
-fn place_at<'a>(
-    initial: &'a [u64; 32],
-    capacity: &'a [u64; 32],
-    label: &'a [u8; 512],
-    lengths: &'a [usize; 32],
-    p: usize,
-) -> Verdict
-    ensures { Readable.meaning result ≡ Readable.place_fault initial.now capacity.now label.now
-        lengths.now p }
+fn place_at(net: &LentNet, p: usize) -> Result<(), Refusal>
+    ensures { let net = net_of net.now in Readable.meaning result ≡ Readable.place_fault net.initial net.capacity net.label
+        net.lengths p }
 {
     if bounds::MOST_PLACES <= p {
-        return Verdict::Refused(refusals::BAD_SIZE);
+        return Err(Refusal::BadSize);
     }
-    if let Verdict::Refused(c) = crate::place_fault(p, false, initial[p], capacity[p]) {
-        return Verdict::Refused(c);
-    }
-    crate::label_fault(label, lengths, p)
+    crate::place_fault(p, false, net.initial[p], net.capacity[p])?;
+    crate::label_fault(net.label, net.lengths, p)
 }
 
 // The first fault of the places, in their order.
-pub fn places_fault<'a>(
-    places: usize,
-    initial: &'a [u64; 32],
-    capacity: &'a [u64; 32],
-    label: &'a [u8; 512],
-    lengths: &'a [usize; 32],
-) -> Verdict
-    ensures { Readable.meaning result ≡ Readable.places_fault initial.now capacity.now label.now
-        lengths.now 0 places }
+pub fn places_fault(net: &LentNet) -> Result<(), Refusal>
+    ensures { let net = net_of net.now in Readable.meaning result ≡ Readable.places_fault net.initial net.capacity net.label
+        net.lengths 0 net.places }
 {
-    let mut p: usize = 0;
-    while p < places {
-        if let Verdict::Refused(c) = place_at(initial, capacity, label, lengths, p) {
-            return Verdict::Refused(c);
-        }
-        p += 1;
+    for p in 0..net.places {
+        place_at(net, p)?;
     }
-    Verdict::Accepted
+    Ok(())
 }

@@ -1,68 +1,27 @@
 // The tests of a net's transitions, in their order.
 ghost use Rattle.std.specs.Prelude.{◌≡◌};
-ghost use Rattle.net.specs.declared.Net.{Net as NetRecord};
 ghost use Rattle.net.specs.Readable as Readable;
-ghost use Rattle.net.specs.Record.{lent};
+ghost use Rattle.net.specs.Record.{net_of};
 
-use crate::{Verdict, bounds};
+use crate::{LentNet, bounds};
+use refusals::Refusal;
 
 // The first of 2 to 7 that applies to transition j. The 65th transition is 2, and its slots are not looked at.
-fn transition_at<'a>(
-    places: usize,
-    transitions: usize,
-    initial: &'a [u64; 32],
-    capacity: &'a [u64; 32],
-    rate: &'a [f64; 64],
-    delay: &'a [f64; 64],
-    arcs: &'a [usize; 64],
-    kind: &'a [u64; 1024],
-    place: &'a [usize; 1024],
-    weight: &'a [u64; 1024],
-    j: usize,
-) -> Verdict
-    ensures { let net = lent places transitions initial.now capacity.now rate.now delay.now arcs.now kind.now place.now weight.now in Readable.meaning result ≡ Readable.move_fault net j }
+fn transition_at(net: &LentNet, j: usize) -> Result<(), Refusal>
+    ensures { Readable.meaning result ≡ Readable.move_fault (net_of net.now) j }
 {
     if bounds::MOST_TRANSITIONS <= j {
-        return Verdict::Refused(refusals::BAD_SIZE);
+        return Err(Refusal::BadSize);
     }
-    crate::transition_fault(
-        places, j, false, rate[j], delay[j], arcs[j], kind, place, weight,
-    )
+    crate::transition_fault(net, j, false, net.rate[j], net.delay[j], net.arcs[j])
 }
 
 // The first fault of the transitions, in their order.
-pub fn transitions_fault<'a>(
-    places: usize,
-    transitions: usize,
-    initial: &'a [u64; 32],
-    capacity: &'a [u64; 32],
-    rate: &'a [f64; 64],
-    delay: &'a [f64; 64],
-    arcs: &'a [usize; 64],
-    kind: &'a [u64; 1024],
-    place: &'a [usize; 1024],
-    weight: &'a [u64; 1024],
-) -> Verdict
-    ensures { let net = lent places transitions initial.now capacity.now rate.now delay.now arcs.now kind.now place.now weight.now in Readable.meaning result ≡ Readable.moves_fault net 0 transitions }
+pub fn transitions_fault(net: &LentNet) -> Result<(), Refusal>
+    ensures { Readable.meaning result ≡ Readable.moves_fault (net_of net.now) 0 net.now.transitions }
 {
-    let mut j: usize = 0;
-    while j < transitions {
-        if let Verdict::Refused(c) = transition_at(
-            places,
-            transitions,
-            initial,
-            capacity,
-            rate,
-            delay,
-            arcs,
-            kind,
-            place,
-            weight,
-            j,
-        ) {
-            return Verdict::Refused(c);
-        }
-        j += 1;
+    for j in 0..net.transitions {
+        transition_at(net, j)?;
     }
-    Verdict::Accepted
+    Ok(())
 }

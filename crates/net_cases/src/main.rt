@@ -3,13 +3,14 @@
 
 ghost use Rattle.std.specs.Prelude.{◌<◌};
 
-use net::{Net, Verdict};
+use net::Net;
 use std::io;
+use refusals::Refusal;
 
-fn number(v: Verdict) -> u64 {
+fn number(v: Result<(), Refusal>) -> u64 {
     match v {
-        Verdict::Accepted => 0,
-        Verdict::Refused(c) => c,
+        Ok(()) => 0,
+        Err(c) => c,
     }
 }
 

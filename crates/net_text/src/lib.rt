@@ -6,6 +6,8 @@ ghost use Rattle.std.specs.Float.{binary64};
 ghost use Rattle.std.specs.Float.Ieee.{of_bits};
 ghost use Rattle.net_text.specs.Answered as Answered;
 
+use refusals::Refusal;
+
 mod form;
 mod order;
 mod scan;
@@ -64,7 +66,7 @@ pub fn read_net(text: &[u8]) -> NetText
     ensures { Answered.NetRead text.now result }
 {
     if 8192 < text.len() {
-        return refused(refusals::BAD_SIZE, 0);
+        return refused(Refusal::BadSize, 0);
     }
     let mut initial = [0u64; 32];
     let mut capacity = [0u64; 32];

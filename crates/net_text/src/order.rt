@@ -7,6 +7,7 @@ ghost use Rattle.text.specs.Text as Text;
 ghost use Rattle.net_text.specs.Position as Spec;
 
 use super::{Judged, RunLine, float_of, form, scan};
+use refusals::Refusal;
 
 // What is due next: `(net`; a place, a move or the run line; `)`; nothing more.
 #[derive(Clone, Copy)]
@@ -80,12 +81,12 @@ fn no_run() -> RunLine
 }
 
 // The label of place p, below 32: refused by 17 or 18, or stored. One over 16 bytes would not fit its slots.
-fn take_label(l: &[u8], p: usize, label: &mut [u8; 512], lengths: &mut [usize; 32]) -> net::Verdict
+fn take_label(l: &[u8], p: usize, label: &mut [u8; 512], lengths: &mut [usize; 32]) -> Result<(), Refusal>
     requires { (p < 32) × (length label.old ≡ 512) × (length lengths.old ≡ 32) }
     ensures { Spec.LabelTaken p l.now label.old lengths.old label.new lengths.new result }
 {
     if 16 < l.len() {
-        return net::Verdict::Refused(refusals::BAD_LABEL);
+        return Err(Refusal::BadLabel);
     }
     text::put_bytes(label, 16 * p, l);
     lengths[p] = l.len();
@@ -104,23 +105,19 @@ fn take_place(
     capacity: &mut [u64; 32],
     label: &mut [u8; 512],
     lengths: &mut [usize; 32],
-) -> net::Verdict
+) -> Result<(), Refusal>
     requires { (length initial.old ≡ 32) × (length capacity.old ≡ 32) × (length label.old ≡ 512) × (length lengths.old ≡ 32) }
     ensures { Spec.PlaceTaken places transitions strange i c l.now initial.old capacity.old label.old
         lengths.old initial.new capacity.new label.new lengths.new result }
 {
     if 0 < transitions {
-        return net::Verdict::Refused(refusals::WRONG_FORM);
+        return Err(Refusal::WrongForm);
     }
-    if let net::Verdict::Refused(n) = net::place_fault(places, strange, i, c) {
-        return net::Verdict::Refused(n);
-    }
-    if let net::Verdict::Refused(n) = take_label(l, places, label, lengths) {
-        return net::Verdict::Refused(n);
-    }
+    net::place_fault(places, strange, i, c)?;
+    take_label(l, places, label, lengths)?;
     initial[places] = i;
     capacity[places] = c;
-    net::Verdict::Accepted
+    Ok(())
 }
 
 // A move line of the right form, its arcs in the slots already: refused by 2 to 7, or stored.
@@ -137,7 +134,7 @@ fn take_move<'a>(
     kind: &'a [u64; 1024],
     place: &'a [usize; 1024],
     weight: &'a [u64; 1024],
-) -> net::Verdict
+) -> Result<(), Refusal>
     requires { (length rate.old ≡ 64) × (length delay.old ≡ 64) × (length arcs.old ≡ 64) }
     ensures { Spec.MoveTaken places transitions strange r d count kind.now place.now weight.now
         rate.old delay.old arcs.old rate.new delay.new arcs.new result }
@@ -156,27 +153,27 @@ fn take_move<'a>(
         weight,
     );
     match v {
-        net::Verdict::Refused(n) => net::Verdict::Refused(n),
-        net::Verdict::Accepted => {
+        Err(n) => Err(n),
+        Ok(()) => {
             rate[transitions] = x;
             delay[transitions] = y;
             arcs[transitions] = count;
-            net::Verdict::Accepted
+            Ok(())
         }
     }
 }
 
 // A run line of the right form: refused by 2 where there is no place, by 4 where a decimal is badly written.
-fn run_fault(places: usize, strange: bool) -> net::Verdict
+fn run_fault(places: usize, strange: bool) -> Result<(), Refusal>
     ensures { Readable.meaning result ≡ Tests.first_of (Spec.run_tests places strange) }
 {
     if places == 0 {
-        return net::Verdict::Refused(refusals::BAD_SIZE);
+        return Err(Refusal::BadSize);
     }
     if strange {
-        return net::Verdict::Refused(refusals::OUTSIDE_DOMAIN);
+        return Err(Refusal::OutsideDomain);
     }
-    net::Verdict::Accepted
+    Ok(())
 }
 
 // The first slot of the next transition. A 65th has none: it is refused, and what its arcs overwrite does not matter.
@@ -212,7 +209,7 @@ fn inside_line(
     let p = form::place_form(line);
     if p.ok {
         if p.next < line.len() {
-            return Taken::Fault(refusals::WRONG_FORM);
+            return Taken::Fault(Refusal::WrongForm);
         }
         let from = p.from;
         let end = p.end;
@@ -229,8 +226,8 @@ fn inside_line(
             lengths,
         );
         return match v {
-            net::Verdict::Refused(n) => Taken::Fault(n),
-            net::Verdict::Accepted => Taken::GoOn(Position {
+            Err(n) => Taken::Fault(n),
+            Ok(()) => Taken::GoOn(Position {
                 stage: Stage::Inside,
                 places: places + 1,
                 transitions: transitions,
@@ -241,12 +238,12 @@ fn inside_line(
     let r = form::run_form(line);
     if r.ok {
         if r.next < line.len() {
-            return Taken::Fault(refusals::WRONG_FORM);
+            return Taken::Fault(Refusal::WrongForm);
         }
         let v = run_fault(places, r.strange);
         return match v {
-            net::Verdict::Refused(n) => Taken::Fault(n),
-            net::Verdict::Accepted => Taken::GoOn(Position {
+            Err(n) => Taken::Fault(n),
+            Ok(()) => Taken::GoOn(Position {
                 stage: Stage::Closing,
                 places: places,
                 transitions: transitions,
@@ -263,7 +260,7 @@ fn inside_line(
     let m = form::move_form(line, base, kind, place, weight);
     if m.ok {
         if m.next < line.len() {
-            return Taken::Fault(refusals::WRONG_FORM);
+            return Taken::Fault(Refusal::WrongForm);
         }
         let v = take_move(
             places,
@@ -280,8 +277,8 @@ fn inside_line(
             weight,
         );
         return match v {
-            net::Verdict::Refused(n) => Taken::Fault(n),
-            net::Verdict::Accepted => Taken::GoOn(Position {
+            Err(n) => Taken::Fault(n),
+            Ok(()) => Taken::GoOn(Position {
                 stage: Stage::Inside,
                 places: places,
                 transitions: transitions + 1,
@@ -289,7 +286,7 @@ fn inside_line(
             }),
         };
     }
-    Taken::Fault(refusals::WRONG_FORM)
+    Taken::Fault(Refusal::WrongForm)
 }
 
 // One line, at whatever position.
@@ -322,7 +319,7 @@ fn one_line(
                     run: no_run(),
                 });
             }
-            Taken::Fault(refusals::WRONG_FORM)
+            Taken::Fault(Refusal::WrongForm)
         }
         Stage::Inside => inside_line(
             line,
@@ -349,9 +346,9 @@ fn one_line(
                     run: run,
                 });
             }
-            Taken::Fault(refusals::WRONG_FORM)
+            Taken::Fault(Refusal::WrongForm)
         }
-        Stage::Nothing => Taken::Fault(refusals::WRONG_FORM),
+        Stage::Nothing => Taken::Fault(Refusal::WrongForm),
     }
 }
 
@@ -372,9 +369,9 @@ fn after_last(p: Position, number: u64) -> Ended
 {
     let stage = p.stage;
     match stage {
-        Stage::Opening => refused_at(refusals::WRONG_FORM, number),
-        Stage::Inside => refused_at(refusals::WRONG_FORM, number),
-        Stage::Closing => refused_at(refusals::WRONG_FORM, number),
+        Stage::Opening => refused_at(Refusal::WrongForm, number),
+        Stage::Inside => refused_at(Refusal::WrongForm, number),
+        Stage::Closing => refused_at(Refusal::WrongForm, number),
         Stage::Nothing => {
             let run = p.run;
             Ended {
@@ -415,7 +412,7 @@ pub fn read_lines(
     while at < text.len() {
         let end = line_end(text, at);
         if end == text.len() {
-            return refused_at(refusals::WRONG_FORM, number);
+            return refused_at(Refusal::WrongForm, number);
         }
         let t = one_line(
             &text[at..end],

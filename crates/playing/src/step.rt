@@ -16,6 +16,7 @@ use jump::Next;
 use kept::refresh;
 use rng::Xoshiro256;
 use timers::Ring;
+use refusals::Refusal;
 
 // What is carried from step to step about propensities (kept, specs/Kept): the transitions whose ways may have changed since, those that may have been opened or
 // shut, those that are enabled, the rounded ones, and the total.
@@ -340,7 +341,7 @@ pub fn one_step<'a>(
             Stepped {
                 now: now,
                 rounded: rounded,
-                ending: Ending::Refused(refusals::TOO_MANY_TIMERS),
+                ending: Ending::Refused(Refusal::TooManyTimers),
             }
         }
         Due::Nothing => {
@@ -434,7 +435,7 @@ pub fn one_step<'a>(
             Stepped {
                 now: now,
                 rounded: rounded,
-                ending: Ending::Refused(refusals::COUNT_TOO_LARGE),
+                ending: Ending::Refused(Refusal::CountTooLarge),
             }
         }
     }

@@ -7,7 +7,7 @@ ghost use Rattle.std.specs.Prelude.{◌≡◌};
 ghost use Rattle.net.specs.Record.{labelled};
 ghost use Rattle.reason.specs.Call as Call;
 
-use net::{Net, Verdict};
+use net::Net;
 
 // The length of the text, or the number by which the call was turned down.
 #[derive(Clone, Copy)]
@@ -36,7 +36,7 @@ fn lent_reason<'a>(
         label.now lengths.now rate.now delay.now arcs.now
         kind.now place.now weight.now) out.old }
 {
-    if let Verdict::Refused(c) = net::fields_fault(
+    if let Err(c) = net::fields_fault(
         places,
         transitions,
         initial,

@@ -10,6 +10,7 @@ ghost use Rattle.reason.specs.Parts as Parts;
 use crate::ReasonAnswer;
 use gates::Gates;
 use text::Written;
+use refusals::Refusal;
 
 // What stands in front of a sentence.
 fn lead_at(out: &mut [u8], at: usize) -> Written
@@ -167,7 +168,7 @@ fn deliver(out: &mut [u8], text: &[u8], n: usize) -> ReasonAnswer
 {
     match text::put_bytes(out, 0, &text[..n]) {
         Written::Next(k) => ReasonAnswer::Length(k),
-        Written::Short => ReasonAnswer::TurnedDown(refusals::SHORT_BUFFER),
+        Written::Short => ReasonAnswer::TurnedDown(Refusal::ShortBuffer),
     }
 }
 
@@ -185,6 +186,6 @@ pub fn write_reason<'a>(
     let mut text = [0u8; 2080];
     match then_all(&mut text, g, label, lengths) {
         Written::Next(n) => deliver(out, &text, n),
-        Written::Short => ReasonAnswer::TurnedDown(refusals::SHORT_BUFFER),
+        Written::Short => ReasonAnswer::TurnedDown(Refusal::ShortBuffer),
     }
 }

@@ -5,7 +5,8 @@ ghost use Rattle.std.specs.Prelude.{◌≡◌};
 ghost use Rattle.net.specs.Readable as Readable;
 ghost use Rattle.rows.specs.Row as Row;
 
-use net::Verdict;
+use refusals::Refusal;
+
 
 // Which of the two lent tables.
 #[derive(Clone, Copy)]
@@ -15,25 +16,25 @@ pub enum Table {
 }
 
 // The first of 3, 8 and 11 that applies to a row of the table of so many cells.
-fn fault_of(place: usize, places: usize, samples: usize, cells: usize) -> Verdict
+fn fault_of(place: usize, places: usize, samples: usize, cells: usize) -> Result<(), Refusal>
     ensures { Readable.meaning result ≡ Row.fault_of place places samples cells }
 {
     if places <= place {
-        return Verdict::Refused(refusals::NO_SUCH_PLACE);
+        return Err(Refusal::NoSuchPlace);
     }
     if 32 < places {
-        return Verdict::Refused(refusals::NO_SUCH_PLACE);
+        return Err(Refusal::NoSuchPlace);
     }
     if samples < 2 {
-        return Verdict::Refused(refusals::BAD_SAMPLES);
+        return Err(Refusal::BadSamples);
     }
     if 1024 < samples {
-        return Verdict::Refused(refusals::BAD_SAMPLES);
+        return Err(Refusal::BadSamples);
     }
     if cells < places * samples {
-        return Verdict::Refused(refusals::SHORT_TABLE);
+        return Err(Refusal::ShortTable);
     }
-    Verdict::Accepted
+    Ok(())
 }
 
 // By which number, if by any, the row function turns these down.
@@ -44,7 +45,7 @@ pub fn row_fault<'a>(
     places: usize,
     samples: usize,
     which: Table,
-) -> Verdict
+) -> Result<(), Refusal>
     ensures { Readable.meaning result ≡ Row.row_fault place places samples (Row.named which mean.now deviation.now) }
 {
     match which {
@@ -57,7 +58,7 @@ pub fn row_fault<'a>(
 fn part<'a>(table: &'a [f64], place: usize, places: usize, samples: usize) -> &'a [f64]
     ensures { result.now ≡ Row.row_of place places samples table.now }
 {
-    if let Verdict::Refused(_) = fault_of(place, places, samples, table.len()) {
+    if let Err(_) = fault_of(place, places, samples, table.len()) {
         return &table[0..0];
     }
     let from = place * samples;

@@ -13,7 +13,7 @@ ghost use Rattle.sde.specs.Call as Call;
 
 use averages::request;
 use gates::Gates;
-use net::{Net, Verdict};
+use net::Net;
 
 // Whether there are deviations; or what gates the net; or the number by which the call was turned down; or the number by which a path was refused, and
 // the path's own.
@@ -42,15 +42,15 @@ pub fn diffuse(
         ≡ Call.called net (record { samples = samples; realizations = realizations; seed = seed; horizon = horizon })
         (record { mean = mean.entry.now; deviation = deviation.old; path = path.old }) }
 {
-    if let Verdict::Refused(c) = net::test_net(net) {
+    if let Err(c) = net::test_net(net) {
         return DiffusionAnswer::TurnedDown(c);
     }
-    if let Verdict::Refused(c) = request::request_fault(samples, realizations, seed, horizon) {
+    if let Err(c) = request::request_fault(samples, realizations, seed, horizon) {
         return DiffusionAnswer::TurnedDown(c);
     }
     let places = net.places;
     let cells = places * (samples as usize);
-    if let Verdict::Refused(c) = request::tables_fault(
+    if let Err(c) = request::tables_fault(
         cells,
         mean.len(),
         deviation.len(),

@@ -19,6 +19,7 @@ ghost use Rattle.sde.specs.Summed as Summed;
 use crate::{DiffusionAnswer, change, propensity, walk};
 use averages::{moments, request};
 use net::Net;
+use refusals::Refusal;
 
 // The width of a substep.
 fn width(samples: u32, horizon: f64) -> f64
@@ -190,7 +191,7 @@ fn averaged<'a>(
         moments::clear(cells, mean);
         moments::clear(cells, deviation);
         moments::clear(cells, path);
-        return DiffusionAnswer::Stopped(refusals::NO_NORMAL, k);
+        return DiffusionAnswer::Stopped(Refusal::NoNormal, k);
     }
     finish(cells, realizations, mean, deviation)
 }

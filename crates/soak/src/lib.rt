@@ -10,6 +10,7 @@ ghost use Rattle.soak.specs.Words as Words;
 
 use rng::Xoshiro256;
 use text::Written;
+use refusals::Refusal;
 
 // A buffer of so many bytes holds every text.
 pub const LONGEST: usize = 1614;
@@ -191,7 +192,7 @@ fn answer_of(end: Written) -> Answer
 {
     match end {
         Written::Next(n) => Answer::Text(n),
-        Written::Short => Answer::Refused(refusals::SHORT_BUFFER),
+        Written::Short => Answer::Refused(Refusal::ShortBuffer),
     }
 }
 
@@ -204,5 +205,5 @@ pub fn soak(seed: u64, places: u64, transitions: u64, out: &mut [u8]) -> Answer
         let end = put_text(out, seed, places, transitions);
         return answer_of(end);
     }
-    Answer::Refused(refusals::BAD_SIZE)
+    Answer::Refused(Refusal::BadSize)
 }

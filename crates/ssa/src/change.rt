@@ -25,11 +25,11 @@ use crate::{Halted, Onward, accept, until};
 use carried::{records, renaming, state};
 use engine::slots;
 use index::marks;
-use net::Verdict;
 use playing::run::Standing;
 use playing::{PathEnd, begin};
 use timers::queue;
 use timers::queue::Queue;
+use refusals::Refusal;
 
 // The first of 4, 12, 13, 11 and, for the recorded cells, 4 that a carried path meets, over a net of so many places. No test looks at its generator, its peak or
 // the transitions of its timers; what is looked at is lent, since the path itself is 7 KB.
@@ -46,7 +46,7 @@ pub fn state_fault<'a>(
     len: usize,
     instants: &[f64],
     table: &[f64],
-) -> Verdict
+) -> Result<(), Refusal>
     requires { places ≤ 32 }
     ensures { (whos : List ℕ) (g : Random.State) (peak : ℕ) → Record.meaning result
         ≡ Tests.first_of (Change.carried_tests 256 (not (Path.table_fits places (length instants.now) table.now))
@@ -63,25 +63,25 @@ pub fn state_fault<'a>(
     if !state::state_fits(
         places, counts, steps, limit, rounded, clock, ats, takens, len,
     ) {
-        return Verdict::Refused(refusals::OUTSIDE_DOMAIN);
+        return Err(Refusal::OutsideDomain);
     }
     if !accept::instants_fit(instants) {
-        return Verdict::Refused(refusals::BAD_INSTANTS);
+        return Err(Refusal::BadInstants);
     }
     if !records::records_fit(instants, recorded, clock) {
-        return Verdict::Refused(refusals::BAD_INSTANTS);
+        return Err(Refusal::BadInstants);
     }
     if !accept::limit_fits(limit) {
-        return Verdict::Refused(refusals::BAD_LIMIT);
+        return Err(Refusal::BadLimit);
     }
     let n = instants.len();
     if table.len() < places * n {
-        return Verdict::Refused(refusals::SHORT_TABLE);
+        return Err(Refusal::ShortTable);
     }
     if !records::cells_fit(table, places, n, recorded) {
-        return Verdict::Refused(refusals::OUTSIDE_DOMAIN);
+        return Err(Refusal::OutsideDomain);
     }
-    Verdict::Accepted
+    Ok(())
 }
 
 // Are the timers listed, and sent to delayed transitions of the accepted net whose fields are lent?
@@ -142,17 +142,17 @@ pub fn list_fault<'a>(
     pairs: &[u64],
     whos: &'a [usize; 256],
     len: usize,
-) -> Verdict
+) -> Result<(), Refusal>
     requires { let net = labelled places transitions initial.now capacity.now label.now lengths.now rate.now delay.now arcs.now kind.now place.now weight.now in (Record.fault net ≡ none) × (old_transitions ≤ 64) × (len ≤ 256) }
     ensures { let net = labelled places transitions initial.now capacity.now label.now lengths.now rate.now delay.now arcs.now kind.now place.now weight.now in (old : Net.Net) (path : Rule.Carried) (ats : List Float) (takens : List ℕ) → length old.places ≡ old_places
         → length old.transitions ≡ old_transitions → path.now.timers ≡ Timers.timers_in ats whos.now takens len
         → Record.meaning result ≡ Tests.first_of (Change.renaming_tests old (Record.readable net) path (pairs_of pairs.now)) }
 {
     if old_places != places {
-        return Verdict::Refused(refusals::UNEQUAL_PLACES);
+        return Err(Refusal::UnequalPlaces);
     }
     if !renaming::list_fits(pairs, old_transitions, transitions) {
-        return Verdict::Refused(refusals::BAD_RENAMING);
+        return Err(Refusal::BadRenaming);
     }
     let names = renaming::names_of(pairs);
     if timers_fit(
@@ -172,9 +172,9 @@ pub fn list_fault<'a>(
         whos,
         len,
     ) {
-        return Verdict::Accepted;
+        return Ok(());
     }
-    Verdict::Refused(refusals::BAD_TIMER)
+    Err(Refusal::BadTimer)
 }
 
 // The weights that so many timers took.

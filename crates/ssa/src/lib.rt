@@ -17,10 +17,11 @@ ghost use Rattle.ssa.specs.Halted as Halting;
 ghost use Rattle.ssa.specs.Path as Path;
 
 use averages::request;
-use net::{Net, Verdict};
+use net::Net;
 pub use playing::PathEnd;
 use rng::Xoshiro256;
 use timers::queue::Queue;
+use refusals::Refusal;
 
 // The end of a path, its steps, how many instants are settled, the peak, how many steps have an a0 that adds a rounded propensity, and the generator after
 // it; of a path that is turned down the number, four times 0, and the generator as it came.
@@ -92,7 +93,7 @@ pub fn fields_path<'a>(
         label.now lengths.now rate.now delay.now arcs.now
         kind.now place.now weight.now) (Random.words generator.s) instants.now limit table.old }
 {
-    if let Verdict::Refused(c) = net::fields_fault(
+    if let Err(c) = net::fields_fault(
         places,
         transitions,
         initial,
@@ -109,14 +110,14 @@ pub fn fields_path<'a>(
         return accept::turned_down(c, generator);
     }
     if !accept::instants_fit(instants) {
-        return accept::turned_down(refusals::BAD_INSTANTS, generator);
+        return accept::turned_down(Refusal::BadInstants, generator);
     }
     if !accept::limit_fits(limit) {
-        return accept::turned_down(refusals::BAD_LIMIT, generator);
+        return accept::turned_down(Refusal::BadLimit, generator);
     }
     let n = instants.len();
     if table.len() < places * n {
-        return accept::turned_down(refusals::SHORT_TABLE, generator);
+        return accept::turned_down(Refusal::ShortTable, generator);
     }
     accept::accepted_path(
         places,
@@ -194,7 +195,7 @@ pub fn fields_path_until<'a>(
         label.now lengths.now rate.now delay.now arcs.now
         kind.now place.now weight.now) (Random.words generator.s) instants.now limit named table.old }
 {
-    if let Verdict::Refused(c) = net::fields_fault(
+    if let Err(c) = net::fields_fault(
         places,
         transitions,
         initial,
@@ -211,14 +212,14 @@ pub fn fields_path_until<'a>(
         return until::refused(c, generator);
     }
     if !accept::instants_fit(instants) {
-        return until::refused(refusals::BAD_INSTANTS, generator);
+        return until::refused(Refusal::BadInstants, generator);
     }
     if !accept::limit_fits(limit) {
-        return until::refused(refusals::BAD_LIMIT, generator);
+        return until::refused(Refusal::BadLimit, generator);
     }
     let n = instants.len();
     if table.len() < places * n {
-        return until::refused(refusals::SHORT_TABLE, generator);
+        return until::refused(Refusal::ShortTable, generator);
     }
     until::accepted_until(
         places,
@@ -315,7 +316,7 @@ pub fn fields_carry<'a>(
         kind.now place.now weight.now)
         (pairs_of pairs.now) (Halting.standing_of old_places path) instants.now named table.old }
 {
-    if let Verdict::Refused(c) = net::fields_fault(
+    if let Err(c) = net::fields_fault(
         old_places,
         old_transitions,
         old_initial,
@@ -331,7 +332,7 @@ pub fn fields_carry<'a>(
     ) {
         return until::turned_down(c, path);
     }
-    if let Verdict::Refused(c) = net::fields_fault(
+    if let Err(c) = net::fields_fault(
         places,
         transitions,
         initial,
@@ -348,7 +349,7 @@ pub fn fields_carry<'a>(
         return until::turned_down(c, path);
     }
     let q = path.timers;
-    if let Verdict::Refused(c) = change::state_fault(
+    if let Err(c) = change::state_fault(
         old_places,
         path.clock,
         &path.counts,
@@ -364,7 +365,7 @@ pub fn fields_carry<'a>(
     ) {
         return until::turned_down(c, path);
     }
-    if let Verdict::Refused(c) = change::list_fault(
+    if let Err(c) = change::list_fault(
         old_places,
         old_transitions,
         places,
@@ -470,15 +471,15 @@ pub fn ensemble(
         ≡ Ensemble.called net (record { samples = samples; realizations = realizations; seed = seed; horizon = horizon })
         (record { mean = mean.old; deviation = deviation.old; path = path.old }) }
 {
-    if let Verdict::Refused(c) = net::test_net(net) {
+    if let Err(c) = net::test_net(net) {
         return EnsembleAnswer::TurnedDown(c);
     }
-    if let Verdict::Refused(c) = request::request_fault(samples, realizations, seed, horizon) {
+    if let Err(c) = request::request_fault(samples, realizations, seed, horizon) {
         return EnsembleAnswer::TurnedDown(c);
     }
     let places = net.places;
     let cells = places * (samples as usize);
-    if let Verdict::Refused(c) = request::tables_fault(
+    if let Err(c) = request::tables_fault(
         cells,
         mean.len(),
         deviation.len(),

@@ -7,7 +7,7 @@
 ghost use Rattle.std.specs.Prelude.{◌≤◌};
 
 use averages::request;
-use net::{Net, Verdict};
+use net::Net;
 use net_io::{Input, read_input, say, text_room, write, write_refused};
 use net_text::{Judged, RunLine};
 use rng::Xoshiro256;
@@ -70,8 +70,8 @@ fn run(rt: &HostRuntime, net: Net, asked: RunLine) {
     let samples = asked.samples;
     let seed = asked.seed;
     match request::request_fault(samples, asked.realizations, seed, horizon) {
-        Verdict::Refused(c) => write_refused(rt, c, 0),
-        Verdict::Accepted => {
+        Err(c) => write_refused(rt, c, 0),
+        Ok(()) => {
             if samples <= 1_024 {
                 play_grid(rt, net, samples, seed, horizon);
             }
