@@ -177,13 +177,11 @@ pub fn lent_run(
     let mut rates = [0.0; 64];
     propensity::fill_rates(net, &mut rates);
     let mut changes = [0.0; 2048];
-    change::fill_changes(
-        &LentNet {
-            rate: &rates,
-            ..*net
-        },
-        &mut changes,
-    );
+    let rated = LentNet {
+        rate: &rates,
+        ..*net
+    };
+    change::fill_changes(&rated, &mut changes);
     let mut skips: [usize; 2112] = [0; 2112];
     change::fill_skips(&changes, net.places, net.transitions, &mut skips);
     let mut ends: [usize; 64] = [0; 64];
@@ -192,10 +190,7 @@ pub fn lent_run(
     let root = root::sqrt(dt);
     let n = samples as usize;
     averaged(
-        &LentNet {
-            rate: &rates,
-            ..*net
-        },
+        &rated,
         &changes,
         &skips,
         &ends,

@@ -121,17 +121,12 @@ pub fn accepted_path(
     let mut at = [0usize; 1024];
     let mut weights = [0u64; 1024];
     slots::tidy(net, &mut count, &mut kinds, &mut at, &mut weights);
-    lent_path(
-        &LentNet {
-            arcs: &count,
-            kind: &kinds,
-            place: &at,
-            weight: &weights,
-            ..*net
-        },
-        instants,
-        limit,
-        generator,
-        table,
-    )
+    let tidied = LentNet {
+        arcs: &count,
+        kind: &kinds,
+        place: &at,
+        weight: &weights,
+        ..*net
+    };
+    lent_path(&tidied, instants, limit, generator, table)
 }

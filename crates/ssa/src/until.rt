@@ -115,22 +115,15 @@ pub fn resume(
     let mut at = [0usize; 1024];
     let mut weights = [0u64; 1024];
     slots::tidy(net, &mut count, &mut kinds, &mut at, &mut weights);
+    let tidied = LentNet {
+        arcs: &count,
+        kind: &kinds,
+        place: &at,
+        weight: &weights,
+        ..*net
+    };
     lent_on(
-        &LentNet {
-            arcs: &count,
-            kind: &kinds,
-            place: &at,
-            weight: &weights,
-            ..*net
-        },
-        counts,
-        ats,
-        owners,
-        instants,
-        halts,
-        steps,
-        s,
-        table,
+        &tidied, counts, ats, owners, instants, halts, steps, s, table,
     )
 }
 
