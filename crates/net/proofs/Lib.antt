@@ -4,6 +4,7 @@ pub mod Bytes
 pub mod Naming
 pub mod Domain
 pub mod Faults
+pub mod Moves
 pub mod Sound
 pub mod Apart
 pub mod Lengths

@@ -77,8 +77,7 @@ fn any_take(net: &LentNet, from: usize, end: usize) -> bool
     requires { end ≤ 1024 }
     ensures { let net = net_of net.now in let slots = Readable.slots net.kind net.place net.weight from (end - from) in result ≡ Tests.any (λ (l : Readable.Slot). leb l.kind 1) slots }
 {
-    let mut slot = from;
-    while slot < end {
+    for slot in from..end {
         if net.kind[slot] <= crate::TAKE {
             return true;
         }

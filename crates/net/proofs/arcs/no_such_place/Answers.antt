@@ -7,11 +7,11 @@ use Rattle.net.proofs.arcs.no_such_place.Goals as goal
 pub loop-slot-init : goal.loop-slot-init
 loop-slot-init c = refl
 
-pub returns-then-places-place : goal.returns-then-places-place
-returns-then-places-place c = let l = c in or_stop _ _ (any_turn _ _ _ _ _ _ l.loop-slot-test.true l.loop-slot.invariant) (le-leb _ _ c.if-places-place.true)
+pub returns-then-net-slot : goal.returns-then-net-slot
+returns-then-net-slot c = let l = c in or_stop _ _ (any_turn _ _ _ _ _ _ l.loop-slot-test.true l.loop-slot.invariant) (le-leb _ _ c.if-net-slot.true)
 
 pub loop-slot-preserved : goal.loop-slot-preserved
-loop-slot-preserved c = let l = c in or_go _ _ (any_turn _ _ _ _ _ _ l.loop-slot-test.true l.loop-slot.invariant) (lt-leb _ _ c.if-places-place.false)
+loop-slot-preserved c = let l = c in or_go _ _ (any_turn _ _ _ _ _ _ l.loop-slot-test.true l.loop-slot.invariant) (lt-leb _ _ c.if-net-slot.false)
 
 pub returns : goal.returns
 returns c = any_end _ _ _ _ _ _ c.loop-slot-test.false c.loop-slot.invariant

@@ -9,14 +9,14 @@ use Rattle.net.proofs.arcs.outside_arc.Goals as goal
 pub loop-slot-init : goal.loop-slot-init
 loop-slot-init c = refl
 
-pub returns-then-kind-slot-gt-BLOCK : goal.returns-then-kind-slot-gt-BLOCK
-returns-then-kind-slot-gt-BLOCK c = let l = c in or_stop _ _ (any_turn _ _ _ _ _ _ l.loop-slot-test.true l.loop-slot.invariant) (or_first _ (lt-ltb _ _ c.if-kind-slot-gt-BLOCK.true))
+pub returns-then-net-slot-gt-BLOCK : goal.returns-then-net-slot-gt-BLOCK
+returns-then-net-slot-gt-BLOCK c = let l = c in or_stop _ _ (any_turn _ _ _ _ _ _ l.loop-slot-test.true l.loop-slot.invariant) (or_first _ (lt-ltb _ _ c.if-net-slot-gt-BLOCK.true))
 
-pub returns-then-weight-slot-gt-MOST_WEIGHT : goal.returns-then-weight-slot-gt-MOST_WEIGHT
-returns-then-weight-slot-gt-MOST_WEIGHT c = let l = c in or_stop _ _ (any_turn _ _ _ _ _ _ l.loop-slot-test.true l.loop-slot.invariant) (or_second (ltb 4 (get_or l.args.kind.now l.loop-slot.slot 0)) (lt-ltb _ _ c.if-weight-slot-gt-MOST_WEIGHT.true))
+pub returns-then-net-slot-gt-MOST_WEIGHT : goal.returns-then-net-slot-gt-MOST_WEIGHT
+returns-then-net-slot-gt-MOST_WEIGHT c = let l = c in or_stop _ _ (any_turn _ _ _ _ _ _ l.loop-slot-test.true l.loop-slot.invariant) (or_second (ltb 4 (get_or l.args.net.now.kind.now l.loop-slot.slot 0)) (lt-ltb _ _ c.if-net-slot-gt-MOST_WEIGHT.true))
 
 pub loop-slot-preserved : goal.loop-slot-preserved
-loop-slot-preserved c = let l = c in or_go _ _ (any_turn _ _ _ _ _ _ l.loop-slot-test.true l.loop-slot.invariant) (or_neither (le-ltb _ _ c.if-kind-slot-gt-BLOCK.false) (le-ltb _ _ c.if-weight-slot-gt-MOST_WEIGHT.false))
+loop-slot-preserved c = let l = c in or_go _ _ (any_turn _ _ _ _ _ _ l.loop-slot-test.true l.loop-slot.invariant) (or_neither (le-ltb _ _ c.if-net-slot-gt-BLOCK.false) (le-ltb _ _ c.if-net-slot-gt-MOST_WEIGHT.false))
 
 pub returns : goal.returns
 returns c = any_end _ _ _ _ _ _ c.loop-slot-test.false c.loop-slot.invariant

@@ -9,8 +9,5 @@ use Rattle.net.proofs.arcs.outside_arc.Given as goal
 
 abbrev pub invariant-loop-slot : goal.invariant-loop-slot
 invariant-loop-slot t =
-    any (λ (l : Slot). ltb 4 l.kind || ltb 1_000_000 l.weight) (slots t.kind t.place t.weight t.slot (t.end - t.slot))
-    ≡ any (λ (l : Slot). ltb 4 l.kind || ltb 1_000_000 l.weight) (slots t.kind t.place t.weight t.from (t.end - t.from))
-
-abbrev pub decreases-loop-slot : goal.decreases-loop-slot
-decreases-loop-slot l = l.end - l.slot
+    any (λ (l : Slot). ltb 4 l.kind || ltb 1_000_000 l.weight) (slots t.net.kind.now t.net.place.now t.net.weight.now t.slot (t.end - t.slot))
+    ≡ any (λ (l : Slot). ltb 4 l.kind || ltb 1_000_000 l.weight) (slots t.net.kind.now t.net.place.now t.net.weight.now t.from (t.end - t.from))

@@ -7,11 +7,11 @@ use Rattle.net.proofs.takes.any_take.Goals as goal
 pub loop-slot-init : goal.loop-slot-init
 loop-slot-init c = refl
 
-pub returns-then-kind-slot-le-TAKE : goal.returns-then-kind-slot-le-TAKE
-returns-then-kind-slot-le-TAKE c = let l = c in or_stop _ _ (any_turn _ _ _ _ _ _ l.loop-slot-test.true l.loop-slot.invariant) (le-leb _ _ c.if-kind-slot-le-TAKE.true)
+pub returns-then-net-slot-le-TAKE : goal.returns-then-net-slot-le-TAKE
+returns-then-net-slot-le-TAKE c = let l = c in or_stop _ _ (any_turn _ _ _ _ _ _ l.loop-slot-test.true l.loop-slot.invariant) (le-leb _ _ c.if-net-slot-le-TAKE.true)
 
 pub loop-slot-preserved : goal.loop-slot-preserved
-loop-slot-preserved c = let l = c in or_go _ _ (any_turn _ _ _ _ _ _ l.loop-slot-test.true l.loop-slot.invariant) (lt-leb _ _ c.if-kind-slot-le-TAKE.false)
+loop-slot-preserved c = let l = c in or_go _ _ (any_turn _ _ _ _ _ _ l.loop-slot-test.true l.loop-slot.invariant) (lt-leb _ _ c.if-net-slot-le-TAKE.false)
 
 pub returns : goal.returns
 returns c = any_end _ _ _ _ _ _ c.loop-slot-test.false c.loop-slot.invariant

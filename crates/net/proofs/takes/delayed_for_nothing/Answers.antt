@@ -9,7 +9,7 @@ use Rattle.net.proofs.takes.delayed_for_nothing.Goals as goal
 pub returns-then-delay : goal.returns-then-delay
 returns-then-delay c =
     let s = c.args in
-    and_both c.if-delay.true (ap not c.any_take.ensures ∙ sym (empty_takes (slots s.kind.now s.place.now s.weight.now s.from (s.end - s.from))))
+    and_both c.if-delay.true (ap not c.any_take.ensures ∙ sym (empty_takes (slots s.net.now.kind.now s.net.now.place.now s.net.now.weight.now s.from (s.end - s.from))))
 
 pub returns : goal.returns
 returns c = simp c.if-delay.false

@@ -7,7 +7,4 @@ use Rattle.net.proofs.takes.kinetic_over.Given as goal
 
 abbrev pub invariant-loop-slot : goal.invariant-loop-slot
 invariant-loop-slot l =
-    (l.total + kinetic (slots l.kind l.place l.weight l.slot (l.end - l.slot)) ≡ kinetic (slots l.kind l.place l.weight l.from (l.end - l.from))) × (l.total ≤ 16)
-
-abbrev pub decreases-loop-slot : goal.decreases-loop-slot
-decreases-loop-slot l = l.end - l.slot
+    (l.total + kinetic (slots l.net.kind.now l.net.place.now l.net.weight.now l.slot (l.end - l.slot)) ≡ kinetic (slots l.net.kind.now l.net.place.now l.net.weight.now l.from (l.end - l.from))) × (l.total ≤ 16)

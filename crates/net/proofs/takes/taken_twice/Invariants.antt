@@ -10,7 +10,4 @@ use Rattle.net.proofs.takes.taken_twice.Given as goal
 
 abbrev pub invariant-loop-slot : goal.invariant-loop-slot
 invariant-loop-slot l =
-    left (bit l.seen) (slots l.kind l.place l.weight l.slot (l.end - l.slot)) ≡ twice (taken (slots l.kind l.place l.weight l.from (l.end - l.from)))
-
-abbrev pub decreases-loop-slot : goal.decreases-loop-slot
-decreases-loop-slot l = l.end - l.slot
+    left (bit l.seen) (slots l.net.kind.now l.net.place.now l.net.weight.now l.slot (l.end - l.slot)) ≡ twice (taken (slots l.net.kind.now l.net.place.now l.net.weight.now l.from (l.end - l.from)))
