@@ -1,6 +1,5 @@
 pub mod Slots
 pub mod Twice
-pub mod Bytes
 pub mod Naming
 pub mod Domain
 pub mod Faults
