@@ -16,6 +16,7 @@ ghost use Rattle.net.specs.Record.{net_of, blank};
 ghost use Rattle.net.specs.Labels as Labels;
 
 pub use lent::LentNet;
+use lent::Arcs;
 use refusals::Refusal;
 
 // Up to 32 places, 64 transitions and 16 arcs a transition. The label of place p stands in label from byte 16 * p on; lengths[p] says how many
@@ -111,20 +112,24 @@ pub fn transition_fault(
         return Err(Refusal::BadSize);
     }
     let from = 16 * before;
-    let end = from + count;
-    if arcs::no_such_place(net, from, end) {
+    let arcs = Arcs {
+        net,
+        from,
+        end: from + count,
+    };
+    if arcs.no_such_place() {
         return Err(Refusal::NoSuchPlace);
     }
-    if arcs::outside(net, strange, rate, delay, from, end) {
+    if arcs.outside(strange, rate, delay) {
         return Err(Refusal::OutsideDomain);
     }
-    if takes::taken_twice(net, from, end) {
+    if arcs.taken_twice() {
         return Err(Refusal::TakenTwice);
     }
-    if takes::delayed_for_nothing(net, delay, from, end) {
+    if arcs.delayed_for_nothing(delay) {
         return Err(Refusal::DelayWithoutTake);
     }
-    if takes::kinetic_over(net, from, end) {
+    if arcs.kinetic_over() {
         return Err(Refusal::KineticTotal);
     }
     Ok(())

@@ -1,7 +1,7 @@
 -- The invariant: the test of the slots that are left is that of all. Assumes nothing.
 use mathlib.Core.Path.{refl, sym, ◌∙◌}
 use Rattle.net.proofs.Slots.{or_stop, or_go, any_turn, any_end}
-use Rattle.net.proofs.takes.taken_in.Goals as goal
+use Rattle.net.proofs.lent.Arcs.taken_in.Goals as goal
 
 pub loop-slot-init : goal.loop-slot-init
 loop-slot-init c = refl

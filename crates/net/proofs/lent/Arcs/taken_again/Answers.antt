@@ -2,7 +2,7 @@
 use mathlib.Core.Bool.{or-false}
 use borrow.Author.Tests.{lt-ltb, le-ltb}
 use Rattle.words.proofs.Bits.{bit_tested, bit_beyond}
-use Rattle.net.proofs.takes.taken_again.Goals as goal
+use Rattle.net.proofs.lent.Arcs.taken_again.Goals as goal
 
 pub returns-then-p-lt64 : goal.returns-then-p-lt64
 returns-then-p-lt64 c = let s = c.args in rw (lt-ltb s.p 64 c.if-p-lt64.true, or-false) (bit_tested s.seen s.p)
