@@ -3,7 +3,8 @@ ghost use Rattle.std.specs.Prelude.{◌≡◌, ◌||◌, leb, ltb};
 ghost use Rattle.net.specs.Tests as Tests;
 ghost use Rattle.net.specs.Readable as Readable;
 
-use crate::{bounds, lent::Arcs};
+use crate::bounds;
+use crate::lent::Arcs;
 
 impl Arcs<'_> {
     // 3: a place number not below the place count.

@@ -15,8 +15,8 @@ ghost use Rattle.net.specs.Readable as Readable;
 ghost use Rattle.net.specs.Record.{net_of, blank};
 ghost use Rattle.net.specs.Labels as Labels;
 
-pub use lent::LentNet;
 use lent::Arcs;
+pub use lent::LentNet;
 use refusals::Refusal;
 
 // Up to 32 places, 64 transitions and 16 arcs a transition. The label of place p stands in label from byte 16 * p on; lengths[p] says how many

@@ -6,7 +6,8 @@ ghost use Rattle.net.specs.Net as NetSpec;
 ghost use Rattle.net.specs.Tests as Tests;
 ghost use Rattle.net.specs.Readable as Readable;
 
-use crate::{bounds, lent::Arcs};
+use crate::bounds;
+use crate::lent::Arcs;
 
 // Does an arc of this kind and place take from place p?
 fn takes_from(kind: u64, place: usize, p: usize) -> bool

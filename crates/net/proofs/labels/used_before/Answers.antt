@@ -3,7 +3,6 @@ use mathlib.Core.Path.{sym, ◌∙◌}
 use Rattle.text.specs.Text.{same}
 use Rattle.net.specs.Labels.{label_at}
 use Rattle.net.proofs.Slots.{or_stop, or_go}
-
 use Rattle.net.proofs.Naming.{same_read, labels_turn}
 use Rattle.net.proofs.labels.used_before.Goals as goal
 

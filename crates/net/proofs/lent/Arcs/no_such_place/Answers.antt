@@ -8,4 +8,3 @@ returns-then-self-slot c = let l = c in or_stop _ _ (any_turn _ _ _ _ _ _ l.loop
 
 pub loop-slot-preserved : goal.loop-slot-preserved
 loop-slot-preserved c = let l = c in or_go _ _ (any_turn _ _ _ _ _ _ l.loop-slot-test.true l.loop-slot.invariant) (lt-leb _ _ c.if-self-slot.false)
-

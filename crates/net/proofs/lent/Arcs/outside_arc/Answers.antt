@@ -13,4 +13,3 @@ returns-then-self-slot-gt-MOST_WEIGHT c = let l = c in or_stop _ _ (any_turn _ _
 
 pub loop-slot-preserved : goal.loop-slot-preserved
 loop-slot-preserved c = let l = c in or_go _ _ (any_turn _ _ _ _ _ _ l.loop-slot-test.true l.loop-slot.invariant) (or_neither (le-ltb _ _ c.if-self-slot-gt-BLOCK.false) (le-ltb _ _ c.if-self-slot-gt-MOST_WEIGHT.false))
-

@@ -28,14 +28,14 @@ loop-slot-preserved c =
     let a = c.loop-slot.slot in
     let met = bit c.loop-slot.seen in
     elim c.if-self-slot-le-TAKE.branch [
-      then-self-slot-le-TAKE+else-taken_again w ↦
-        rw w.seen-is
-        ((λ j. left (λ (q : ℕ). w.joined-seen.ensures q j) (lent_from c.args.self.now (a + 1)))
-        ∙ or_go _ _
-        (take_turn n.kind.now n.place.now n.weight.now a c.args.self.now.end met (ltb (get_or n.place.now a 0) 64) c.loop-slot-test.true c.loop-slot.invariant (le-leb _ _ w.if-self-slot-le-TAKE.true))
-        (sym w.taken_again.ensures ∙ w.if-taken_again.false))
+      | then-self-slot-le-TAKE+else-taken_again w ↦
+          rw w.seen-is
+          ((λ j. left (λ (q : ℕ). w.joined-seen.ensures q j) (lent_from c.args.self.now (a + 1)))
+          ∙ or_go _ _
+          (take_turn n.kind.now n.place.now n.weight.now a c.args.self.now.end met (ltb (get_or n.place.now a 0) 64) c.loop-slot-test.true c.loop-slot.invariant (le-leb _ _ w.if-self-slot-le-TAKE.true))
+          (sym w.taken_again.ensures ∙ w.if-taken_again.false))
       | else-self-slot-le-TAKE w ↦
-        rw w.seen-is (no_take_turn _ _ _ _ _ met c.loop-slot-test.true c.loop-slot.invariant (lt-leb _ _ w.if-self-slot-le-TAKE.false))
+          rw w.seen-is (no_take_turn _ _ _ _ _ met c.loop-slot-test.true c.loop-slot.invariant (lt-leb _ _ w.if-self-slot-le-TAKE.false))
     ]
 
 pub returns : goal.returns
