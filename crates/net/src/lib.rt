@@ -15,6 +15,7 @@ ghost use Rattle.net.specs.Readable as Readable;
 ghost use Rattle.net.specs.Record.{net_of, blank};
 ghost use Rattle.net.specs.Labels as Labels;
 
+use lent::Arcs;
 pub use lent::LentNet;
 use refusals::Refusal;
 
@@ -75,14 +76,10 @@ pub fn label_fault<'a>(
 ) -> Result<(), Refusal>
     ensures { Readable.meaning result ≡ Labels.label_fault label.now lengths.now p }
 {
-    let bytes: &[u8] = label;
-    if bounds::MOST_PLACES <= p {
+    if !labels::label_fits(label_of(label, lengths, p)) {
         return Err(Refusal::BadLabel);
     }
-    if !labels::label_fits(bytes, lengths, p) {
-        return Err(Refusal::BadLabel);
-    }
-    if labels::used_before(bytes, lengths, p) {
+    if labels::used_before(label, lengths, p) {
         return Err(Refusal::UsedLabel);
     }
     Ok(())
@@ -92,18 +89,10 @@ pub fn label_fault<'a>(
 pub fn label_of<'a>(label: &'a [u8; 512], lengths: &'a [usize; 32], p: usize) -> &'a [u8]
     ensures { result.now ≡ Labels.label_at label.now lengths.now p }
 {
-    let bytes: &[u8] = label;
-    let sizes: &[usize] = lengths;
-    if sizes.len() <= p {
-        return &bytes[0..0];
+    match lengths.get(p) {
+        Some(&n) if n <= labels::MOST_BYTES => &label[16 * p..16 * p + n],
+        _ => &[],
     }
-    let n = sizes[p];
-    if labels::MOST_BYTES < n {
-        return &bytes[0..0];
-    }
-    let from = 16 * p;
-    let end = from + n;
-    &bytes[from..end]
 }
 
 // The first of 2 to 7 that applies to a transition over the net's places, with so many transitions before it. Its arcs stand in `count`
@@ -123,20 +112,24 @@ pub fn transition_fault(
         return Err(Refusal::BadSize);
     }
     let from = 16 * before;
-    let end = from + count;
-    if arcs::no_such_place(net, from, end) {
+    let arcs = Arcs {
+        net,
+        from,
+        end: from + count,
+    };
+    if arcs.no_such_place() {
         return Err(Refusal::NoSuchPlace);
     }
-    if arcs::outside(net, strange, rate, delay, from, end) {
+    if arcs.outside(strange, rate, delay) {
         return Err(Refusal::OutsideDomain);
     }
-    if takes::taken_twice(net, from, end) {
+    if arcs.taken_twice() {
         return Err(Refusal::TakenTwice);
     }
-    if takes::delayed_for_nothing(net, delay, from, end) {
+    if arcs.delayed_for_nothing(delay) {
         return Err(Refusal::DelayWithoutTake);
     }
-    if takes::kinetic_over(net, from, end) {
+    if arcs.kinetic_over() {
         return Err(Refusal::KineticTotal);
     }
     Ok(())

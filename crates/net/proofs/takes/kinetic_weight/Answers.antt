@@ -1,19 +1,14 @@
--- Each return rewrites the definition by the tests that led there. Assumes nothing.
-use Prim.Native.Nat.{ℕ, zero, suc}
-use mathlib.Core.Path.{◌≡◌, refl}
-use borrow.Author.Tests.{eq-eqb, ne_eqb}
+-- A weight of 0 counts as 1: `amount` is the larger of the weight and 1. Assumes nothing.
+use Prim.Native.Nat.{ℕ, zero, suc, max}
+use mathlib.Core.Path.{◌≡◌, refl, ◌∙◌}
+use native.Mathlib.Omega.{arith}
+use borrow.Author.Tests.{eq-eqb}
 use Rattle.net.specs.Net.{amount}
 use Rattle.net.proofs.takes.kinetic_weight.Goals as goal
 
-amount_pos : (w : ℕ) → (w ≡ 0 → ⊥) → amount w ≡ w
-amount_pos zero h = absurd (h refl)
-amount_pos (suc w) h = refl
-
-pub returns-then-weight-eq0 : goal.returns-then-weight-eq0
-returns-then-weight-eq0 c = simp (eq-eqb _ _ c.if-kind-eq-KINETIC_TAKE.true, c.if-weight-eq0.true)
+larger : (w : ℕ) → max w 1 ≡ amount w
+larger zero = omega arith
+larger (suc w) = omega arith
 
 pub returns-then-kind-eq-KINETIC_TAKE : goal.returns-then-kind-eq-KINETIC_TAKE
-returns-then-kind-eq-KINETIC_TAKE c = simp (eq-eqb _ _ c.if-kind-eq-KINETIC_TAKE.true, amount_pos _ c.if-weight-eq0.false)
-
-pub returns : goal.returns
-returns c = simp (ne_eqb _ _ c.if-kind-eq-KINETIC_TAKE.false)
+returns-then-kind-eq-KINETIC_TAKE c = simp (eq-eqb _ _ c.if-kind-eq-KINETIC_TAKE.true) (c.max.ensures ∙ larger c.args.weight)

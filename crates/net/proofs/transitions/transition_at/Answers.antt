@@ -6,4 +6,4 @@ use Rattle.net.proofs.Faults.{stop}
 use Rattle.net.proofs.transitions.transition_at.Goals as goal
 
 pub returns-then-j-ge-MOST_TRANSITIONS : goal.returns-then-j-ge-MOST_TRANSITIONS
-returns-then-j-ge-MOST_TRANSITIONS c = stop 2 _ (or_first _ (or_second (eqb c.args.places 0) (le-leb _ _ c.if-j-ge-MOST_TRANSITIONS.true)))
+returns-then-j-ge-MOST_TRANSITIONS c = stop 2 _ (or_first _ (or_second (eqb c.args.net.now.places 0) (le-leb _ _ c.if-j-ge-MOST_TRANSITIONS.true)))
