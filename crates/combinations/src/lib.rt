@@ -21,19 +21,11 @@ const UNROUNDED_2: u64 = 94906266;
 // Below it m * (m - 1) is one word.
 const ONE_WORD_2: u64 = 1 << 32;
 
+// The ways as a float, and whether it equals the binomial coefficient exactly.
 #[derive(Clone, Copy)]
-pub enum Ways {
-    // The float, and whether it equals the binomial coefficient exactly.
-    Value(f64, bool),
-    // More factors, or a larger m, than are worked.
-    Refused,
-}
-
-#[derive(Clone, Copy)]
-pub enum RealWays {
-    Value(f64),
-    // More factors, or a larger whole m, than are worked.
-    Refused,
+pub struct Ways {
+    pub value: f64,
+    pub exact: bool,
 }
 
 // A product with factor i: times the factor, then over i + 1.
@@ -152,11 +144,13 @@ fn exact_pairs(m: u64) -> bool
 // The product of w factors, with its flag.
 fn judged(m: u64, w: u64) -> Ways
     requires { (w ≤ 16) × (w ≤ m) × (m ≤ 2 ^ 53) }
-    ensures { Spec.meaning result ≡ Spec.counted m w }
+    ensures { Spec.flagged result ≡ Spec.counted m w }
 {
-    let x = whole_product(m, w);
-    let exact = is_exact(x, m, w);
-    Ways::Value(x, exact)
+    let value = whole_product(m, w);
+    Ways {
+        value,
+        exact: is_exact(value, m, w),
+    }
 }
 
 // How many ways there are to choose w of m, as a whole number, up to the bound of two.
@@ -177,16 +171,19 @@ fn few_ways(m: u64, w: u64) -> u64
 // of a pair is still one word for a while.
 fn judged_few(m: u64, w: u64) -> Ways
     requires { (w ≤ 2) × (w ≤ m) × (m ≤ 2 ^ 53) }
-    ensures { Spec.meaning result ≡ Spec.counted m w }
+    ensures { Spec.flagged result ≡ Spec.counted m w }
 {
     if m <= UNROUNDED_2 {
-        let n = few_ways(m, w);
-        return Ways::Value(n as f64, true);
+        return Ways {
+            value: few_ways(m, w) as f64,
+            exact: true,
+        };
     }
-    if w == 2 {
-        if m < ONE_WORD_2 {
-            return Ways::Value(pairs(m), exact_pairs(m));
-        }
+    if w == 2 && m < ONE_WORD_2 {
+        return Ways {
+            value: pairs(m),
+            exact: exact_pairs(m),
+        };
     }
     judged(m, w)
 }
@@ -194,7 +191,7 @@ fn judged_few(m: u64, w: u64) -> Ways
 // The same, by the shorter way where there is one.
 fn counted(m: u64, w: u64) -> Ways
     requires { (w ≤ 16) × (w ≤ m) × (m ≤ 2 ^ 53) }
-    ensures { Spec.meaning result ≡ Spec.counted m w }
+    ensures { Spec.flagged result ≡ Spec.counted m w }
 {
     if w <= 2 {
         return judged_few(m, w);
@@ -202,77 +199,67 @@ fn counted(m: u64, w: u64) -> Ways
     judged(m, w)
 }
 
-// The ways to choose w of m tokens: 1 where w is 0 or below, 0 where m is below w, both exact. Refused are then a w above 16 and an m
+// The ways to choose w of m tokens: 1 where w is 0 or below, 0 where m is below w, both exact. `None` are then a w above 16 and an m
 // above 2^53.
-pub fn combinations(m: i64, w: i64) -> Ways
+pub fn combinations(m: i64, w: i64) -> Option<Ways>
     ensures { Spec.meaning result ≡ Spec.combinations m w }
 {
     if w <= 0 {
-        return Ways::Value(1.0, true);
+        return Some(Ways {
+            value: 1.0,
+            exact: true,
+        });
     }
     if m < w {
-        return Ways::Value(0.0, true);
+        return Some(Ways {
+            value: 0.0,
+            exact: true,
+        });
     }
-    if w > MOST_FACTORS {
-        return Ways::Refused;
+    if w > MOST_FACTORS || m > LARGEST {
+        return None;
     }
-    if m > LARGEST {
-        return Ways::Refused;
-    }
-    counted(m as u64, w as u64)
+    Some(counted(m as u64, w as u64))
 }
 
 // The float of that answer without its flag, for a caller that asks for the flag apart.
-pub fn combinations_unflagged(m: i64, w: i64) -> RealWays
+pub fn combinations_unflagged(m: i64, w: i64) -> Option<f64>
     ensures { Real.meaning result ≡ Real.unflagged (Spec.combinations m w) }
 {
     if w <= 0 {
-        return RealWays::Value(1.0);
+        return Some(1.0);
     }
     if m < w {
-        return RealWays::Value(0.0);
+        return Some(0.0);
     }
-    if w > MOST_FACTORS {
-        return RealWays::Refused;
+    if w > MOST_FACTORS || m > LARGEST {
+        return None;
     }
-    if m > LARGEST {
-        return RealWays::Refused;
-    }
-    RealWays::Value(short_product(m as u64, w as u64))
+    Some(short_product(m as u64, w as u64))
 }
 
 // The flag of the ways to choose w of m tokens, without their float, for a caller that asks for the float apart. A refusal has none, and it is false.
 pub fn exact_ways(m: u64, w: u64) -> bool
     ensures { result ≡ Spec.as_flag (Spec.combinations (pos m) (pos w)) }
 {
-    if w == 0 {
+    if w == 0 || m < w {
         return true;
     }
-    if m < w {
-        return true;
-    }
-    if w > MOST_FACTORS as u64 {
+    if w > MOST_FACTORS as u64 || m > LARGEST as u64 {
         return false;
     }
-    if m > LARGEST as u64 {
-        return false;
-    }
-    let answer = counted(m, w);
-    match answer {
-        Ways::Value(_, exact) => exact,
-        Ways::Refused => false,
-    }
+    counted(m, w).exact
 }
 
-// The same product for a real x, where no rule asks whether x is below w: 1 where w is 0 or below, refused where w is above 16.
-pub fn combinations_real(x: f64, w: i64) -> RealWays
+// The same product for a real x, where no rule asks whether x is below w: 1 where w is 0 or below, `None` where w is above 16.
+pub fn combinations_real(x: f64, w: i64) -> Option<f64>
     ensures { Real.meaning result ≡ Real.combinations_real x w }
 {
     if w <= 0 {
-        return RealWays::Value(1.0);
+        return Some(1.0);
     }
     if w > MOST_FACTORS {
-        return RealWays::Refused;
+        return None;
     }
-    RealWays::Value(real_product(x, w as u64))
+    Some(real_product(x, w as u64))
 }

@@ -15,7 +15,7 @@ ghost use Rattle.engine.specs.Guards as Guards;
 ghost use Rattle.playing.specs.Stepping as Stepping;
 
 use engine::marking;
-use jump::{Choice, sums};
+use jump::sums;
 use rng::Xoshiro256;
 use timers::Ring;
 
@@ -141,7 +141,7 @@ fn race<'a>(
     let g = d.rng;
     let chosen = sums::choose_by_sums(transitions, d.value * a0, props, sums);
     match chosen {
-        Choice::Nobody => Ended {
+        None => Ended {
             timers: ring,
             rng: g,
             fits: true,
@@ -149,7 +149,7 @@ fn race<'a>(
             moved: 0,
             crossed: 0,
         },
-        Choice::Chosen(j) => {
+        Some(j) => {
             if j < transitions {
                 let f = marking::fire(places, arcs, kind, place, weight, guards, counts, j);
                 if f.fits {
