@@ -2,7 +2,7 @@
 // alone for a real m.
 #![tactic(auto)]
 
-ghost use Rattle.std.specs.Prelude.{◌≡◌, ◌≤◌, ◌<◌, ◌^◌, pos, get_or};
+ghost use Rattle.std.specs.Prelude.{◌≡◌, ◌≤◌, ◌<◌, ◌^◌, true, pos, get_or};
 ghost use Rattle.combinations.specs.Binomial.{binomial, exact};
 ghost use Rattle.combinations.specs.Combinations as Spec;
 ghost use Rattle.combinations.specs.Real as Real;
@@ -28,6 +28,14 @@ pub struct Ways {
     pub exact: bool,
 }
 
+impl Ways {
+    fn exactly(value: f64) -> Ways
+        ensures { Spec.flagged result ≡ Spec.value value true }
+    {
+        Ways { value, exact: true }
+    }
+}
+
 // A product with factor i: times the factor, then over i + 1.
 fn with_factor(res: f64, factor: f64, i: u64) -> f64
     requires { i < 2 ^ 53 }
@@ -37,19 +45,7 @@ fn with_factor(res: f64, factor: f64, i: u64) -> f64
     res * factor / divisor
 }
 
-// m over 1, times m - 1 over 2, and so on: w factors.
-fn whole_product(m: u64, w: u64) -> f64
-    requires { (w ≤ m) × (m ≤ 2 ^ 53) }
-    ensures { result ≡ Spec.product (Spec.whole_factor (pos m)) w }
-{
-    let mut result = 1.0;
-    for i in 0..w {
-        result = with_factor(result, (m - i) as f64, i);
-    }
-    result
-}
-
-// The same product from its first factor on, which m over 1 is.
+// m over 1, times m - 1 over 2, and so on: w factors. The first of them is m.
 fn begun_product(m: u64, w: u64) -> f64
     requires { (1 ≤ w) × (w ≤ m) × (m ≤ 2 ^ 53) }
     ensures { result ≡ Spec.product (Spec.whole_factor (pos m)) w }
@@ -69,18 +65,21 @@ fn pairs(m: u64) -> f64
     with_factor(m as f64, (m - 1) as f64, 1)
 }
 
-// The same by the shortest way.
-fn short_product(m: u64, w: u64) -> f64
-    requires { (1 ≤ w) × (w ≤ m) × (m ≤ 2 ^ 53) }
+// The same by the shortest way, and 1 for no factor.
+fn whole_product(m: u64, w: u64) -> f64
+    requires { (w ≤ m) × (m ≤ 2 ^ 53) }
     ensures { result ≡ Spec.product (Spec.whole_factor (pos m)) w }
 {
+    if w == 0 {
+        return 1.0;
+    }
     if w == 2 {
         return pairs(m);
     }
     begun_product(m, w)
 }
 
-// x over 1, times x - 1 over 2, and so on: w factors.
+// x over 1, times x - 1 over 2, and so on: w factors. One loop for both products would take the factors as a closure, and be longer than the two.
 fn real_product(x: f64, w: u64) -> f64
     requires { w ≤ 16 }
     ensures { result ≡ Spec.product (Real.real_factor x) w }
@@ -174,10 +173,7 @@ fn judged_few(m: u64, w: u64) -> Ways
     ensures { Spec.flagged result ≡ Spec.counted m w }
 {
     if m <= UNROUNDED_2 {
-        return Ways {
-            value: few_ways(m, w) as f64,
-            exact: true,
-        };
+        return Ways::exactly(few_ways(m, w) as f64);
     }
     if w == 2 && m < ONE_WORD_2 {
         return Ways {
@@ -205,16 +201,10 @@ pub fn combinations(m: i64, w: i64) -> Option<Ways>
     ensures { Spec.meaning result ≡ Spec.combinations m w }
 {
     if w <= 0 {
-        return Some(Ways {
-            value: 1.0,
-            exact: true,
-        });
+        return Some(Ways::exactly(1.0));
     }
     if m < w {
-        return Some(Ways {
-            value: 0.0,
-            exact: true,
-        });
+        return Some(Ways::exactly(0.0));
     }
     if w > MOST_FACTORS || m > LARGEST {
         return None;
@@ -235,7 +225,7 @@ pub fn combinations_unflagged(m: i64, w: i64) -> Option<f64>
     if w > MOST_FACTORS || m > LARGEST {
         return None;
     }
-    Some(short_product(m as u64, w as u64))
+    Some(whole_product(m as u64, w as u64))
 }
 
 // The flag of the ways to choose w of m tokens, without their float, for a caller that asks for the float apart. A refusal has none, and it is false.
