@@ -11,8 +11,7 @@ use lib.Dec.{leb}
 use borrow.Author.Tests.{le-leb, lt-leb, leb-true, leb-false}
 use Rattle.text.specs.Text.{Bytes}
 use Rattle.text.specs.Buffer.{placed, written, and_then}
-use Rattle.text.specs.declared.Written.{Written}
-use Rattle.text.specs.declared.Written.TheVariants.{Next, Short}
+use Rattle.std.specs.Prelude.{Option, Some, None}
 
 pub placed_none : (out : Bytes) (i : ℕ) → placed out i [] ≡ out
 placed_none out i = rw (add-zero i, append-nil (take i out)) (take-append-drop i out)
@@ -50,13 +49,13 @@ pub length_placed : (out : Bytes) (i : ℕ) (w : Bytes) → i + length w ≤ len
 length_placed out i w h = simp (length-append, length-take, length-drop) (omega arith)
 
 -- w of n bytes fits
-pub fitted : (out : Bytes) (i n : ℕ) (w later : Bytes) → n ≡ length w → i + n ≤ length out → later ≡ placed out i w → (later, Next (i + n)) ≡ written out i w
+pub fitted : (out : Bytes) (i n : ℕ) (w later : Bytes) → n ≡ length w → i + n ≤ length out → later ≡ placed out i w → (later, Some (i + n)) ≡ written out i w
 fitted out i n w later long h e =
     let fits : i + length w ≤ length out = omega arith in
-    rw long (simp (le-leb _ _ fits) (ap (λ (l : Bytes). (l, Next (i + length w))) e))
+    rw long (simp (le-leb _ _ fits) (ap (λ (l : Bytes). (l, Some (i + length w))) e))
 
 -- w of n bytes does not
-pub unfitted : (out : Bytes) (i n : ℕ) (w : Bytes) → n ≡ length w → length out < i + n → (out, Short) ≡ written out i w
+pub unfitted : (out : Bytes) (i n : ℕ) (w : Bytes) → n ≡ length w → length out < i + n → (out, None) ≡ written out i w
 unfitted out i n w long h =
     let over : length out < i + length w = omega arith in
     simp (lt-leb _ _ over)
@@ -73,21 +72,21 @@ pub then_joined : (out : Bytes) (i : ℕ) (v w : Bytes) → i + length (v ++ w) 
 then_joined out i v w h =
     let sum : length (v ++ w) ≡ length v + length w = length-append v w in
     let kept : length (placed out i v) ≡ length out = length_placed out i v (omega arith) in
-    let first : (placed out i v, Next (i + length v)) ≡ written out i v = fitted out i (length v) v (placed out i v) refl (omega arith) refl in
-    let second : (placed out i (v ++ w), Next (i + length v + length w)) ≡ written (placed out i v) (i + length v) w =
+    let first : (placed out i v, Some (i + length v)) ≡ written out i v = fitted out i (length v) v (placed out i v) refl (omega arith) refl in
+    let second : (placed out i (v ++ w), Some (i + length v + length w)) ≡ written (placed out i v) (i + length v) w =
     fitted (placed out i v) (i + length v) (length w) w (placed out i (v ++ w)) refl (omega arith) (sym (placed_behind out i v w)) in
     let end : i + length v + length w ≡ i + length (v ++ w) = omega arith in
-    let whole : (placed out i (v ++ w), Next (i + length (v ++ w))) ≡ written out i (v ++ w) =
+    let whole : (placed out i (v ++ w), Some (i + length (v ++ w))) ≡ written out i (v ++ w) =
     fitted out i (length (v ++ w)) (v ++ w) (placed out i (v ++ w)) refl h refl in
-    ap (λ (s : Bytes × Written). and_then s w) (sym first) ∙ sym second ∙ ap (λ (k : ℕ). (placed out i (v ++ w), Next k)) end ∙ whole
+    ap (λ (s : Bytes × Option ℕ). and_then s w) (sym first) ∙ sym second ∙ ap (λ (k : ℕ). (placed out i (v ++ w), Some k)) end ∙ whole
 
 -- the bytes in front of others fit where all of them fit
 pub front_fits : (i : ℕ) (v w : Bytes) {n : ℕ} → i + length (v ++ w) ≤ n → i + length v ≤ n
 front_fits i v w h = omega (arith, length-append v w)
 
 -- behind what was written before
-pub then_next : (out : Bytes) (w : Bytes) {b : Written} {i : ℕ} (s : Bytes × Written) → b ≡ Next i → s ≡ written out i w → s ≡ and_then (out, b) w
-then_next out w s e done = done ∙ ap (λ (b : Written). and_then (out, b) w) (sym e)
+pub then_next : (out : Bytes) (w : Bytes) {b : Option ℕ} {i : ℕ} (s : Bytes × Option ℕ) → b ≡ Some i → s ≡ written out i w → s ≡ and_then (out, b) w
+then_next out w s e done = done ∙ ap (λ (b : Option ℕ). and_then (out, b) w) (sym e)
 
-pub then_short : (out : Bytes) (w : Bytes) {b : Written} → b ≡ Short → (out, Short) ≡ and_then (out, b) w
-then_short out w e = ap (λ (b : Written). and_then (out, b) w) (sym e)
+pub then_short : (out : Bytes) (w : Bytes) {b : Option ℕ} → b ≡ None → (out, None) ≡ and_then (out, b) w
+then_short out w e = ap (λ (b : Option ℕ). and_then (out, b) w) (sym e)
