@@ -11,7 +11,8 @@ use lib.Dec.{leb}
 use borrow.Author.Tests.{le-leb, lt-leb, leb-true, leb-false}
 use Rattle.text.specs.Text.{Bytes}
 use Rattle.text.specs.Buffer.{placed, written, and_then}
-use Rattle.std.specs.Prelude.{Option, Some, None}
+use Rattle.std.specs.Prelude.{cond, Option, Some, None}
+use Rattle.std.proofs.lemmas.Option.{none-some}
 
 pub placed_none : (out : Bytes) (i : ℕ) → placed out i [] ≡ out
 placed_none out i = rw (add-zero i, append-nil (take i out)) (take-append-drop i out)
@@ -90,3 +91,31 @@ then_next out w s e done = done ∙ ap (λ (b : Option ℕ). and_then (out, b) w
 
 pub then_short : (out : Bytes) (w : Bytes) {b : Option ℕ} → b ≡ None → (out, None) ≡ and_then (out, b) w
 then_short out w e = ap (λ (b : Option ℕ). and_then (out, b) w) (sym e)
+
+-- what has a position behind it fitted
+landed : (b : Bool) (p out later : Bytes) (n k : ℕ) → ◌≡◌ {A = Bytes × Option ℕ} (later, Some k) (cond b (p, Some n) (out, None)) → b ≡ true
+landed true p out later n k e = refl
+landed false p out later n k e = absurd (none-some k (sym (ap (λ (s : Bytes × Option ℕ). s.1) e)))
+
+pub fitted_by : (out : Bytes) (i : ℕ) (w : Bytes) {later : Bytes} {k : ℕ} → (later, Some k) ≡ written out i w → i + length w ≤ length out
+fitted_by out i w {later} {k} e = leb-true _ _ (landed (leb (i + length w) (length out)) (placed out i w) out later (i + length w) k e)
+
+pub fitted_not : (out : Bytes) (i : ℕ) (w : Bytes) {later : Bytes} → i + length w ≤ length out → (later, None) ≡ written out i w → ⊥
+fitted_not out i w {later} h e =
+    none-some (i + length w) (ap (λ (s : Bytes × Option ℕ). s.1) (e ∙ sym (fitted out i (length w) w (placed out i w) refl h refl)))
+
+-- w behind v, where both fit
+pub last_behind : (out : Bytes) (i : ℕ) (v w : Bytes) {a b : Bytes} {j : ℕ} {r : Option ℕ} → i + length (v ++ w) ≤ length out
+    → (a, Some j) ≡ written out i v → (b, r) ≡ written a j w → (b, r) ≡ written out i (v ++ w)
+last_behind out i v w h e f = f ∙ ap (λ (s : Bytes × Option ℕ). and_then s w) e ∙ then_joined out i v w h
+
+-- w behind v, with a position behind it
+pub behind : (out : Bytes) (i : ℕ) (v w : Bytes) {a b : Bytes} {j k : ℕ} → (a, Some j) ≡ written out i v → (b, Some k) ≡ written a j w
+    → (b, Some k) ≡ written out i (v ++ w)
+behind out i v w {a} {b} {j} {k} e f =
+    let first : i + length v ≤ length out = fitted_by out i v e in
+    let done : (placed out i v, Some (i + length v)) ≡ written out i v = fitted out i (length v) v (placed out i v) refl first refl in
+    let moved : (b, Some k) ≡ written (placed out i v) (i + length v) w = f ∙ ap (λ (s : Bytes × Option ℕ). and_then s w) (e ∙ sym done) in
+    let second : i + length v + length w ≤ length (placed out i v) = fitted_by (placed out i v) (i + length v) w moved in
+    let kept : length (placed out i v) ≡ length out = length_placed out i v first in
+    last_behind out i v w (omega (arith, length-append v w)) e f
