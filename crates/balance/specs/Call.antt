@@ -2,6 +2,7 @@
 -- transition puts exactly as much weight as it takes. … If no, the lowest unbalanced transition is given. A list with another length than the place count is
 -- refused by 3, then a weight above 1,000 by 4." What is asked is Balance of the crate rules; a net that is given is tested first.
 use Rattle.std.specs.Prelude.{ℕ, List}
+use Rattle.refusals.specs.Number.{number_of}
 use Rattle.std.proofs.Math.Option.{Option, none, some}
 use Rattle.net.specs.declared.Net.{Net as NetRecord}
 use Rattle.net.specs.Net.{Net}
@@ -31,4 +32,4 @@ weighed n ws = given (unbalanced n ws)
 abbrev pub call_of : BalanceAnswer → Called
 call_of Balanced = given none
 call_of (Unbalanced j) = given (some j)
-call_of (Refused c) = refused c
+call_of (Refused c) = refused (number_of c)

@@ -21,7 +21,7 @@ fn write_answer(rt: &HostRuntime, answer: BalanceAnswer) {
             write_number(rt, j as u64);
             write(rt, b")\n");
         }
-        BalanceAnswer::Refused(c) => write_refused(rt, c, 0),
+        BalanceAnswer::Refused(c) => write_refused(rt, c.number(), 0),
     }
 }
 

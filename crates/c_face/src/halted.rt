@@ -10,6 +10,7 @@ ghost use Rattle.c_face.specs.Halted as Told;
 use crate::{halted_words, path};
 use rng::Xoshiro256;
 use ssa::{Halted, Onward, PathEnd};
+use net::LentNet;
 
 // The path that words and times hold.
 fn path_in<'a>(halted: &'a [u64; 816], times: &'a [f64; 257]) -> Halted
@@ -103,25 +104,7 @@ pub extern "C" fn cild_path_until<'a>(
         Told.Left call told.new halted.old times.old halted.new times.new table.new
         × (words state.new ≡ call.state.now.generator) }
 {
-    let r = ssa::fields_path_until(
-        places,
-        transitions,
-        initial,
-        capacity,
-        label,
-        lengths,
-        rate,
-        delay,
-        arcs,
-        kind,
-        place,
-        weight,
-        Xoshiro256::from_state(*state),
-        instants,
-        limit,
-        named,
-        table,
-    );
+    let r = ssa::fields_path_until(&LentNet { places: places, transitions: transitions, initial: initial, capacity: capacity, label: label, lengths: lengths, rate: rate, delay: delay, arcs: arcs, kind: kind, place: place, weight: weight }, Xoshiro256::from_state(*state), instants, limit, named, table);
     let s = r.state;
     let generator = s.generator;
     *state = generator.state();
@@ -174,36 +157,6 @@ pub extern "C" fn cild_carry<'a>(
         told.new halted.old times.old halted.new times.new table.new }
 {
     let path = path_in(halted, times);
-    let r = ssa::fields_carry(
-        old_places,
-        old_transitions,
-        old_initial,
-        old_capacity,
-        old_label,
-        old_lengths,
-        old_rate,
-        old_delay,
-        old_arcs,
-        old_kind,
-        old_place,
-        old_weight,
-        places,
-        transitions,
-        initial,
-        capacity,
-        label,
-        lengths,
-        rate,
-        delay,
-        arcs,
-        kind,
-        place,
-        weight,
-        pairs,
-        path,
-        instants,
-        named,
-        table,
-    );
+    let r = ssa::fields_carry(old_places, old_transitions, old_initial, old_capacity, old_label, old_lengths, old_rate, old_delay, old_arcs, old_kind, old_place, old_weight, &LentNet { places: places, transitions: transitions, initial: initial, capacity: capacity, label: label, lengths: lengths, rate: rate, delay: delay, arcs: arcs, kind: kind, place: place, weight: weight }, pairs, path, instants, named, table);
     leave(old_places, r, halted, times, told);
 }

@@ -7,6 +7,7 @@ ghost use Rattle.c_face.specs.Played as Played;
 
 use rng::Xoshiro256;
 use ssa::PathEnd;
+use net::LentNet;
 
 // The number of an end: the refusal's own, or 100 for quiet, 101 for spent, 102 for reached, 103 for halted.
 pub fn end_number(end: PathEnd) -> u64
@@ -47,24 +48,7 @@ pub extern "C" fn cild_path<'a>(
         rate.now delay.now arcs.now kind.now place.now weight.now) (words state.old) instants.now limit table.old)
         told.new (words state.new) table.new }
 {
-    let r = ssa::fields_path(
-        places,
-        transitions,
-        initial,
-        capacity,
-        label,
-        lengths,
-        rate,
-        delay,
-        arcs,
-        kind,
-        place,
-        weight,
-        Xoshiro256::from_state(*state),
-        instants,
-        limit,
-        table,
-    );
+    let r = ssa::fields_path(&LentNet { places: places, transitions: transitions, initial: initial, capacity: capacity, label: label, lengths: lengths, rate: rate, delay: delay, arcs: arcs, kind: kind, place: place, weight: weight }, Xoshiro256::from_state(*state), instants, limit, table);
     let end = r.end;
     *told = [end_number(end), r.steps, r.settled, r.peak, r.rounded];
     let generator = r.generator;

@@ -172,7 +172,7 @@ fn run(
     let samples = asked.samples;
     let seed = asked.seed;
     match request::request_fault(samples, asked.realizations, seed, horizon) {
-        Err(c) => write_refused(rt, c, 0),
+        Err(c) => write_refused(rt, c.number(), 0),
         Ok(()) => {
             if samples <= 1_024 {
                 halt_on_grid(rt, net, samples, seed, horizon, steps, carries, pairs, new);

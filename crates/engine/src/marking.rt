@@ -4,7 +4,7 @@ ghost use Rattle.std.specs.Float.{binary64};
 ghost use Rattle.std.specs.Float.Ieee.{mul, lt, eq};
 ghost use Rattle.net.specs.Net as Reader;
 ghost use Rattle.net.specs.Readable as Record;
-ghost use Rattle.net.specs.Record.{lent};
+ghost use Rattle.net.specs.Record.{net_of};
 ghost use Rattle.net.specs.declared.Net.{Net as NetRecord};
 ghost use Rattle.rules.specs.Enabled as Enabled;
 ghost use Rattle.rules.specs.Propensity as Propensity;
@@ -16,6 +16,7 @@ ghost use Rattle.engine.specs.Limits as Limits;
 
 use crate::{guards, slots};
 use combinations::RealWays;
+use net::LentNet;
 
 // Does a slot of this limit let its transition run, at the count of its place? Below 2^63 it is an upper limit, else 2^64 less a lower one (specs/Limits);
 // compiled, the two are one comparison.
@@ -29,29 +30,15 @@ fn slot_open(limit: u64, count: u64) -> bool
 }
 
 // May transition j run, at these counts? By the table of limits; slots behind a stop are puts without a limit.
-pub fn enabled<'a>(
-    places: usize,
-    transitions: usize,
-    initial: &'a [u64; 32],
-    capacity: &'a [u64; 32],
-    rate: &'a [f64; 64],
-    delay: &'a [f64; 64],
-    arcs: &'a [usize; 64],
-    kind: &'a [u64; 1024],
-    place: &'a [usize; 1024],
-    weight: &'a [u64; 1024],
-    limit: &'a [u64; 1024],
-    counts: &[u64; 32],
-    j: usize,
-) -> bool
-    requires { let net = lent places transitions initial.now capacity.now rate.now delay.now arcs.now kind.now place.now weight.now in (j < transitions) × Engine.Tidy net × Limits.Limits net limit.now × Engine.Counts counts.now }
-    ensures { let net = lent places transitions initial.now capacity.now rate.now delay.now arcs.now kind.now place.now weight.now in result ≡ Enabled.enabled (Record.readable net) (Engine.marking places counts.now) (Record.transition net j) }
+pub fn enabled<'a>(net: &LentNet, limit: &'a [u64; 1024], counts: &[u64; 32], j: usize) -> bool
+    requires { let net = net_of net.now in (j < net.transitions) × Engine.Tidy net × Limits.Limits net limit.now × Engine.Counts counts.now }
+    ensures { let net = net_of net.now in result ≡ Enabled.enabled (Record.readable net) (Engine.marking net.places counts.now) (Record.transition net j) }
 {
     let from = 16 * j;
-    let end = from + arcs[j];
+    let end = from + net.arcs[j];
     let mut a = from;
     while a < end {
-        let p = place[a];
+        let p = net.place[a];
         let l = limit[a];
         if !slot_open(l, counts[p]) {
             return l == slots::STOP;
@@ -124,34 +111,25 @@ pub struct Taken {
 }
 
 // Takes what transition j takes.
-pub fn take<'a>(
-    places: usize,
-    arcs: &'a [usize; 64],
-    kind: &'a [u64; 1024],
-    place: &'a [usize; 1024],
-    weight: &'a [u64; 1024],
-    guards: &'a [u64; 160],
-    counts: &mut [u64; 32],
-    j: usize,
-) -> Taken
-    requires { (j < 64) × (places ≤ 32) × Engine.AtMost 16 arcs.now × Engine.Below places place.now × Engine.AtMost 1_000_000 weight.now × Engine.Counts counts.old }
-    ensures { (Engine.marking places counts.new ≡ Moves.taking (Engine.marking places counts.old)
-        (Record.takes_of (Record.slots kind.now place.now weight.now (16 * j) (get_or arcs.now j 0))))
+pub fn take<'a>(net: &LentNet, guards: &'a [u64; 160], counts: &mut [u64; 32], j: usize) -> Taken
+    requires { (j < 64) × (net.now.places ≤ 32) × Engine.AtMost 16 net.now.arcs.now × Engine.Below net.now.places net.now.place.now × Engine.AtMost 1_000_000 net.now.weight.now × Engine.Counts counts.old }
+    ensures { (Engine.marking net.now.places counts.new ≡ Moves.taking (Engine.marking net.now.places counts.old)
+        (Record.takes_of (Record.slots net.now.kind.now net.now.place.now net.now.weight.now (16 * j) (get_or net.now.arcs.now j 0))))
         × Engine.Counts counts.new × (result.less ≤ 16_000_000)
-        × (Moments.sum_of (Engine.marking places counts.old) ≡ Moments.sum_of (Engine.marking places counts.new) + result.less)
-        × Guards.Told Guards.takes_on j places arcs.now kind.now place.now weight.now guards.now
+        × (Moments.sum_of (Engine.marking net.now.places counts.old) ≡ Moments.sum_of (Engine.marking net.now.places counts.new) + result.less)
+        × Guards.Told Guards.takes_on j net.now.places net.now.arcs.now net.now.kind.now net.now.place.now net.now.weight.now guards.now
         counts.old counts.new result.moved result.crossed }
 {
     let from = 16 * j;
-    let end = from + arcs[j];
+    let end = from + net.arcs[j];
     let mut less: u64 = 0;
     let mut moved: u64 = 0;
     let mut crossed: u64 = 0;
     let mut a = from;
     while a < end {
-        let p = place[a];
+        let p = net.place[a];
         let c = counts[p];
-        let x = taken_from(c, kind[a], weight[a]);
+        let x = taken_from(c, net.kind[a], net.weight[a]);
         if 0 < x {
             let low = c - x;
             counts[p] = low;
@@ -188,35 +166,26 @@ pub struct Added {
 }
 
 // Puts what transition j puts. Where a count would pass 2^53 the counts are of no use.
-pub fn put<'a>(
-    places: usize,
-    arcs: &'a [usize; 64],
-    kind: &'a [u64; 1024],
-    place: &'a [usize; 1024],
-    weight: &'a [u64; 1024],
-    guards: &'a [u64; 160],
-    counts: &mut [u64; 32],
-    j: usize,
-) -> Added
-    requires { (j < 64) × (places ≤ 32) × Engine.AtMost 16 arcs.now × Engine.Below places place.now × Engine.AtMost 1_000_000 weight.now × Engine.Counts counts.old }
-    ensures { Engine.PutBy result.fits (Moves.putting (Engine.marking places counts.old)
-        (Record.arcs_of Record.is_put (Record.slots kind.now place.now weight.now (16 * j) (get_or arcs.now j 0))))
-        (Engine.marking places counts.new)
+pub fn put<'a>(net: &LentNet, guards: &'a [u64; 160], counts: &mut [u64; 32], j: usize) -> Added
+    requires { (j < 64) × (net.now.places ≤ 32) × Engine.AtMost 16 net.now.arcs.now × Engine.Below net.now.places net.now.place.now × Engine.AtMost 1_000_000 net.now.weight.now × Engine.Counts counts.old }
+    ensures { Engine.PutBy result.fits (Moves.putting (Engine.marking net.now.places counts.old)
+        (Record.arcs_of Record.is_put (Record.slots net.now.kind.now net.now.place.now net.now.weight.now (16 * j) (get_or net.now.arcs.now j 0))))
+        (Engine.marking net.now.places counts.new)
         × Engine.Counts counts.new
-        × (result.fits ≡ true → Moments.sum_of (Engine.marking places counts.new) ≡ Moments.sum_of (Engine.marking places counts.old) + result.more)
+        × (result.fits ≡ true → Moments.sum_of (Engine.marking net.now.places counts.new) ≡ Moments.sum_of (Engine.marking net.now.places counts.old) + result.more)
         × (result.more ≤ 16_000_000)
-        × (result.fits ≡ true → Guards.Told Guards.puts_on j places arcs.now kind.now place.now weight.now guards.now
+        × (result.fits ≡ true → Guards.Told Guards.puts_on j net.now.places net.now.arcs.now net.now.kind.now net.now.place.now net.now.weight.now guards.now
         counts.old counts.new result.moved result.crossed) }
 {
     let from = 16 * j;
-    let end = from + arcs[j];
+    let end = from + net.arcs[j];
     let mut many: u64 = 0;
     let mut moved: u64 = 0;
     let mut crossed: u64 = 0;
     let mut a = from;
     while a < end {
-        let p = place[a];
-        let x = given(kind[a], weight[a]);
+        let p = net.place[a];
+        let x = given(net.kind[a], net.weight[a]);
         if 0 < x {
             let c = counts[p];
             let d = c + x;
@@ -255,41 +224,32 @@ pub struct Fired {
 
 // Transition j fires: it takes, and then it puts. One way through its slots does both, since its puts stand behind all others. Where a count would pass 2^53
 // the counts are of no use.
-pub fn fire<'a>(
-    places: usize,
-    arcs: &'a [usize; 64],
-    kind: &'a [u64; 1024],
-    place: &'a [usize; 1024],
-    weight: &'a [u64; 1024],
-    guards: &'a [u64; 160],
-    counts: &mut [u64; 32],
-    j: usize,
-) -> Fired
-    requires { (j < 64) × (places ≤ 32) × Engine.AtMost 16 arcs.now × Engine.Below places place.now × Engine.AtMost 1_000_000 weight.now × Engine.Counts counts.old
-        × Engine.PutsLast (Record.slots kind.now place.now weight.now (16 * j) (get_or arcs.now j 0)) }
-    ensures { Engine.PutBy result.fits (Moves.putting (Moves.taking (Engine.marking places counts.old)
-        (Record.takes_of (Record.slots kind.now place.now weight.now (16 * j) (get_or arcs.now j 0))))
-        (Record.arcs_of Record.is_put (Record.slots kind.now place.now weight.now (16 * j) (get_or arcs.now j 0))))
-        (Engine.marking places counts.new)
+pub fn fire<'a>(net: &LentNet, guards: &'a [u64; 160], counts: &mut [u64; 32], j: usize) -> Fired
+    requires { (j < 64) × (net.now.places ≤ 32) × Engine.AtMost 16 net.now.arcs.now × Engine.Below net.now.places net.now.place.now × Engine.AtMost 1_000_000 net.now.weight.now × Engine.Counts counts.old
+        × Engine.PutsLast (Record.slots net.now.kind.now net.now.place.now net.now.weight.now (16 * j) (get_or net.now.arcs.now j 0)) }
+    ensures { Engine.PutBy result.fits (Moves.putting (Moves.taking (Engine.marking net.now.places counts.old)
+        (Record.takes_of (Record.slots net.now.kind.now net.now.place.now net.now.weight.now (16 * j) (get_or net.now.arcs.now j 0))))
+        (Record.arcs_of Record.is_put (Record.slots net.now.kind.now net.now.place.now net.now.weight.now (16 * j) (get_or net.now.arcs.now j 0))))
+        (Engine.marking net.now.places counts.new)
         × Engine.Counts counts.new
-        × (result.fits ≡ true → Moments.sum_of (Engine.marking places counts.new) + result.less ≡ Moments.sum_of (Engine.marking places counts.old) + result.more)
+        × (result.fits ≡ true → Moments.sum_of (Engine.marking net.now.places counts.new) + result.less ≡ Moments.sum_of (Engine.marking net.now.places counts.old) + result.more)
         × (result.more ≤ 16_000_000)
-        × (result.fits ≡ true → Guards.Told Guards.moves_on j places arcs.now kind.now place.now weight.now guards.now
+        × (result.fits ≡ true → Guards.Told Guards.moves_on j net.now.places net.now.arcs.now net.now.kind.now net.now.place.now net.now.weight.now guards.now
         counts.old counts.new result.moved result.crossed) }
 {
     let from = 16 * j;
-    let end = from + arcs[j];
+    let end = from + net.arcs[j];
     let mut less: u64 = 0;
     let mut more: u64 = 0;
     let mut moved: u64 = 0;
     let mut crossed: u64 = 0;
     let mut a = from;
     while a < end {
-        let p = place[a];
-        let k = kind[a];
+        let p = net.place[a];
+        let k = net.kind[a];
         let c = counts[p];
         if k == 2 {
-            let x = slots::amount(weight[a]);
+            let x = slots::amount(net.weight[a]);
             let d = c + x;
             if 9_007_199_254_740_992 < d {
                 return Fired {
@@ -305,7 +265,7 @@ pub fn fire<'a>(
             moved = moved | guards[p];
             crossed = crossed | guards::crossed(guards, p, c, d);
         } else {
-            let y = taken_from(c, k, weight[a]);
+            let y = taken_from(c, k, net.weight[a]);
             if 0 < y {
                 let low = c - y;
                 counts[p] = low;

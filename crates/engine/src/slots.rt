@@ -3,13 +3,13 @@ ghost use Rattle.std.specs.Prelude.{◌≡◌, ℕ, ◌+◌, ◌-◌, ◌*◌, �
 ghost use Rattle.std.proofs.Math.Option.{none};
 ghost use Rattle.net.specs.Net as Reader;
 ghost use Rattle.net.specs.Readable as Record;
-ghost use Rattle.net.specs.Record.{lent, labelled};
+ghost use Rattle.net.specs.Record.{lent, labelled, net_of};
 ghost use Rattle.net.specs.declared.Net.{Net as NetRecord};
 ghost use Rattle.engine.specs.Engine as Engine;
 ghost use Rattle.engine.specs.Limits as Limits;
 ghost use Rattle.engine.specs.Arcs as Arcs;
 
-use net::Net;
+use net::{LentNet, Net};
 
 // The group of a slot, by its kind: puts are behind.
 fn group(kind: u64) -> u64
@@ -48,10 +48,8 @@ fn copy_slot(
 }
 
 // Copies those of n slots from slot `from` on that are of group g to the slots from `to` on, and answers with the slot behind them.
-fn copy_slots<'a>(
-    kind: &'a [u64; 1024],
-    place: &'a [usize; 1024],
-    weight: &'a [u64; 1024],
+fn copy_slots(
+    net: &LentNet,
     from: usize,
     n: usize,
     g: u64,
@@ -60,18 +58,18 @@ fn copy_slots<'a>(
     places: &mut [usize; 1024],
     weights: &mut [u64; 1024],
 ) -> usize
-    requires { (from + n ≤ 1024) × (to + length (Arcs.of_group g (Record.slots kind.now place.now weight.now from n)) ≤ 1024)
+    requires { (from + n ≤ 1024) × (to + length (Arcs.of_group g (Record.slots net.now.kind.now net.now.place.now net.now.weight.now from n)) ≤ 1024)
         × (length kinds.old ≡ 1024) × (length places.old ≡ 1024) × (length weights.old ≡ 1024) }
-    ensures { Arcs.Copied to result (Arcs.of_group g (Record.slots kind.now place.now weight.now from n))
+    ensures { Arcs.Copied to result (Arcs.of_group g (Record.slots net.now.kind.now net.now.place.now net.now.weight.now from n))
         kinds.old places.old weights.old kinds.new places.new weights.new }
 {
     let end = from + n;
     let mut b = to;
     let mut a = from;
     while a < end {
-        let k = kind[a];
-        let p = place[a];
-        let w = weight[a];
+        let k = net.kind[a];
+        let p = net.place[a];
+        let w = net.weight[a];
         b = copy_slot(k, p, w, g, b, kinds, places, weights);
         a += 1;
     }
@@ -81,36 +79,25 @@ fn copy_slots<'a>(
 // Writes the slots of the net whose fields are lent into the four tables: the puts of a transition stand behind its other arcs, so that a test may end
 // before them, and every slot that is not used stays 0, so that the bounds of an accepted net hold in all slots. With these tables it reads as the same net:
 // the order among takes, reads, blocks and puts stays. A caller that holds the fields is spared the copies that `tidied` takes.
-pub fn tidy<'a>(
-    places: usize,
-    transitions: usize,
-    initial: &'a [u64; 32],
-    capacity: &'a [u64; 32],
-    label: &'a [u8; 512],
-    lengths: &'a [usize; 32],
-    rate: &'a [f64; 64],
-    delay: &'a [f64; 64],
-    arcs: &'a [usize; 64],
-    kind: &'a [u64; 1024],
-    place: &'a [usize; 1024],
-    weight: &'a [u64; 1024],
+pub fn tidy(
+    net: &LentNet,
     count: &mut [usize; 64],
     kinds: &mut [u64; 1024],
     at: &mut [usize; 1024],
     weights: &mut [u64; 1024],
 )
-    requires { let net = labelled places transitions initial.now capacity.now label.now lengths.now rate.now delay.now arcs.now kind.now place.now weight.now in (Record.fault net ≡ none) × (count.old ≡ replicate 64 0) × (kinds.old ≡ replicate 1024 0) × (at.old ≡ replicate 1024 0)
+    requires { let net = net_of net.now in (Record.fault net ≡ none) × (count.old ≡ replicate 64 0) × (kinds.old ≡ replicate 1024 0) × (at.old ≡ replicate 1024 0)
         × (weights.old ≡ replicate 1024 0) }
-    ensures { let net = labelled places transitions initial.now capacity.now label.now lengths.now rate.now delay.now arcs.now kind.now place.now weight.now in Engine.Tidied net (labelled places transitions initial.now capacity.now label.now lengths.now
-        rate.now delay.now count.new kinds.new at.new weights.new) }
+    ensures { let net = net_of net.now in Engine.Tidied net (labelled net.places net.transitions net.initial net.capacity net.label net.lengths
+        net.rate net.delay count.new kinds.new at.new weights.new) }
 {
     let mut j: usize = 0;
-    while j < transitions {
-        let n = arcs[j];
+    while j < net.transitions {
+        let n = net.arcs[j];
         count[j] = n;
         let from = 16 * j;
-        let to = copy_slots(kind, place, weight, from, n, 0, from, kinds, at, weights);
-        copy_slots(kind, place, weight, from, n, 1, to, kinds, at, weights);
+        let to = copy_slots(net, from, n, 0, from, kinds, at, weights);
+        copy_slots(net, from, n, 1, to, kinds, at, weights);
         j += 1;
     }
 }
@@ -124,24 +111,7 @@ pub fn tidied(net: Net) -> Net
     let mut kind = [0u64; 1024];
     let mut place = [0usize; 1024];
     let mut weight = [0u64; 1024];
-    tidy(
-        net.places,
-        net.transitions,
-        &net.initial,
-        &net.capacity,
-        &net.label,
-        &net.lengths,
-        &net.rate,
-        &net.delay,
-        &net.arcs,
-        &net.kind,
-        &net.place,
-        &net.weight,
-        &mut arcs,
-        &mut kind,
-        &mut place,
-        &mut weight,
-    );
+    tidy(&net.lent(), &mut arcs, &mut kind, &mut place, &mut weight);
     let mut ordered = net;
     ordered.arcs = arcs;
     ordered.kind = kind;
@@ -195,25 +165,18 @@ fn taken_slot(kind: u64, place: usize, weight: u64, p: usize) -> u64
 }
 
 // What the slots from `from` to before `end` put into place p and take from it.
-pub fn change_at<'a>(
-    kind: &'a [u64; 1024],
-    place: &'a [usize; 1024],
-    weight: &'a [u64; 1024],
-    from: usize,
-    end: usize,
-    p: usize,
-) -> Change
-    requires { (end ≤ 1024) × Arcs.Light from end weight.now }
-    ensures { (result.put ≡ Reader.moved (Record.arcs_of Record.is_put (Record.slots kind.now place.now weight.now from (end - from))) p)
-        × (result.taken ≡ Reader.taken_by (Record.takes_of (Record.slots kind.now place.now weight.now from (end - from))) p) }
+pub fn change_at(net: &LentNet, from: usize, end: usize, p: usize) -> Change
+    requires { (end ≤ 1024) × Arcs.Light from end net.now.weight.now }
+    ensures { (result.put ≡ Reader.moved (Record.arcs_of Record.is_put (Record.slots net.now.kind.now net.now.place.now net.now.weight.now from (end - from))) p)
+        × (result.taken ≡ Reader.taken_by (Record.takes_of (Record.slots net.now.kind.now net.now.place.now net.now.weight.now from (end - from))) p) }
 {
     let mut put = 0;
     let mut taken = 0;
     let mut a = from;
     while a < end {
-        let k = kind[a];
-        let q = place[a];
-        let w = weight[a];
+        let k = net.kind[a];
+        let q = net.place[a];
+        let w = net.weight[a];
         put = put + put_slot(k, q, w, p);
         taken = taken + taken_slot(k, q, w, p);
         a += 1;
@@ -256,72 +219,36 @@ fn arc_limit(kind: u64, weight: u64) -> u64
 }
 
 // The limit of slot a. A place without a capacity has room at every count.
-fn slot_limit<'a>(
-    places: usize,
-    transitions: usize,
-    initial: &'a [u64; 32],
-    capacity: &'a [u64; 32],
-    rate: &'a [f64; 64],
-    delay: &'a [f64; 64],
-    arcs: &'a [usize; 64],
-    kind: &'a [u64; 1024],
-    place: &'a [usize; 1024],
-    weight: &'a [u64; 1024],
-    a: usize,
-) -> u64
-    requires { let net = lent places transitions initial.now capacity.now rate.now delay.now arcs.now kind.now place.now weight.now in (a < 1024) × Engine.Tidy net }
-    ensures { let net = lent places transitions initial.now capacity.now rate.now delay.now arcs.now kind.now place.now weight.now in result ≡ Limits.limit_at net a }
+fn slot_limit(net: &LentNet, a: usize) -> u64
+    requires { let net = net_of net.now in (a < 1024) × Engine.Tidy net }
+    ensures { let net = net_of net.now in result ≡ Limits.limit_at net a }
 {
-    let k = kind[a];
+    let k = net.kind[a];
     if k != net::PUT {
-        return arc_limit(k, weight[a]);
+        return arc_limit(k, net.weight[a]);
     }
-    let p = place[a];
-    let q = capacity[p];
+    let p = net.place[a];
+    let q = net.capacity[p];
     if q == 0 {
         return NO_LIMIT;
     }
     let j = a / 16;
     let from = 16 * j;
-    let end = from + arcs[j];
-    let c = change_at(kind, place, weight, from, end, p);
+    let end = from + net.arcs[j];
+    let c = change_at(net, from, end, p);
     room_limit(q, c)
 }
 
 // Fills the table with the limit of every slot.
-fn fill_slots<'a>(
-    places: usize,
-    transitions: usize,
-    initial: &'a [u64; 32],
-    capacity: &'a [u64; 32],
-    rate: &'a [f64; 64],
-    delay: &'a [f64; 64],
-    arcs: &'a [usize; 64],
-    kind: &'a [u64; 1024],
-    place: &'a [usize; 1024],
-    weight: &'a [u64; 1024],
-    limit: &mut [u64; 1024],
-)
-    requires { let net = lent places transitions initial.now capacity.now rate.now delay.now arcs.now kind.now place.now weight.now in Engine.Tidy net × (length limit.old ≡ 1024) }
-    ensures { let net = lent places transitions initial.now capacity.now rate.now delay.now arcs.now kind.now place.now weight.now in (length limit.new ≡ 1024) × ((a : ℕ) → a < 16 * transitions → get_or limit.new a 0 ≡ Limits.limit_at net a) }
+fn fill_slots(net: &LentNet, limit: &mut [u64; 1024])
+    requires { let net = net_of net.now in Engine.Tidy net × (length limit.old ≡ 1024) }
+    ensures { let net = net_of net.now in (length limit.new ≡ 1024) × ((a : ℕ) → a < 16 * net.transitions → get_or limit.new a 0 ≡ Limits.limit_at net a) }
 {
-    let end = 16 * transitions;
+    let end = 16 * net.transitions;
     let mut a: usize = 0;
     while a < end {
         let b = a + 1;
-        let x = slot_limit(
-            places,
-            transitions,
-            initial,
-            capacity,
-            rate,
-            delay,
-            arcs,
-            kind,
-            place,
-            weight,
-            a,
-        );
+        let x = slot_limit(net, a);
         limit[a] = x;
         a = b;
     }
@@ -360,36 +287,12 @@ fn mark_rests(transitions: usize, arcs: &[usize; 64], limit: &mut [u64; 1024])
 }
 
 // Fills the table of limits.
-pub fn fill_limits<'a>(
-    places: usize,
-    transitions: usize,
-    initial: &'a [u64; 32],
-    capacity: &'a [u64; 32],
-    rate: &'a [f64; 64],
-    delay: &'a [f64; 64],
-    arcs: &'a [usize; 64],
-    kind: &'a [u64; 1024],
-    place: &'a [usize; 1024],
-    weight: &'a [u64; 1024],
-    limit: &mut [u64; 1024],
-)
-    requires { let net = lent places transitions initial.now capacity.now rate.now delay.now arcs.now kind.now place.now weight.now in Engine.Tidy net × (length limit.old ≡ 1024) }
-    ensures { let net = lent places transitions initial.now capacity.now rate.now delay.now arcs.now kind.now place.now weight.now in Limits.Limits net limit.new }
+pub fn fill_limits(net: &LentNet, limit: &mut [u64; 1024])
+    requires { let net = net_of net.now in Engine.Tidy net × (length limit.old ≡ 1024) }
+    ensures { let net = net_of net.now in Limits.Limits net limit.new }
 {
-    fill_slots(
-        places,
-        transitions,
-        initial,
-        capacity,
-        rate,
-        delay,
-        arcs,
-        kind,
-        place,
-        weight,
-        limit,
-    );
-    mark_rests(transitions, arcs, limit);
+    fill_slots(net, limit);
+    mark_rests(net.transitions, net.arcs, limit);
 }
 
 // The initial counts of the first `places` places, and 0 beyond.

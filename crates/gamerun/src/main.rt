@@ -28,7 +28,7 @@ fn write_first(rt: &HostRuntime, first: First) {
 
 fn write_answer(rt: &HostRuntime, answer: GameAnswer) {
     match answer {
-        GameAnswer::Refused(c) => write_refused(rt, c, 0),
+        GameAnswer::Refused(c) => write_refused(rt, c.number(), 0),
         GameAnswer::Answered(first, examined) => {
             write_first(rt, first);
             write_number(rt, examined);

@@ -1,5 +1,7 @@
 -- What a step of the program is, in the rules' words. The rules of a step are in the crate rules (Step, Run); nothing here adds to them.
 use Rattle.std.specs.Prelude.{ℕ, ◌≤◌, ◌<◌, max, ◌≡◌, Bool, true, false, not, List, [], ◌∷◌, ◌⊎◌, take, Float}
+use Rattle.refusals.specs.declared.Refusal.{Refusal as RefusalEnum}
+use Rattle.refusals.specs.declared.Refusal.TheVariants.{TooManyTimers, CountTooLarge}
 use Rattle.std.specs.Float.Ieee.{lt}
 use Rattle.refusals.specs as Refusal
 use Rattle.net.specs.declared.Net.{Net as NetRecord}
@@ -91,6 +93,6 @@ pub data StepBy (spec : Answer Step) (before : State) (last : Float) (shows : St
   quiet : spec ≡ given (still rounded) → s ≡ before → same → most' ≡ most → StepBy spec before last shows same most most' many s rounded Quiet
   reached : (js : List ℕ) (e : Answer Event) → spec ≡ given (sets rounded js s e) → lt last s.clock ≡ true → shows s → most' ≡ most
       → StepBy spec before last shows same most most' many s rounded Reached
-  starting : spec ≡ refused Refusal.too_many_timers → StepBy spec before last shows same most most' many s rounded (Refused Refusal.too_many_timers)
+  starting : spec ≡ refused Refusal.too_many_timers → StepBy spec before last shows same most most' many s rounded (Refused TooManyTimers)
   putting : (js : List ℕ) (u : State) → spec ≡ given (sets rounded js u (refused Refusal.count_too_large)) → lt last u.clock ≡ false
-      → StepBy spec before last shows same most most' many s rounded (Refused Refusal.count_too_large)
+      → StepBy spec before last shows same most most' many s rounded (Refused CountTooLarge)

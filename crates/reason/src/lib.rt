@@ -7,7 +7,7 @@ ghost use Rattle.std.specs.Prelude.{◌≡◌};
 ghost use Rattle.net.specs.Record.{labelled};
 ghost use Rattle.reason.specs.Call as Call;
 
-use net::Net;
+use net::{LentNet, Net};
 
 // The length of the text, or the number by which the call was turned down.
 #[derive(Clone, Copy)]
@@ -52,18 +52,18 @@ fn lent_reason<'a>(
     ) {
         return ReasonAnswer::TurnedDown(c);
     }
-    let g = gates::gates_of(
-        places,
-        transitions,
-        initial,
-        capacity,
-        rate,
-        delay,
-        arcs,
-        kind,
-        place,
-        weight,
-    );
+    let g = gates::gates_of(&LentNet {
+        places: places,
+        transitions: transitions,
+        initial: initial,
+        capacity: capacity,
+        rate: rate,
+        delay: delay,
+        arcs: arcs,
+        kind: kind,
+        place: place,
+        weight: weight,
+    });
     writing::write_reason(out, g, label, lengths)
 }
 

@@ -9,8 +9,8 @@ ghost use Rattle.reason.specs.Parts as Parts;
 
 use crate::ReasonAnswer;
 use gates::Gates;
-use text::Written;
 use refusals::Refusal;
+use text::Written;
 
 // What stands in front of a sentence.
 fn lead_at(out: &mut [u8], at: usize) -> Written

@@ -3,12 +3,13 @@ ghost use Rattle.std.specs.Prelude.{◌≡◌, ◌+◌, ◌-◌, ◌*◌, ◌/�
 ghost use Rattle.net.specs.Net as Reader;
 ghost use Rattle.net.specs.declared.Net.{Net as NetRecord};
 ghost use Rattle.net.specs.Readable as Record;
-ghost use Rattle.net.specs.Record.{lent};
+ghost use Rattle.net.specs.Record.{net_of};
 ghost use Rattle.net.specs.Sound as Sound;
 ghost use Rattle.sde.specs.Diffusion as Diffusion;
 ghost use Rattle.sde.specs.Slots as Slots;
 
 use engine::slots;
+use net::LentNet;
 
 // d less what one slot takes from place p.
 fn less(d: f64, kind: u64, place: usize, weight: u64, p: usize) -> f64
@@ -37,107 +38,56 @@ fn more(d: f64, kind: u64, place: usize, weight: u64, p: usize) -> f64
 }
 
 // 0 less what the slots from `from` to before `end` take from place p.
-fn less_takes<'a>(
-    kind: &'a [u64; 1024],
-    place: &'a [usize; 1024],
-    weight: &'a [u64; 1024],
-    from: usize,
-    end: usize,
-    p: usize,
-) -> f64
-    requires { (end ≤ 1024) × Slots.Light from end weight.now }
-    ensures { result ≡ Diffusion.less_takes p Reader.zero64 (Record.takes_of (Record.slots kind.now place.now weight.now from (end - from))) }
+fn less_takes(net: &LentNet, from: usize, end: usize, p: usize) -> f64
+    requires { (end ≤ 1024) × Slots.Light from end net.now.weight.now }
+    ensures { result ≡ Diffusion.less_takes p Reader.zero64 (Record.takes_of (Record.slots net.now.kind.now net.now.place.now net.now.weight.now from (end - from))) }
 {
     let mut d = 0.0;
     let mut a = from;
     while a < end {
-        d = less(d, kind[a], place[a], weight[a], p);
+        d = less(d, net.kind[a], net.place[a], net.weight[a], p);
         a += 1;
     }
     d
 }
 
 // What they put there, on top of first.
-fn plus_puts<'a>(
-    kind: &'a [u64; 1024],
-    place: &'a [usize; 1024],
-    weight: &'a [u64; 1024],
-    from: usize,
-    end: usize,
-    p: usize,
-    first: f64,
-) -> f64
-    requires { (end ≤ 1024) × Slots.Light from end weight.now }
-    ensures { result ≡ Diffusion.plus_puts p first (Record.arcs_of Record.is_put (Record.slots kind.now place.now weight.now from (end - from))) }
+fn plus_puts(net: &LentNet, from: usize, end: usize, p: usize, first: f64) -> f64
+    requires { (end ≤ 1024) × Slots.Light from end net.now.weight.now }
+    ensures { result ≡ Diffusion.plus_puts p first (Record.arcs_of Record.is_put (Record.slots net.now.kind.now net.now.place.now net.now.weight.now from (end - from))) }
 {
     let mut d = first;
     let mut a = from;
     while a < end {
-        d = more(d, kind[a], place[a], weight[a], p);
+        d = more(d, net.kind[a], net.place[a], net.weight[a], p);
         a += 1;
     }
     d
 }
 
 // The net change of cell c.
-fn change_of<'a>(
-    places: usize,
-    transitions: usize,
-    initial: &'a [u64; 32],
-    capacity: &'a [u64; 32],
-    rate: &'a [f64; 64],
-    delay: &'a [f64; 64],
-    arcs: &'a [usize; 64],
-    kind: &'a [u64; 1024],
-    place: &'a [usize; 1024],
-    weight: &'a [u64; 1024],
-    c: usize,
-) -> f64
-    requires { let net = lent places transitions initial.now capacity.now rate.now delay.now arcs.now kind.now place.now weight.now in (c < 32 * transitions) × Sound.Sound net }
-    ensures { let net = lent places transitions initial.now capacity.now rate.now delay.now arcs.now kind.now place.now weight.now in result ≡ Slots.change_of net c }
+fn change_of(net: &LentNet, c: usize) -> f64
+    requires { let net = net_of net.now in (c < 32 * net.transitions) × Sound.Sound net }
+    ensures { let net = net_of net.now in result ≡ Slots.change_of net c }
 {
     let j = c / 32;
     let p = c % 32;
     let from = 16 * j;
-    let end = from + arcs[j];
-    let d = less_takes(kind, place, weight, from, end, p);
-    plus_puts(kind, place, weight, from, end, p, d)
+    let end = from + net.arcs[j];
+    let d = less_takes(net, from, end, p);
+    plus_puts(net, from, end, p, d)
 }
 
 // Fills the table of net changes.
-pub fn fill_changes<'a>(
-    places: usize,
-    transitions: usize,
-    initial: &'a [u64; 32],
-    capacity: &'a [u64; 32],
-    rate: &'a [f64; 64],
-    delay: &'a [f64; 64],
-    arcs: &'a [usize; 64],
-    kind: &'a [u64; 1024],
-    place: &'a [usize; 1024],
-    weight: &'a [u64; 1024],
-    changes: &mut [f64; 2048],
-)
-    requires { let net = lent places transitions initial.now capacity.now rate.now delay.now arcs.now kind.now place.now weight.now in Sound.Sound net × (length changes.old ≡ 2048) }
-    ensures { let net = lent places transitions initial.now capacity.now rate.now delay.now arcs.now kind.now place.now weight.now in Slots.Changes net changes.new }
+pub fn fill_changes(net: &LentNet, changes: &mut [f64; 2048])
+    requires { let net = net_of net.now in Sound.Sound net × (length changes.old ≡ 2048) }
+    ensures { let net = net_of net.now in Slots.Changes net changes.new }
 {
-    let end = 32 * transitions;
+    let end = 32 * net.transitions;
     let mut c: usize = 0;
     while c < end {
         let next = c + 1;
-        let d = change_of(
-            places,
-            transitions,
-            initial,
-            capacity,
-            rate,
-            delay,
-            arcs,
-            kind,
-            place,
-            weight,
-            c,
-        );
+        let d = change_of(net, c);
         changes[c] = d;
         c = next;
     }

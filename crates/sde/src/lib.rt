@@ -14,6 +14,7 @@ ghost use Rattle.sde.specs.Call as Call;
 use averages::request;
 use gates::Gates;
 use net::Net;
+use refusals::Refusal;
 
 // Whether there are deviations; or what gates the net; or the number by which the call was turned down; or the number by which a path was refused, and
 // the path's own.
@@ -21,8 +22,8 @@ use net::Net;
 pub enum DiffusionAnswer {
     Averaged(bool),
     Gated(Gates),
-    TurnedDown(u64),
-    Stopped(u64, u64),
+    TurnedDown(Refusal),
+    Stopped(Refusal, u64),
 }
 
 // Paths of the chemical Langevin equation from consecutive seeds over a grid of instants, their means and deviations: place p at instant i is cell
@@ -50,12 +51,7 @@ pub fn diffuse(
     }
     let places = net.places;
     let cells = places * (samples as usize);
-    if let Err(c) = request::tables_fault(
-        cells,
-        mean.len(),
-        deviation.len(),
-        path.len(),
-    ) {
+    if let Err(c) = request::tables_fault(cells, mean.len(), deviation.len(), path.len()) {
         return DiffusionAnswer::TurnedDown(c);
     }
     paths::accepted(

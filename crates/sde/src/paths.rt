@@ -4,7 +4,7 @@ ghost use Rattle.std.proofs.Math.Option.{none};
 ghost use Rattle.net.specs.Net as Reader;
 ghost use Rattle.net.specs.declared.Net.{Net as NetRecord};
 ghost use Rattle.net.specs.Readable as Record;
-ghost use Rattle.net.specs.Record.{lent};
+ghost use Rattle.net.specs.Record.{lent, net_of};
 ghost use Rattle.net.specs.Sound as Sound;
 ghost use Rattle.root.specs.Root.{root_of};
 ghost use Rattle.rules.specs.Propensity.{float};
@@ -18,7 +18,7 @@ ghost use Rattle.sde.specs.Summed as Summed;
 
 use crate::{DiffusionAnswer, change, propensity, walk};
 use averages::{moments, request};
-use net::Net;
+use net::{LentNet, Net};
 use refusals::Refusal;
 
 // The width of a substep.
@@ -33,16 +33,7 @@ fn width(samples: u32, horizon: f64) -> f64
 
 // Walks the paths in order and sums them up. How many were walked: all, or those before the first that was refused.
 fn sum_paths<'a>(
-    places: usize,
-    transitions: usize,
-    initial: &'a [u64; 32],
-    capacity: &'a [u64; 32],
-    rate: &'a [f64; 64],
-    delay: &'a [f64; 64],
-    arcs: &'a [usize; 64],
-    kind: &'a [u64; 1024],
-    place: &'a [usize; 1024],
-    weight: &'a [u64; 1024],
+    net: &LentNet,
     changes: &'a [f64; 2048],
     skips: &'a [usize; 2112],
     ends: &'a [usize; 64],
@@ -56,16 +47,16 @@ fn sum_paths<'a>(
     deviation: &mut [f64],
     path: &mut [f64],
 ) -> u64
-    requires { let net = lent places transitions initial.now capacity.now rate.now delay.now arcs.now kind.now place.now weight.now in Sound.Sound net × Slots.Prepared net changes.now skips.now ends.now
+    requires { let net = net_of net.now in Sound.Sound net × Slots.Prepared net changes.now skips.now ends.now
         × (dt ≡ Diffusion.step_of n horizon) × (root ≡ root_of dt)
         × (1 ≤ n) × (n ≤ 1024) × (1 ≤ realizations)
-        × (places * n ≤ length mean.old) × (places * n ≤ length deviation.old) × (places * n ≤ length path.old) }
-    ensures { let net = lent places transitions initial.now capacity.now rate.now delay.now arcs.now kind.now place.now weight.now in Summed.SummedBy (places * n) realizations
+        × (net.places * n ≤ length mean.old) × (net.places * n ≤ length deviation.old) × (net.places * n ≤ length path.old) }
+    ensures { let net = net_of net.now in Summed.SummedBy (net.places * n) realizations
         (Call.members_from (Record.readable net) (record { samples = n; realizations = realizations; seed = seed; horizon = horizon }) 0 realizations)
         (record { mean = mean.entry.now; deviation = deviation.old; path = path.old })
         mean.exit.now deviation.new path.new result }
 {
-    let cells = places * n;
+    let cells = net.places * n;
     moments::clear(cells, mean);
     moments::clear(cells, deviation);
     let mut x = [0.0; 32];
@@ -75,26 +66,7 @@ fn sum_paths<'a>(
         let next = k + 1;
         let own = request::seed_of(seed, k);
         let stopped = walk::walk(
-            places,
-            transitions,
-            initial,
-            capacity,
-            rate,
-            delay,
-            arcs,
-            kind,
-            place,
-            weight,
-            changes,
-            skips,
-            ends,
-            n,
-            dt,
-            root,
-            own,
-            &mut x,
-            &mut drift,
-            path,
+            net, changes, skips, ends, n, dt, root, own, &mut x, &mut drift, path,
         );
         if stopped {
             return k;
@@ -131,16 +103,7 @@ fn finish(
 
 // The paths, and what is made of them; +0 in the answer's cells where a path is refused.
 fn averaged<'a>(
-    places: usize,
-    transitions: usize,
-    initial: &'a [u64; 32],
-    capacity: &'a [u64; 32],
-    rate: &'a [f64; 64],
-    delay: &'a [f64; 64],
-    arcs: &'a [usize; 64],
-    kind: &'a [u64; 1024],
-    place: &'a [usize; 1024],
-    weight: &'a [u64; 1024],
+    net: &LentNet,
     changes: &'a [f64; 2048],
     skips: &'a [usize; 2112],
     ends: &'a [usize; 64],
@@ -154,26 +117,17 @@ fn averaged<'a>(
     deviation: &mut [f64],
     path: &mut [f64],
 ) -> DiffusionAnswer
-    requires { let net = lent places transitions initial.now capacity.now rate.now delay.now arcs.now kind.now place.now weight.now in Sound.Sound net × Slots.Prepared net changes.now skips.now ends.now
+    requires { let net = net_of net.now in Sound.Sound net × Slots.Prepared net changes.now skips.now ends.now
         × (dt ≡ Diffusion.step_of n horizon) × (root ≡ root_of dt)
         × (1 ≤ n) × (n ≤ 1024) × (1 ≤ realizations) × (realizations ≤ 65_535)
-        × (places * n ≤ length mean.old) × (places * n ≤ length deviation.old) × (places * n ≤ length path.old) }
-    ensures { let net = lent places transitions initial.now capacity.now rate.now delay.now arcs.now kind.now place.now weight.now in Call.call_of result mean.exit.now deviation.new path.new
-        ≡ Call.tabulated (places * n) (record { mean = mean.entry.now; deviation = deviation.old; path = path.old })
+        × (net.places * n ≤ length mean.old) × (net.places * n ≤ length deviation.old) × (net.places * n ≤ length path.old) }
+    ensures { let net = net_of net.now in Call.call_of result mean.exit.now deviation.new path.new
+        ≡ Call.tabulated (net.places * n) (record { mean = mean.entry.now; deviation = deviation.old; path = path.old })
         (Call.members_from (Record.readable net) (record { samples = n; realizations = realizations; seed = seed; horizon = horizon }) 0 realizations) }
 {
-    let cells = places * n;
+    let cells = net.places * n;
     let k = sum_paths(
-        places,
-        transitions,
-        initial,
-        capacity,
-        rate,
-        delay,
-        arcs,
-        kind,
-        place,
-        weight,
+        net,
         changes,
         skips,
         ends,
@@ -197,17 +151,8 @@ fn averaged<'a>(
 }
 
 // A call that no test turned down, over the net whose fields are lent: gated, or the paths.
-pub fn lent_run<'a>(
-    places: usize,
-    transitions: usize,
-    initial: &'a [u64; 32],
-    capacity: &'a [u64; 32],
-    rate: &'a [f64; 64],
-    delay: &'a [f64; 64],
-    arcs: &'a [usize; 64],
-    kind: &'a [u64; 1024],
-    place: &'a [usize; 1024],
-    weight: &'a [u64; 1024],
+pub fn lent_run(
+    net: &LentNet,
     samples: u64,
     realizations: u64,
     seed: u64,
@@ -216,64 +161,36 @@ pub fn lent_run<'a>(
     deviation: &mut [f64],
     path: &mut [f64],
 ) -> DiffusionAnswer
-    requires { let net = lent places transitions initial.now capacity.now rate.now delay.now arcs.now kind.now place.now weight.now in Sound.Sound net
+    requires { let net = net_of net.now in Sound.Sound net
         × (2 ≤ samples) × (samples ≤ 1024) × (1 ≤ realizations) × (realizations ≤ 65_535)
-        × (places * samples ≤ length mean.old) × (places * samples ≤ length deviation.old) × (places * samples ≤ length path.old) }
-    ensures { let net = lent places transitions initial.now capacity.now rate.now delay.now arcs.now kind.now place.now weight.now in Call.call_of result mean.exit.now deviation.new path.new
+        × (net.places * samples ≤ length mean.old) × (net.places * samples ≤ length deviation.old) × (net.places * samples ≤ length path.old) }
+    ensures { let net = net_of net.now in Call.call_of result mean.exit.now deviation.new path.new
         ≡ Call.unless_gated (Gated.gated (Gated.gates (Record.readable net))) (Gated.gates (Record.readable net))
         (record { mean = mean.entry.now; deviation = deviation.old; path = path.old })
-        (Call.tabulated (places * samples) (record { mean = mean.entry.now; deviation = deviation.old; path = path.old })
+        (Call.tabulated (net.places * samples) (record { mean = mean.entry.now; deviation = deviation.old; path = path.old })
         (Call.members_from (Record.readable net) (record { samples = samples; realizations = realizations; seed = seed; horizon = horizon }) 0 realizations)) }
 {
-    let g = gates::gates_of(
-        places,
-        transitions,
-        initial,
-        capacity,
-        rate,
-        delay,
-        arcs,
-        kind,
-        place,
-        weight,
-    );
+    let g = gates::gates_of(net);
     if gates::is_gated(g) {
         return DiffusionAnswer::Gated(g);
     }
     let mut rates = [0.0; 64];
-    propensity::fill_rates(transitions, rate, delay, &mut rates);
+    propensity::fill_rates(net, &mut rates);
     let mut changes = [0.0; 2048];
-    change::fill_changes(
-        places,
-        transitions,
-        initial,
-        capacity,
-        &rates,
-        delay,
-        arcs,
-        kind,
-        place,
-        weight,
-        &mut changes,
-    );
+    let rated = LentNet {
+        rate: &rates,
+        ..*net
+    };
+    change::fill_changes(&rated, &mut changes);
     let mut skips: [usize; 2112] = [0; 2112];
-    change::fill_skips(&changes, places, transitions, &mut skips);
+    change::fill_skips(&changes, net.places, net.transitions, &mut skips);
     let mut ends: [usize; 64] = [0; 64];
-    propensity::fill_ends(transitions, arcs, kind, &mut ends);
+    propensity::fill_ends(net, &mut ends);
     let dt = width(samples as u32, horizon);
     let root = root::sqrt(dt);
     let n = samples as usize;
     averaged(
-        places,
-        transitions,
-        initial,
-        capacity,
-        &rates,
-        delay,
-        arcs,
-        kind,
-        place,
-        weight,
+        &rated,
         &changes,
         &skips,
         &ends,
@@ -310,16 +227,7 @@ pub fn accepted(
         (Call.members_from (Record.readable net) (record { samples = samples; realizations = realizations; seed = seed; horizon = horizon }) 0 realizations)) }
 {
     lent_run(
-        net.places,
-        net.transitions,
-        &net.initial,
-        &net.capacity,
-        &net.rate,
-        &net.delay,
-        &net.arcs,
-        &net.kind,
-        &net.place,
-        &net.weight,
+        &net.lent(),
         samples,
         realizations,
         seed,

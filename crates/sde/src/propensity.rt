@@ -5,13 +5,14 @@ ghost use Rattle.std.proofs.Math.ListN as ListN;
 ghost use Rattle.net.specs.Net as Reader;
 ghost use Rattle.net.specs.declared.Net.{Net as NetRecord};
 ghost use Rattle.net.specs.Readable as Record;
-ghost use Rattle.net.specs.Record.{lent};
+ghost use Rattle.net.specs.Record.{net_of};
 ghost use Rattle.net.specs.Sound as Sound;
 ghost use Rattle.sde.specs.Diffusion as Diffusion;
 ghost use Rattle.sde.specs.Slots as Slots;
 
 use combinations::RealWays;
 use engine::marking;
+use net::LentNet;
 
 // How many ways there are to choose w of x, as a float.
 fn ways(x: f64, w: u64) -> f64
@@ -50,26 +51,17 @@ fn spent(kind: u64, a: f64) -> bool
 }
 
 // A rate times the ways of the slots from `from` to before `end`; 0 as soon as that is 0 or less.
-fn product<'a>(
-    kind: &'a [u64; 1024],
-    place: &'a [usize; 1024],
-    weight: &'a [u64; 1024],
-    places: usize,
-    x: &[f64; 32],
-    from: usize,
-    end: usize,
-    rate: f64,
-) -> f64
-    requires { (end ≤ 1024) × (places ≤ 32) × Slots.Light from end weight.now × Slots.Inside places from end place.now }
-    ensures { result ≡ Diffusion.factored (ListN.take places x.now) rate
-        (Diffusion.kinetic_of (Record.takes_of (Record.slots kind.now place.now weight.now from (end - from)))) }
+fn product(net: &LentNet, x: &[f64; 32], from: usize, end: usize, rate: f64) -> f64
+    requires { (end ≤ 1024) × (net.now.places ≤ 32) × Slots.Light from end net.now.weight.now × Slots.Inside net.now.places from end net.now.place.now }
+    ensures { result ≡ Diffusion.factored (ListN.take net.now.places x.now) rate
+        (Diffusion.kinetic_of (Record.takes_of (Record.slots net.now.kind.now net.now.place.now net.now.weight.now from (end - from)))) }
 {
     let mut a = rate;
     let mut s = from;
     while s < end {
-        let k = kind[s];
-        let p = place[s];
-        let b = times(a, k, weight[s], x[p]);
+        let k = net.kind[s];
+        let p = net.place[s];
+        let b = times(a, k, net.weight[s], x[p]);
         if spent(k, b) {
             return 0.0;
         }
@@ -80,18 +72,13 @@ fn product<'a>(
 }
 
 // Tidies the rates, once a call.
-pub fn fill_rates<'a>(
-    transitions: usize,
-    rate: &'a [f64; 64],
-    delay: &'a [f64; 64],
-    rates: &mut [f64; 64],
-)
-    requires { (transitions ≤ 64) × (ListN.length rates.old ≡ 64) }
-    ensures { Slots.Tidied transitions rate.now delay.now rates.new }
+pub fn fill_rates(net: &LentNet, rates: &mut [f64; 64])
+    requires { (net.now.transitions ≤ 64) × (ListN.length rates.old ≡ 64) }
+    ensures { Slots.Tidied net.now.transitions net.now.rate.now net.now.delay.now rates.new }
 {
     let mut j: usize = 0;
-    while j < transitions {
-        let r = marking::rate_of(rate[j], delay[j]);
+    while j < net.transitions {
+        let r = marking::rate_of(net.rate[j], net.delay[j]);
         rates[j] = r;
         j += 1;
     }
@@ -114,44 +101,25 @@ fn kinetic_end(kind: &[u64; 1024], from: usize, end: usize) -> usize
 }
 
 // Fills the table of ends, once a call: the slots from there on have no kinetic take.
-pub fn fill_ends<'a>(
-    transitions: usize,
-    arcs: &'a [usize; 64],
-    kind: &'a [u64; 1024],
-    ends: &mut [usize; 64],
-)
-    requires { (transitions ≤ 64) × ((j : ℕ) → j < transitions → ListN.get_or arcs.now j 0 ≤ 16) × (ListN.length ends.old ≡ 64) }
-    ensures { Slots.EndsOf transitions arcs.now kind.now ends.new }
+pub fn fill_ends(net: &LentNet, ends: &mut [usize; 64])
+    requires { (net.now.transitions ≤ 64) × ((j : ℕ) → j < net.now.transitions → ListN.get_or net.now.arcs.now j 0 ≤ 16) × (ListN.length ends.old ≡ 64) }
+    ensures { Slots.EndsOf net.now.transitions net.now.arcs.now net.now.kind.now ends.new }
 {
     let mut j: usize = 0;
-    while j < transitions {
+    while j < net.transitions {
         let next = j + 1;
         let from = 16 * j;
-        let end = from + arcs[j];
-        let e = kinetic_end(kind, from, end);
+        let end = from + net.arcs[j];
+        let e = kinetic_end(net.kind, from, end);
         ends[j] = e;
         j = next;
     }
 }
 
 // The propensity of transition j, at this state; the rates are tidy.
-pub fn propensity<'a>(
-    places: usize,
-    transitions: usize,
-    initial: &'a [u64; 32],
-    capacity: &'a [u64; 32],
-    rate: &'a [f64; 64],
-    delay: &'a [f64; 64],
-    arcs: &'a [usize; 64],
-    kind: &'a [u64; 1024],
-    place: &'a [usize; 1024],
-    weight: &'a [u64; 1024],
-    ends: &'a [usize; 64],
-    x: &[f64; 32],
-    j: usize,
-) -> f64
-    requires { let net = lent places transitions initial.now capacity.now rate.now delay.now arcs.now kind.now place.now weight.now in (j < transitions) × Sound.Sound net × Slots.Rated net × Slots.Ends net ends.now }
-    ensures { let net = lent places transitions initial.now capacity.now rate.now delay.now arcs.now kind.now place.now weight.now in result ≡ Diffusion.propensity (ListN.take places x.now) (Record.transition net j) }
+pub fn propensity<'a>(net: &LentNet, ends: &'a [usize; 64], x: &[f64; 32], j: usize) -> f64
+    requires { let net = net_of net.now in (j < net.transitions) × Sound.Sound net × Slots.Rated net × Slots.Ends net ends.now }
+    ensures { let net = net_of net.now in result ≡ Diffusion.propensity (ListN.take net.places x.now) (Record.transition net j) }
 {
-    product(kind, place, weight, places, x, 16 * j, ends[j], rate[j])
+    product(net, x, 16 * j, ends[j], net.rate[j])
 }

@@ -5,7 +5,7 @@ ghost use Rattle.std.specs.Float.Ieee.{add};
 ghost use Rattle.net.specs.Net as Reader;
 ghost use Rattle.net.specs.declared.Net.{Net as NetRecord};
 ghost use Rattle.net.specs.Readable as Record;
-ghost use Rattle.net.specs.Record.{lent};
+ghost use Rattle.net.specs.Record.{net_of};
 ghost use Rattle.net.specs.Sound as Sound;
 ghost use Rattle.root.specs.Root.{root_of};
 ghost use Rattle.sde.specs.Diffusion as Diffusion;
@@ -13,6 +13,7 @@ ghost use Rattle.sde.specs.Arrays as Arrays;
 ghost use Rattle.sde.specs.Slots as Slots;
 
 use crate::propensity;
+use net::LentNet;
 use normals::{Draw, GaussianSampler};
 
 // The sampler after some draws, and whether one of them was refused.
@@ -90,16 +91,7 @@ fn add_drift(places: usize, drift: &[f64; 32], x: &mut [f64; 32])
 
 // All transitions, in their order: the noise and the drift of each, with one draw; nothing, and no draw, where its propensity is 0.
 fn push_all<'a>(
-    places: usize,
-    transitions: usize,
-    initial: &'a [u64; 32],
-    capacity: &'a [u64; 32],
-    rate: &'a [f64; 64],
-    delay: &'a [f64; 64],
-    arcs: &'a [usize; 64],
-    kind: &'a [u64; 1024],
-    place: &'a [usize; 1024],
-    weight: &'a [u64; 1024],
+    net: &LentNet,
     changes: &'a [f64; 2048],
     skips: &'a [usize; 2112],
     ends: &'a [usize; 64],
@@ -109,31 +101,17 @@ fn push_all<'a>(
     drift: &mut [f64; 32],
     sampler: GaussianSampler,
 ) -> Pushed
-    requires { let net = lent places transitions initial.now capacity.now rate.now delay.now arcs.now kind.now place.now weight.now in Sound.Sound net × Slots.Prepared net changes.now skips.now ends.now
+    requires { let net = net_of net.now in Sound.Sound net × Slots.Prepared net changes.now skips.now ends.now
         × (root ≡ root_of dt) × Arrays.Lengths x.old drift.old }
-    ensures { let net = lent places transitions initial.now capacity.now rate.now delay.now arcs.now kind.now place.now weight.now in (Arrays.unless result.stopped (Arrays.going_of places x.new drift.new result.sampler)
-        ≡ Diffusion.pushed_all dt (Record.transitions_from net 0 transitions) (Arrays.going_of places x.old drift.old sampler))
+    ensures { let net = net_of net.now in (Arrays.unless result.stopped (Arrays.going_of net.places x.new drift.new result.sampler)
+        ≡ Diffusion.pushed_all dt (Record.transitions_from net 0 net.transitions) (Arrays.going_of net.places x.old drift.old sampler))
         × Arrays.Lengths x.new drift.new }
 {
     let mut s = sampler;
     let mut j: usize = 0;
-    while j < transitions {
+    while j < net.transitions {
         let next = j + 1;
-        let a = propensity::propensity(
-            places,
-            transitions,
-            initial,
-            capacity,
-            rate,
-            delay,
-            arcs,
-            kind,
-            place,
-            weight,
-            ends,
-            x,
-            j,
-        );
+        let a = propensity::propensity(net, ends, x, j);
         if a == 0.0 {} else {
             let drawn = s.normal();
             let draw = drawn.draw;
@@ -141,7 +119,7 @@ fn push_all<'a>(
             match draw {
                 Draw::Value(z) => {
                     let noise = root::sqrt(a) * root * z;
-                    spread(changes, skips, places, j, a, dt, noise, x, drift);
+                    spread(changes, skips, net.places, j, a, dt, noise, x, drift);
                 }
                 Draw::Refused => {
                     return Pushed {
@@ -161,16 +139,7 @@ fn push_all<'a>(
 
 // One substep.
 pub fn substep<'a>(
-    places: usize,
-    transitions: usize,
-    initial: &'a [u64; 32],
-    capacity: &'a [u64; 32],
-    rate: &'a [f64; 64],
-    delay: &'a [f64; 64],
-    arcs: &'a [usize; 64],
-    kind: &'a [u64; 1024],
-    place: &'a [usize; 1024],
-    weight: &'a [u64; 1024],
+    net: &LentNet,
     changes: &'a [f64; 2048],
     skips: &'a [usize; 2112],
     ends: &'a [usize; 64],
@@ -180,37 +149,18 @@ pub fn substep<'a>(
     drift: &mut [f64; 32],
     sampler: GaussianSampler,
 ) -> Pushed
-    requires { let net = lent places transitions initial.now capacity.now rate.now delay.now arcs.now kind.now place.now weight.now in Sound.Sound net × Slots.Prepared net changes.now skips.now ends.now
+    requires { let net = net_of net.now in Sound.Sound net × Slots.Prepared net changes.now skips.now ends.now
         × (root ≡ root_of dt) × Arrays.Lengths x.old drift.old }
-    ensures { let net = lent places transitions initial.now capacity.now rate.now delay.now arcs.now kind.now place.now weight.now in (Arrays.unless result.stopped (Arrays.state_of places x.new result.sampler)
-        ≡ Diffusion.substep (Record.readable net) dt (Arrays.state_of places x.old sampler))
+    ensures { let net = net_of net.now in (Arrays.unless result.stopped (Arrays.state_of net.places x.new result.sampler)
+        ≡ Diffusion.substep (Record.readable net) dt (Arrays.state_of net.places x.old sampler))
         × Arrays.Lengths x.new drift.new }
 {
-    clear(places, drift);
-    let p = push_all(
-        places,
-        transitions,
-        initial,
-        capacity,
-        rate,
-        delay,
-        arcs,
-        kind,
-        place,
-        weight,
-        changes,
-        skips,
-        ends,
-        dt,
-        root,
-        x,
-        drift,
-        sampler,
-    );
+    clear(net.places, drift);
+    let p = push_all(net, changes, skips, ends, dt, root, x, drift, sampler);
     if p.stopped {
         return p;
     }
-    add_drift(places, drift, x);
+    add_drift(net.places, drift, x);
     p
 }
 
@@ -218,16 +168,7 @@ const SUBSTEPS: u64 = 20;
 
 // An interval: 20 substeps, where dt is above 0.
 pub fn over_interval<'a>(
-    places: usize,
-    transitions: usize,
-    initial: &'a [u64; 32],
-    capacity: &'a [u64; 32],
-    rate: &'a [f64; 64],
-    delay: &'a [f64; 64],
-    arcs: &'a [usize; 64],
-    kind: &'a [u64; 1024],
-    place: &'a [usize; 1024],
-    weight: &'a [u64; 1024],
+    net: &LentNet,
     changes: &'a [f64; 2048],
     skips: &'a [usize; 2112],
     ends: &'a [usize; 64],
@@ -237,10 +178,10 @@ pub fn over_interval<'a>(
     drift: &mut [f64; 32],
     sampler: GaussianSampler,
 ) -> Pushed
-    requires { let net = lent places transitions initial.now capacity.now rate.now delay.now arcs.now kind.now place.now weight.now in Sound.Sound net × Slots.Prepared net changes.now skips.now ends.now
+    requires { let net = net_of net.now in Sound.Sound net × Slots.Prepared net changes.now skips.now ends.now
         × (root ≡ root_of dt) × Arrays.Lengths x.old drift.old }
-    ensures { let net = lent places transitions initial.now capacity.now rate.now delay.now arcs.now kind.now place.now weight.now in (Arrays.unless result.stopped (Arrays.state_of places x.new result.sampler)
-        ≡ Diffusion.over_interval (Record.readable net) dt (Arrays.state_of places x.old sampler))
+    ensures { let net = net_of net.now in (Arrays.unless result.stopped (Arrays.state_of net.places x.new result.sampler)
+        ≡ Diffusion.over_interval (Record.readable net) dt (Arrays.state_of net.places x.old sampler))
         × Arrays.Lengths x.new drift.new }
 {
     let mut s = sampler;
@@ -248,26 +189,7 @@ pub fn over_interval<'a>(
         let mut i: u64 = 0;
         while i < SUBSTEPS {
             let next = i + 1;
-            let p = substep(
-                places,
-                transitions,
-                initial,
-                capacity,
-                rate,
-                delay,
-                arcs,
-                kind,
-                place,
-                weight,
-                changes,
-                skips,
-                ends,
-                dt,
-                root,
-                x,
-                drift,
-                s,
-            );
+            let p = substep(net, changes, skips, ends, dt, root, x, drift, s);
             if p.stopped {
                 return p;
             }

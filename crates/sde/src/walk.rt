@@ -4,7 +4,7 @@ ghost use Rattle.std.specs.Float.{nan};
 ghost use Rattle.std.proofs.Math.ListN as ListN;
 ghost use Rattle.net.specs.declared.Net.{Net as NetRecord};
 ghost use Rattle.net.specs.Readable as Record;
-ghost use Rattle.net.specs.Record.{lent};
+ghost use Rattle.net.specs.Record.{net_of};
 ghost use Rattle.net.specs.Sound as Sound;
 ghost use Rattle.root.specs.Root.{root_of};
 ghost use Rattle.rules.specs.Propensity.{float};
@@ -13,6 +13,7 @@ ghost use Rattle.sde.specs.Arrays as Arrays;
 ghost use Rattle.sde.specs.Slots as Slots;
 
 use crate::substep;
+use net::LentNet;
 use normals::GaussianSampler;
 
 // Writes the state into the cells of instant i of n.
@@ -42,16 +43,7 @@ fn first_state(places: usize, initial: &[u64; 32], x: &mut [f64; 32])
 
 // The instants from number 1 on, an interval after the other. True where a draw was refused; then the answer's cells are of no use.
 fn walk_on<'a>(
-    places: usize,
-    transitions: usize,
-    initial: &'a [u64; 32],
-    capacity: &'a [u64; 32],
-    rate: &'a [f64; 64],
-    delay: &'a [f64; 64],
-    arcs: &'a [usize; 64],
-    kind: &'a [u64; 1024],
-    place: &'a [usize; 1024],
-    weight: &'a [u64; 1024],
+    net: &LentNet,
     changes: &'a [f64; 2048],
     skips: &'a [usize; 2112],
     ends: &'a [usize; 64],
@@ -63,44 +55,25 @@ fn walk_on<'a>(
     sampler: GaussianSampler,
     table: &mut [f64],
 ) -> bool
-    requires { let net = lent places transitions initial.now capacity.now rate.now delay.now arcs.now kind.now place.now weight.now in Sound.Sound net × Slots.Prepared net changes.now skips.now ends.now
+    requires { let net = net_of net.now in Sound.Sound net × Slots.Prepared net changes.now skips.now ends.now
         × (root ≡ root_of dt) × Arrays.Lengths x.old drift.old
-        × (1 ≤ n) × (n ≤ 1024) × (places * n ≤ length table.old)
-        × ((p : ℕ) → p < places → get_or table.old (p * n + 0) nan ≡ get_or x.old p nan) }
-    ensures { let net = lent places transitions initial.now capacity.now rate.now delay.now arcs.now kind.now place.now weight.now in (Arrays.unless result (ListN.take (places * n) table.new)
-        ≡ Diffusion.cells_of places (Arrays.preceded (ListN.take places x.old ∷ []) (Diffusion.further (n - 1) (Diffusion.over_interval (Record.readable net) dt) (Arrays.state_of places x.old sampler))))
-        × Arrays.Beyond (places * n) table.old table.new
+        × (1 ≤ n) × (n ≤ 1024) × (net.places * n ≤ length table.old)
+        × ((p : ℕ) → p < net.places → get_or table.old (p * n + 0) nan ≡ get_or x.old p nan) }
+    ensures { let net = net_of net.now in (Arrays.unless result (ListN.take (net.places * n) table.new)
+        ≡ Diffusion.cells_of net.places (Arrays.preceded (ListN.take net.places x.old ∷ []) (Diffusion.further (n - 1) (Diffusion.over_interval (Record.readable net) dt) (Arrays.state_of net.places x.old sampler))))
+        × Arrays.Beyond (net.places * n) table.old table.new
         × Arrays.Lengths x.new drift.new }
 {
     let mut s = sampler;
     let mut i: usize = 1;
     while i < n {
         let next = i + 1;
-        let p = substep::over_interval(
-            places,
-            transitions,
-            initial,
-            capacity,
-            rate,
-            delay,
-            arcs,
-            kind,
-            place,
-            weight,
-            changes,
-            skips,
-            ends,
-            dt,
-            root,
-            x,
-            drift,
-            s,
-        );
+        let p = substep::over_interval(net, changes, skips, ends, dt, root, x, drift, s);
         if p.stopped {
             return true;
         }
         s = p.sampler;
-        show(places, n, i, x, table);
+        show(net.places, n, i, x, table);
         i = next;
     }
     false
@@ -108,16 +81,7 @@ fn walk_on<'a>(
 
 // The path of a seed over n instants. True where a draw was refused.
 pub fn walk<'a>(
-    places: usize,
-    transitions: usize,
-    initial: &'a [u64; 32],
-    capacity: &'a [u64; 32],
-    rate: &'a [f64; 64],
-    delay: &'a [f64; 64],
-    arcs: &'a [usize; 64],
-    kind: &'a [u64; 1024],
-    place: &'a [usize; 1024],
-    weight: &'a [u64; 1024],
+    net: &LentNet,
     changes: &'a [f64; 2048],
     skips: &'a [usize; 2112],
     ends: &'a [usize; 64],
@@ -129,37 +93,16 @@ pub fn walk<'a>(
     drift: &mut [f64; 32],
     table: &mut [f64],
 ) -> bool
-    requires { let net = lent places transitions initial.now capacity.now rate.now delay.now arcs.now kind.now place.now weight.now in Sound.Sound net × Slots.Prepared net changes.now skips.now ends.now
+    requires { let net = net_of net.now in Sound.Sound net × Slots.Prepared net changes.now skips.now ends.now
         × (root ≡ root_of dt) × Arrays.Lengths x.old drift.old
-        × (1 ≤ n) × (n ≤ 1024) × (places * n ≤ length table.old) }
-    ensures { let net = lent places transitions initial.now capacity.now rate.now delay.now arcs.now kind.now place.now weight.now in (Arrays.unless result (ListN.take (places * n) table.new)
-        ≡ Diffusion.cells_of places (Diffusion.walked (Record.readable net) dt n seed))
-        × Arrays.Beyond (places * n) table.old table.new
+        × (1 ≤ n) × (n ≤ 1024) × (net.places * n ≤ length table.old) }
+    ensures { let net = net_of net.now in (Arrays.unless result (ListN.take (net.places * n) table.new)
+        ≡ Diffusion.cells_of net.places (Diffusion.walked (Record.readable net) dt n seed))
+        × Arrays.Beyond (net.places * n) table.old table.new
         × Arrays.Lengths x.new drift.new }
 {
-    first_state(places, initial, x);
-    show(places, n, 0, x, table);
+    first_state(net.places, net.initial, x);
+    show(net.places, n, 0, x, table);
     let s = GaussianSampler::new(seed);
-    walk_on(
-        places,
-        transitions,
-        initial,
-        capacity,
-        rate,
-        delay,
-        arcs,
-        kind,
-        place,
-        weight,
-        changes,
-        skips,
-        ends,
-        n,
-        dt,
-        root,
-        x,
-        drift,
-        s,
-        table,
-    )
+    walk_on(net, changes, skips, ends, n, dt, root, x, drift, s, table)
 }

@@ -39,7 +39,7 @@ fn write_answer(rt: &HostRuntime, r: PathAnswer) {
         PathEnd::Spent => write_path(rt, b"spent", r),
         PathEnd::Reached => write_path(rt, b"reached", r),
         PathEnd::Halted => write_path(rt, b"halted", r),
-        PathEnd::Refused(c) => write_refused(rt, c, 0),
+        PathEnd::Refused(c) => write_refused(rt, c.number(), 0),
     }
 }
 
@@ -70,7 +70,7 @@ fn run(rt: &HostRuntime, net: Net, asked: RunLine) {
     let samples = asked.samples;
     let seed = asked.seed;
     match request::request_fault(samples, asked.realizations, seed, horizon) {
-        Err(c) => write_refused(rt, c, 0),
+        Err(c) => write_refused(rt, c.number(), 0),
         Ok(()) => {
             if samples <= 1_024 {
                 play_grid(rt, net, samples, seed, horizon);

@@ -1,7 +1,7 @@
 -- The two tests of the definition, in its order. Assumes nothing.
 use mathlib.Core.Bool.{true, false}
 use Rattle.net.specs.declared.Net.{Net as NetRecord}
-use Rattle.net.specs.Record.{lent}
+use Rattle.net.specs.Record.{net_of}
 use Rattle.gates.proofs.Mask.{bounded_free, bounded_by}
 use borrow.Author.Rules.{rules}
 use Rattle.gates.proofs.bounded_at.Statement.{statement}
@@ -9,8 +9,7 @@ use Rattle.gates.proofs.bounded_at.Tie as tie
 
 abbrev net_at : tie.Start → NetRecord
 net_at s =
-    lent s.args.places s.args.transitions s.args.initial.now s.args.capacity.now s.args.rate.now s.args.delay.now
-    s.args.arcs.now s.args.kind.now s.args.place.now s.args.weight.now
+    net_of s.args.net.now
 
 mul-if1 : tie.Need-offset_bounds-capacity-p
 mul-if1 c = search rules

@@ -1,6 +1,6 @@
 -- The count so far with that of the transitions from j on is the whole. Assumes nothing.
 use Rattle.net.specs.declared.Net.{Net as NetRecord}
-use Rattle.net.specs.Record.{lent}
+use Rattle.net.specs.Record.{lent, net_of}
 use Rattle.gates.specs.Slots.{sort_of, count_from}
 use Rattle.gates.proofs.Counted.{count_span, all_most, from_whole, from_turn, from_end}
 use borrow.Author.Rules.{rules}
@@ -20,11 +20,10 @@ decreases-loop gate places transitions initial capacity rate delay arcs kind pla
 
 abbrev net_at : tie.Start invariant-loop decreases-loop → NetRecord
 net_at s =
-    lent s.args.places s.args.transitions s.args.initial.now s.args.capacity.now s.args.rate.now s.args.delay.now
-    s.args.arcs.now s.args.kind.now s.args.place.now s.args.weight.now
+    net_of s.args.net.now
 
 loop-holds : tie.Need-loop-j-init invariant-loop decreases-loop
-loop-holds c = (omega arith, from_whole (sort_of c.args.gate) (net_at c) c.args.transitions)
+loop-holds c = (omega arith, from_whole (sort_of c.args.gate) (net_at c) c.args.net.now.transitions)
 
 mul-from : tie.Need-overflow_mul-from invariant-loop decreases-loop
 mul-from c = search rules
@@ -46,7 +45,7 @@ add-n c =
     let l = c.before.before.before in
     let a = l.args in
     let f = sort_of a.gate in
-    let t = from_turn f (net_at l.before.before) l.loop-j.j a.transitions c.loop-j-test.true in
+    let t = from_turn f (net_at l.before.before) l.loop-j.j a.net.now.transitions c.loop-j-test.true in
     omega (arith, c.count_slots-more.ensures, count_span f (net_at l.before.before) l.loop-j.j, all_most f (net_at l.before.before) l.requires)
 
 add-j : tie.Need-overflow_add-j invariant-loop decreases-loop
@@ -60,14 +59,14 @@ loop-again c =
     let l = c.before.before.before in
     let a = l.args in
     let f = sort_of a.gate in
-    let t = from_turn f (net_at l.before.before) l.loop-j.j a.transitions c.loop-j-test.true in
+    let t = from_turn f (net_at l.before.before) l.loop-j.j a.net.now.transitions c.loop-j-test.true in
     (omega (arith, c.loop-j-test.true), omega (arith, c.count_slots-more.ensures, count_span f (net_at l.before.before) l.loop-j.j))
 
 returns : tie.Need-returns invariant-loop decreases-loop
 returns c =
     let l = c.before in
     let a = l.args in
-    let t = from_end (sort_of a.gate) (net_at l.before) l.loop-j.j a.transitions c.loop-j-test.false in
+    let t = from_end (sort_of a.gate) (net_at l.before) l.loop-j.j a.net.now.transitions c.loop-j-test.false in
     omega arith
 
 pub count_spec : {M : Type 1} → statement M

@@ -7,7 +7,7 @@ use Rattle.gates.proofs.count_slots.Given as goal
 
 abbrev pub invariant-loop-a : goal.invariant-loop-a
 invariant-loop-a l =
-    l.n + count_if (sort_of l.gate) (slots l.kind l.place l.weight l.a (l.end - l.a)) ≡ count_if (sort_of l.gate) (slots l.kind l.place l.weight l.from (l.end - l.from))
+    l.n + count_if (sort_of l.gate) (slots l.net.kind.now l.net.place.now l.net.weight.now l.a (l.end - l.a)) ≡ count_if (sort_of l.gate) (slots l.net.kind.now l.net.place.now l.net.weight.now l.from (l.end - l.from))
 
 abbrev pub decreases-loop-a : goal.decreases-loop-a
 decreases-loop-a l = l.end - l.a

@@ -2,7 +2,7 @@
 use Rattle.net.specs.declared.Net.{Net as NetRecord}
 use Rattle.net.specs.Net.{timed}
 use Rattle.net.specs.Tests.{any}
-use Rattle.net.specs.Record.{lent}
+use Rattle.net.specs.Record.{lent, net_of}
 use Rattle.net.specs.Readable.{transitions_from}
 use Rattle.engine.proofs.Lists.{any_whole, any_stop, any_go, any_end}
 use borrow.Author.Rules.{rules}
@@ -21,11 +21,10 @@ decreases-loop places transitions initial capacity rate delay arcs kind place we
 
 abbrev net_at : tie.Start invariant-loop decreases-loop → NetRecord
 net_at s =
-    lent s.args.places s.args.transitions s.args.initial.now s.args.capacity.now s.args.rate.now s.args.delay.now
-    s.args.arcs.now s.args.kind.now s.args.place.now s.args.weight.now
+    net_of s.args.net.now
 
 loop-holds : tie.Need-loop-j-init invariant-loop decreases-loop
-loop-holds c = any_whole timed (net_at c) c.args.transitions
+loop-holds c = any_whole timed (net_at c) c.args.net.now.transitions
 
 mul-if1 : tie.Need-offset_bounds-delay-j invariant-loop decreases-loop
 mul-if1 c = search rules
@@ -36,7 +35,7 @@ element-copy-out-if1 c = search rules
 returns : tie.Need-returns-then-delay-j invariant-loop decreases-loop
 returns c =
     let l = c.before.before.before in
-    any_stop timed (net_at l.before) l.loop-j.j l.args.transitions l.loop-j.invariant c.loop-j-test.true c.if-delay-j.true
+    any_stop timed (net_at l.before) l.loop-j.j l.args.net.now.transitions l.loop-j.invariant c.loop-j-test.true c.if-delay-j.true
 
 add-j : tie.Need-overflow_add-j invariant-loop decreases-loop
 add-j c = search rules
@@ -47,12 +46,12 @@ loop-less c = search rules
 loop-again : tie.Need-loop-j-preserved invariant-loop decreases-loop
 loop-again c =
     let l = c.before.before.before in
-    any_go timed (net_at l.before) l.loop-j.j l.args.transitions l.loop-j.invariant c.loop-j-test.true c.if-delay-j.false
+    any_go timed (net_at l.before) l.loop-j.j l.args.net.now.transitions l.loop-j.invariant c.loop-j-test.true c.if-delay-j.false
 
 returns-2 : tie.Need-returns invariant-loop decreases-loop
 returns-2 c =
     let l = c.before in
-    any_end timed (net_at l.before) l.loop-j.j l.args.transitions l.loop-j.invariant c.loop-j-test.false
+    any_end timed (net_at l.before) l.loop-j.j l.args.net.now.transitions l.loop-j.invariant c.loop-j-test.false
 
 pub delayed_spec : {M : Type 1} → statement M
 delayed_spec =

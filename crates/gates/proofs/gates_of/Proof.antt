@@ -1,6 +1,6 @@
 -- Each part is what its function says. Assumes nothing.
 use Rattle.net.specs.declared.Net.{Net as NetRecord}
-use Rattle.net.specs.Record.{lent}
+use Rattle.net.specs.Record.{net_of}
 use Rattle.gates.proofs.Mask.{gates_all}
 use borrow.Author.Rules.{rules}
 use Rattle.gates.proofs.gates_of.Statement.{statement}
@@ -8,8 +8,7 @@ use Rattle.gates.proofs.gates_of.Tie as tie
 
 abbrev net_at : tie.Start → NetRecord
 net_at s =
-    lent s.args.places s.args.transitions s.args.initial.now s.args.capacity.now s.args.rate.now s.args.delay.now
-    s.args.arcs.now s.args.kind.now s.args.place.now s.args.weight.now
+    net_of s.args.net.now
 
 count-requires : tie.Need-count-reads-requires
 count-requires c κs = search rules

@@ -1,7 +1,7 @@
 -- A transition from number j on raises the place just where one of all does, since none before j does. Assumes nothing.
 use Rattle.net.specs.declared.Net.{Net as NetRecord}
 use Rattle.net.specs.Tests.{any}
-use Rattle.net.specs.Record.{lent}
+use Rattle.net.specs.Record.{lent, net_of}
 use Rattle.net.specs.Readable.{transitions_from}
 use Rattle.gates.specs.Gated.{raises}
 use Rattle.engine.proofs.Lists.{any_whole, any_stop, any_go, any_end}
@@ -23,11 +23,10 @@ decreases-loop places transitions initial capacity rate delay arcs kind place we
 
 abbrev net_at : tie.Start invariant-loop decreases-loop → NetRecord
 net_at s =
-    lent s.args.places s.args.transitions s.args.initial.now s.args.capacity.now s.args.rate.now s.args.delay.now
-    s.args.arcs.now s.args.kind.now s.args.place.now s.args.weight.now
+    net_of s.args.net.now
 
 loop-holds : tie.Need-loop-j-init invariant-loop decreases-loop
-loop-holds c = any_whole (raises c.args.p) (net_at c) c.args.transitions
+loop-holds c = any_whole (raises c.args.p) (net_at c) c.args.net.now.transitions
 
 mul-from : tie.Need-overflow_mul-from invariant-loop decreases-loop
 mul-from c = search rules
@@ -52,7 +51,7 @@ returns : tie.Need-returns-then-c invariant-loop decreases-loop
 returns c =
     let l = c.before.before.before.before.before in
     let s = l.before in
-    any_stop (raises s.args.p) (net_at s.before) l.loop-j.j s.args.transitions l.loop-j.invariant c.loop-j-test.true
+    any_stop (raises s.args.p) (net_at s.before) l.loop-j.j s.args.net.now.transitions l.loop-j.invariant c.loop-j-test.true
     (raises_yes (net_at s.before) l.loop-j.j s.args.p c.change_at-c.ensures.0 c.change_at-c.ensures.1 c.if-c.true)
 
 add-j : tie.Need-overflow_add-j invariant-loop decreases-loop
@@ -65,14 +64,14 @@ loop-again : tie.Need-loop-j-preserved invariant-loop decreases-loop
 loop-again c =
     let l = c.before.before.before.before.before in
     let s = l.before in
-    any_go (raises s.args.p) (net_at s.before) l.loop-j.j s.args.transitions l.loop-j.invariant c.loop-j-test.true
+    any_go (raises s.args.p) (net_at s.before) l.loop-j.j s.args.net.now.transitions l.loop-j.invariant c.loop-j-test.true
     (raises_no (net_at s.before) l.loop-j.j s.args.p c.change_at-c.ensures.0 c.change_at-c.ensures.1 c.if-c.false)
 
 returns-2 : tie.Need-returns invariant-loop decreases-loop
 returns-2 c =
     let l = c.before in
     let s = l.before in
-    any_end (raises s.args.p) (net_at s) l.loop-j.j s.args.transitions l.loop-j.invariant c.loop-j-test.false
+    any_end (raises s.args.p) (net_at s) l.loop-j.j s.args.net.now.transitions l.loop-j.invariant c.loop-j-test.false
 
 pub raised_spec : {M : Type 1} → statement M
 raised_spec =

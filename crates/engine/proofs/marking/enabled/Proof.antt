@@ -1,7 +1,7 @@
 -- The slots that are left are open where the transition is enabled. Assumes nothing.
 use lib.ListN.{get_or}
 use Rattle.net.specs.Readable.{readable, transition}
-use Rattle.net.specs.Record.{lent}
+use Rattle.net.specs.Record.{lent, net_of}
 use Rattle.rules.specs.Enabled.{enabled}
 use Rattle.engine.specs.Engine.{marking}
 use Rattle.engine.specs.Limits.{limit_at}
@@ -42,7 +42,7 @@ add-end c = omega (arith, c.requires.0, c.requires.1.transitions, c.requires.1.a
 loop-holds : tie.Need-loop-a-init invariant-loop decreases-loop
 loop-holds c =
     let s = c.args in
-    (omega arith, open_all (lent s.places s.transitions s.initial.now s.capacity.now s.rate.now s.delay.now s.arcs.now s.kind.now s.place.now s.weight.now) s.counts.now s.j c.requires.1 c.requires.3.small)
+    (omega arith, open_all (net_of s.net.now) s.counts.now s.j c.requires.1 c.requires.3.small)
 
 mul-p : tie.Need-offset_bounds-place-a invariant-loop decreases-loop
 mul-p c = omega (arith, in_table c)
@@ -76,7 +76,7 @@ returns c =
     let l = c.before.before.before.before.before in
     let r = l.before.before.before in
     let s = r.args in
-    from_last (lent s.places s.transitions s.initial.now s.capacity.now s.rate.now s.delay.now s.arcs.now s.kind.now s.place.now s.weight.now) r.requires.1 s.counts.now r.requires.3.small s.j l.loop-a.a (get_or s.limit.now l.loop-a.a 0) l.loop-a.invariant.0 l.loop-a-test.true
+    from_last (net_of s.net.now) r.requires.1 s.counts.now r.requires.3.small s.j l.loop-a.a (get_or s.limit.now l.loop-a.a 0) l.loop-a.invariant.0 l.loop-a-test.true
     (r.requires.2 l.loop-a.a (omega (arith, l.loop-a-test.true, r.requires.0, r.requires.1.arcs s.j))) l.loop-a.invariant.1 (sym c.slot_open.ensures ∙ c.if-not-slot_open.true)
 
 add_a : tie.Need-overflow_add-a invariant-loop decreases-loop
@@ -91,7 +91,7 @@ loop-again c =
     let r = l.before.before.before in
     let s = r.args in (
       omega (arith, l.loop-a.invariant.0),
-      from_open (lent s.places s.transitions s.initial.now s.capacity.now s.rate.now s.delay.now s.arcs.now s.kind.now s.place.now s.weight.now) r.requires.1 s.counts.now r.requires.3.small s.j l.loop-a.a (get_or s.limit.now l.loop-a.a 0) l.loop-a.invariant.0 l.loop-a-test.true
+      from_open (net_of s.net.now) r.requires.1 s.counts.now r.requires.3.small s.j l.loop-a.a (get_or s.limit.now l.loop-a.a 0) l.loop-a.invariant.0 l.loop-a-test.true
           (r.requires.2 l.loop-a.a (omega (arith, l.loop-a-test.true, r.requires.0, r.requires.1.arcs s.j))) l.loop-a.invariant.1 (sym c.slot_open.ensures ∙ c.if-not-slot_open.false),
     )
 
@@ -99,7 +99,7 @@ returns-2 : tie.Need-returns invariant-loop decreases-loop
 returns-2 c =
     let l = c.before in
     let s = l.args in
-    from_end (limit_at (lent s.places s.transitions s.initial.now s.capacity.now s.rate.now s.delay.now s.arcs.now s.kind.now s.place.now s.weight.now)) s.place.now s.counts.now l.loop-a.a (16 * s.j + get_or s.arcs.now s.j 0) c.loop-a-test.false l.loop-a.invariant.1
+    from_end (limit_at (net_of s.net.now)) s.net.now.place.now s.counts.now l.loop-a.a (16 * s.j + get_or s.net.now.arcs.now s.j 0) c.loop-a-test.false l.loop-a.invariant.1
 
 pub enabled_spec : {M : Type 1} → statement M
 enabled_spec =

@@ -32,7 +32,7 @@ in_table c =
     let s = c.before.before.before in
     omega (arith, c.loop-a-test.true, s.requires.0, s.requires.2 s.args.j)
 
-at_place : (c : tie.In-loop-a invariant-loop decreases-loop) → get_or c.args.place.now c.loop-a.a 0 < 32
+at_place : (c : tie.In-loop-a invariant-loop decreases-loop) → get_or c.args.net.now.place.now c.loop-a.a 0 < 32
 at_place c =
     let s = c.before.before.before in
     omega (arith, s.requires.1, s.requires.3 c.loop-a.a)
@@ -53,8 +53,8 @@ loop-holds : tie.Need-loop-a-init invariant-loop decreases-loop
 loop-holds c =
     let s = c.args in
     let pre = c.requires in (
-      firing_none s.places s.kind.now s.place.now s.weight.now s.counts.now (16 * s.j) (get_or s.arcs.now s.j 0) pre.5 pre.6 (pre.2 s.j),
-      told_none moves_on s.j s.places s.arcs.now s.kind.now s.place.now s.weight.now s.guards.now s.counts.now,
+      firing_none s.net.now.places s.net.now.kind.now s.net.now.place.now s.net.now.weight.now s.counts.now (16 * s.j) (get_or s.net.now.arcs.now s.j 0) pre.5 pre.6 (pre.2 s.j),
+      told_none moves_on s.j s.net.now.places s.net.now.arcs.now s.net.now.kind.now s.net.now.place.now s.net.now.weight.now s.guards.now s.counts.now,
       omega arith,
     )
 
@@ -89,8 +89,8 @@ add-d : tie.Need-overflow_add-d invariant-loop decreases-loop
 add-d c =
     let l = c.before.before.before.before.before.before.before in
     let s = l.before.before in
-    let small = l.loop-a.invariant.0.good.small (get_or s.args.place.now l.loop-a.a 0) in
-    omega (arith, c.amount-x.ensures, amount_most (get_or s.args.weight.now l.loop-a.a 0) (s.requires.4 l.loop-a.a))
+    let small = l.loop-a.invariant.0.good.small (get_or s.args.net.now.place.now l.loop-a.a 0) in
+    omega (arith, c.amount-x.ensures, amount_most (get_or s.args.net.now.weight.now l.loop-a.a 0) (s.requires.4 l.loop-a.a))
 
 returns : tie.Need-returns-then-d-gt9007199254740992 invariant-loop decreases-loop
 returns c =
@@ -148,7 +148,7 @@ add-less : tie.Need-overflow_add-less invariant-loop decreases-loop
 add-less c =
     let l = c.before.before.before.before.before.before.before.before in
     let s = l.before.before in
-    omega (arith, c.taken_from-y.ensures, takes_most (get_or s.args.kind.now l.loop-a.a 0) (get_or s.args.weight.now l.loop-a.a 0) (s.requires.4 l.loop-a.a), l.loop-a.invariant.0.few)
+    omega (arith, c.taken_from-y.ensures, takes_most (get_or s.args.net.now.kind.now l.loop-a.a 0) (get_or s.args.net.now.weight.now l.loop-a.a 0) (s.requires.4 l.loop-a.a), l.loop-a.invariant.0.few)
 
 mul-moved-2 : tie.Need-offset_bounds-guards-p-then-y-gt0 invariant-loop decreases-loop
 mul-moved-2 c = omega (arith, at_place c.before.before.before.before.before.before.before.before.before.before.before)
@@ -170,7 +170,7 @@ loop-again c =
     let i = c.before.before.before.before in
     let l = i.before in
     let s = l.before.before in
-    let p = get_or s.args.place.now l.loop-a.a 0 in
+    let p = get_or s.args.net.now.place.now l.loop-a.a 0 in
     let count = get_or l.loop-a.counts p 0 in
     let small = l.loop-a.invariant.0.good.small p in
     ⊎_elim
@@ -178,7 +178,7 @@ loop-again c =
       firing_put _ _ _ _ _ _ _ _ _ _ _ l.loop-a.invariant.0 i.loop-a-test.true s.requires.1 (s.requires.3 l.loop-a.a) (s.requires.4 l.loop-a.a)
           (eq-eqb _ 2 w.if-k-eq2.true) w.amount-x.result w.amount-x.ensures w.if-d-gt9007199254740992.false _ _ _ w.counts-is w.less-is w.more-is,
       told_more moves_on _ _ _ _ _ _ _ _ _ _ _ l.loop-a.invariant.1 l.loop-a.invariant.0.good p (count + w.amount-x.result) count (count + w.amount-x.result) w.crossed-crossed.result
-          (λ transitions initial capacity rate delay. fire_puts s.args.arcs.now s.args.kind.now s.args.place.now s.args.weight.now
+          (λ transitions initial capacity rate delay. fire_puts s.args.net.now.arcs.now s.args.net.now.kind.now s.args.net.now.place.now s.args.net.now.weight.now
           s.args.j l.loop-a.a l.loop-a.invariant.2 i.loop-a-test.true (eq-eqb _ 2 w.if-k-eq2.true))
           (s.requires.3 l.loop-a.a) (omega arith) (omega arith) (omega arith) (omega arith) w.if-d-gt9007199254740992.false w.crossed-crossed.ensures _ _ _ w.counts-is w.moved-is w.crossed-is,
       omega (arith, l.loop-a.invariant.2),
@@ -188,7 +188,7 @@ loop-again c =
       firing_take _ _ _ _ _ _ _ _ _ _ _ l.loop-a.invariant.0 i.loop-a-test.true s.requires.1 (s.requires.3 l.loop-a.a) (s.requires.4 l.loop-a.a)
           (ne_eqb _ 2 w.if-k-eq2.false) w.taken_from-y.result w.taken_from-y.ensures _ _ _ w.counts-is w.less-is w.more-is,
       told_more moves_on _ _ _ _ _ _ _ _ _ _ _ l.loop-a.invariant.1 l.loop-a.invariant.0.good p (count - w.taken_from-y.result) (count - w.taken_from-y.result) count w.crossed-crossed-then-y-gt0.result
-          (λ transitions initial capacity rate delay. fire_takes s.args.arcs.now s.args.kind.now s.args.place.now s.args.weight.now
+          (λ transitions initial capacity rate delay. fire_takes s.args.net.now.arcs.now s.args.net.now.kind.now s.args.net.now.place.now s.args.net.now.weight.now
           s.args.j l.loop-a.a l.loop-a.invariant.2 i.loop-a-test.true count w.taken_from-y.result w.if-y-gt0.true w.taken_from-y.ensures)
           (s.requires.3 l.loop-a.a) (omega arith) (omega arith) (omega arith) (omega arith) small w.crossed-crossed-then-y-gt0.ensures _ _ _ w.counts-is w.moved-is w.crossed-is,
       omega (arith, l.loop-a.invariant.2),

@@ -1,7 +1,7 @@
 -- By the test whether the propensity is above 0. Assumes nothing.
 use mathlib.Core.Path.{sym, ap, ◌∙◌}
 use mathlib.Core.Bool.{Bool, ◌&&◌}
-use Rattle.net.specs.Record.{lent}
+use Rattle.net.specs.Record.{net_of}
 use Rattle.net.specs.Readable.{transition}
 use Rattle.rules.specs.Exact.{some_inexact}
 use Rattle.engine.specs.Engine.{marking}
@@ -12,7 +12,7 @@ use Rattle.engine.proofs.rounding.rounded.Tie as tie
 abbrev some : tie.Start → Bool
 some r =
     let s = r.args in
-    some_inexact (marking s.places s.counts.now) (transition (lent s.places s.transitions s.initial.now s.capacity.now s.rate.now s.delay.now s.arcs.now s.kind.now s.place.now s.weight.now) s.j).takes
+    some_inexact (marking s.net.now.places s.counts.now) (transition (net_of s.net.now) s.j).takes
 
 some-inexact-requires : tie.Need-some_inexact-requires
 some-inexact-requires c κs = c.requires

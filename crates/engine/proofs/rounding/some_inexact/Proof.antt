@@ -4,7 +4,7 @@ use mathlib.Core.Path.{◌≡◌, refl, sym, ◌∙◌}
 use native.Mathlib.Omega.{arith}
 use borrow.Author.Rules.{rules}
 use lib.ListN.{get_or}
-use Rattle.net.specs.Record.{lent}
+use Rattle.net.specs.Record.{net_of}
 use Rattle.net.specs.Tests.{any}
 use Rattle.net.specs.Readable.{slots, takes_of}
 use Rattle.net.proofs.Slots.{or_stop, or_go}
@@ -74,15 +74,15 @@ inexact-slot-requires : tie.Need-inexact_slot-requires invariant-loop decreases-
 inexact-slot-requires c κs =
     let l = c.before.before.before.before.before in
     let s = l.before.before in
-    s.requires.2.small (get_or s.args.place.now l.loop-a.a 0)
+    s.requires.2.small (get_or s.args.net.now.place.now l.loop-a.a 0)
 
 returns : tie.Need-returns-then-inexact_slot invariant-loop decreases-loop
 returns c =
     let l = c.before.before.before.before.before.before in
     let r = l.before.before.before in
     let s = r.args in
-    let n = lent s.places s.transitions s.initial.now s.capacity.now s.rate.now s.delay.now s.arcs.now s.kind.now s.place.now s.weight.now in
-    or_stop _ _ (kinetic_turn (off s.counts.now) s.kind.now s.place.now s.weight.now l.loop-a.a (16 * s.j + get_or s.arcs.now s.j 0) l.loop-a.invariant l.loop-a-test.true)
+    let n = net_of s.net.now in
+    or_stop _ _ (kinetic_turn (off s.counts.now) s.net.now.kind.now s.net.now.place.now s.net.now.weight.now l.loop-a.a (16 * s.j + get_or s.net.now.arcs.now s.j 0) l.loop-a.invariant l.loop-a-test.true)
     (sym c.inexact_slot.ensures ∙ c.if-inexact_slot.true)
     ∙ off_all n s.counts.now r.requires.1.place s.j
 
@@ -96,7 +96,7 @@ loop-again : tie.Need-loop-a-preserved invariant-loop decreases-loop
 loop-again c =
     let l = c.before.before.before.before.before.before in
     let s = l.args in
-    or_go _ _ (kinetic_turn (off s.counts.now) s.kind.now s.place.now s.weight.now l.loop-a.a (16 * s.j + get_or s.arcs.now s.j 0) l.loop-a.invariant l.loop-a-test.true)
+    or_go _ _ (kinetic_turn (off s.counts.now) s.net.now.kind.now s.net.now.place.now s.net.now.weight.now l.loop-a.a (16 * s.j + get_or s.net.now.arcs.now s.j 0) l.loop-a.invariant l.loop-a-test.true)
     (sym c.inexact_slot.ensures ∙ c.if-inexact_slot.false)
 
 returns-2 : tie.Need-returns invariant-loop decreases-loop
@@ -104,8 +104,8 @@ returns-2 c =
     let l = c.before in
     let r = l.before.before in
     let s = r.args in
-    let n = lent s.places s.transitions s.initial.now s.capacity.now s.rate.now s.delay.now s.arcs.now s.kind.now s.place.now s.weight.now in
-    kinetic_end (off s.counts.now) s.kind.now s.place.now s.weight.now l.loop-a.a (16 * s.j + get_or s.arcs.now s.j 0) l.loop-a.invariant c.loop-a-test.false
+    let n = net_of s.net.now in
+    kinetic_end (off s.counts.now) s.net.now.kind.now s.net.now.place.now s.net.now.weight.now l.loop-a.a (16 * s.j + get_or s.net.now.arcs.now s.j 0) l.loop-a.invariant c.loop-a-test.false
     ∙ off_all n s.counts.now r.requires.1.place s.j
 
 pub some_inexact_spec : {M : Type 1} → statement M

@@ -14,10 +14,10 @@ loop-a-init c =
     let s = c.args in (
       omega arith,
       omega arith,
-      subst⁻¹ (λ (ls : List Slot). Copying s.to s.to (of_group s.g ls) (of_group s.g (slots s.kind.now s.place.now s.weight.now s.from s.n))
+      subst⁻¹ (λ (ls : List Slot). Copying s.to s.to (of_group s.g ls) (of_group s.g (slots s.net.now.kind.now s.net.now.place.now s.net.now.weight.now s.from s.n))
           s.kinds.now s.places.now s.weights.now s.kinds.now s.places.now s.weights.now)
-          (slots_whole s.kind.now s.place.now s.weight.now s.from s.n)
-          (copying_none s.to (of_group s.g (slots s.kind.now s.place.now s.weight.now s.from s.n)) s.kinds.now s.places.now s.weights.now),
+          (slots_whole s.net.now.kind.now s.net.now.place.now s.net.now.weight.now s.from s.n)
+          (copying_none s.to (of_group s.g (slots s.net.now.kind.now s.net.now.place.now s.net.now.weight.now s.from s.n)) s.kinds.now s.places.now s.weights.now),
     )
 
 pub copy_slot-b-requires : goal.copy_slot-b-requires
@@ -26,8 +26,8 @@ copy_slot-b-requires c =
     let r = l in
     let s = r.args in
     let a = l.loop-a.a in
-    let now = copying_turn s.g s.kind.now s.place.now s.weight.now a (s.from + s.n) c.loop-a-test.true l.loop-a.invariant.2 in
-    let room = copying_fits s.g (slot_at s.kind.now s.place.now s.weight.now a) (slots s.kind.now s.place.now s.weight.now (a + 1) (s.from + s.n - (a + 1))) r.requires.1 now in
+    let now = copying_turn s.g s.net.now.kind.now s.net.now.place.now s.net.now.weight.now a (s.from + s.n) c.loop-a-test.true l.loop-a.invariant.2 in
+    let room = copying_fits s.g (slot_at s.net.now.kind.now s.net.now.place.now s.net.now.weight.now a) (slots s.net.now.kind.now s.net.now.place.now s.net.now.weight.now (a + 1) (s.from + s.n - (a + 1))) r.requires.1 now in
     (room, l.loop-a.invariant.2.long_kind ∙ r.requires.2, l.loop-a.invariant.2.long_place ∙ r.requires.3, l.loop-a.invariant.2.long_weight ∙ r.requires.4)
 
 pub loop-a-preserved : goal.loop-a-preserved
@@ -36,12 +36,12 @@ loop-a-preserved c =
     let r = l in
     let s = r.args in
     let a = l.loop-a.a in
-    let now = copying_turn s.g s.kind.now s.place.now s.weight.now a (s.from + s.n) c.loop-a-test.true l.loop-a.invariant.2 in
-    let room = copying_fits s.g (slot_at s.kind.now s.place.now s.weight.now a) (slots s.kind.now s.place.now s.weight.now (a + 1) (s.from + s.n - (a + 1))) r.requires.1 now in
+    let now = copying_turn s.g s.net.now.kind.now s.net.now.place.now s.net.now.weight.now a (s.from + s.n) c.loop-a-test.true l.loop-a.invariant.2 in
+    let room = copying_fits s.g (slot_at s.net.now.kind.now s.net.now.place.now s.net.now.weight.now a) (slots s.net.now.kind.now s.net.now.place.now s.net.now.weight.now (a + 1) (s.from + s.n - (a + 1))) r.requires.1 now in
     let e = c.copy_slot-b.ensures in (
       omega arith,
       omega arith,
-      copying_one s.g (slot_at s.kind.now s.place.now s.weight.now a) (slots s.kind.now s.place.now s.weight.now (a + 1) (s.from + s.n - (a + 1))) now room
+      copying_one s.g (slot_at s.net.now.kind.now s.net.now.place.now s.net.now.weight.now a) (slots s.net.now.kind.now s.net.now.place.now s.net.now.weight.now (a + 1) (s.from + s.n - (a + 1))) now room
           (l.loop-a.invariant.2.long_kind ∙ r.requires.2) (l.loop-a.invariant.2.long_place ∙ r.requires.3) (l.loop-a.invariant.2.long_weight ∙ r.requires.4) e.0 e.1 e.2 e.3,
     )
 
@@ -49,6 +49,6 @@ pub returns : goal.returns
 returns c =
     let l = c in
     let s = l.args in
-    copied_all (subst (λ (ls : List Slot). Copying s.to l.loop-a.b (of_group s.g ls) (of_group s.g (slots s.kind.now s.place.now s.weight.now s.from s.n))
+    copied_all (subst (λ (ls : List Slot). Copying s.to l.loop-a.b (of_group s.g ls) (of_group s.g (slots s.net.now.kind.now s.net.now.place.now s.net.now.weight.now s.from s.n))
     s.kinds.now s.places.now s.weights.now l.loop-a.kinds l.loop-a.places l.loop-a.weights)
-    (slots_end s.kind.now s.place.now s.weight.now l.loop-a.a (s.from + s.n) c.loop-a-test.false) l.loop-a.invariant.2)
+    (slots_end s.net.now.kind.now s.net.now.place.now s.net.now.weight.now l.loop-a.a (s.from + s.n) c.loop-a-test.false) l.loop-a.invariant.2)

@@ -1,5 +1,5 @@
 -- The table says the limits of the slots below a. Assumes nothing.
-use Rattle.net.specs.Record.{lent}
+use Rattle.net.specs.Record.{net_of}
 use Rattle.engine.proofs.Limits.{limits_more}
 use lib.ListN.{length-set}
 use borrow.Author.Count.{below_none}
@@ -30,7 +30,7 @@ loop-a-preserved c =
     let l = c in
     let s = l.args in (
       length-set l.loop-a.limit l.loop-a.a c.slot_limit-x.result ∙ l.loop-a.invariant.0,
-      limits_more (lent s.places s.transitions s.initial.now s.capacity.now s.rate.now s.delay.now s.arcs.now s.kind.now s.place.now s.weight.now) l.loop-a.limit l.loop-a.a c.slot_limit-x.result (omega (arith, l.loop-a.invariant.0, l.requires.0.transitions)) c.slot_limit-x.ensures l.loop-a.invariant.1,
+      limits_more (net_of s.net.now) l.loop-a.limit l.loop-a.a c.slot_limit-x.result (omega (arith, l.loop-a.invariant.0, l.requires.0.transitions)) c.slot_limit-x.ensures l.loop-a.invariant.1,
     )
 
 pub returns : goal.returns

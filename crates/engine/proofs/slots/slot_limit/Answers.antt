@@ -3,7 +3,7 @@
 use native.Mathlib.Omega.{arith}
 use Prim.Native.Nat.{◌/◌}
 use borrow.Author.Tests.{ne_eqb}
-use Rattle.net.specs.Record.{lent}
+use Rattle.net.specs.Record.{net_of}
 use Rattle.engine.proofs.Limits.{limit_made, limit_free}
 use Rattle.engine.proofs.slots.slot_limit.Goals as goal
 
@@ -23,7 +23,7 @@ pub returns-then-q-eq0 : goal.returns-then-q-eq0
 returns-then-q-eq0 c =
     let b = c in
     let s = b.args in
-    let net = lent s.places s.transitions s.initial.now s.capacity.now s.rate.now s.delay.now s.arcs.now s.kind.now s.place.now s.weight.now in
+    let net = net_of s.net.now in
     limit_free net s.a b.requires.1 c.if-k-ne-PUT.false c.if-q-eq0.true
 
 pub overflow_add-end : goal.overflow_add-end
@@ -37,4 +37,4 @@ returns c =
     let b = c in
     let s = b.args in
     let d = c.change_at-c.ensures in
-    limit_made (lent s.places s.transitions s.initial.now s.capacity.now s.rate.now s.delay.now s.arcs.now s.kind.now s.place.now s.weight.now) s.a b.requires.1 c.if-k-ne-PUT.false c.room_limit.ensures d.0 d.1
+    limit_made (net_of s.net.now) s.a b.requires.1 c.if-k-ne-PUT.false c.room_limit.ensures d.0 d.1

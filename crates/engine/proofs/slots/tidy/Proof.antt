@@ -1,6 +1,6 @@
 -- The first j transitions are done (Tidying, Done); the bounds of a used slot come from the net having no fault. Assumes nothing.
 use Rattle.net.specs.declared.Net.{Net as NetRecord}
-use Rattle.net.specs.Record.{labelled}
+use Rattle.net.specs.Record.{labelled, net_of}
 use Rattle.net.specs.Sound.{Sound}
 use Rattle.net.proofs.Sound.{sound}
 use Rattle.engine.proofs.Tidying.{Done, done_none, group_lengths, second_room, done_more, all_tidied}
@@ -22,8 +22,7 @@ decreases-loop places transitions initial capacity label lengths rate delay arcs
 -- the net whose fields are lent
 abbrev net_at : tie.Start invariant-loop decreases-loop → NetRecord
 net_at s =
-    labelled s.args.places s.args.transitions s.args.initial.now s.args.capacity.now s.args.label.now s.args.lengths.now
-    s.args.rate.now s.args.delay.now s.args.arcs.now s.args.kind.now s.args.place.now s.args.weight.now
+    net_of s.args.net.now
 
 sound_net : (s : tie.Start invariant-loop decreases-loop) → Sound (net_at s)
 sound_net s = sound (net_at s) s.requires.0

@@ -1,7 +1,7 @@
 -- One slot more (Guarding). Assumes nothing.
 use lib.ListN.{get_or}
 use Rattle.net.specs.declared.Net.{Net as NetRecord}
-use Rattle.net.specs.Record.{lent}
+use Rattle.net.specs.Record.{lent, net_of}
 use Rattle.index.specs.Guarding.{Guarding, Used}
 use Rattle.index.proofs.Placed.{slots_fit, places_fit}
 use Rattle.index.proofs.Guarding.{guarding_more, guarding_next}
@@ -21,13 +21,13 @@ decreases-loop places transitions initial capacity rate delay arcs kind place we
 abbrev net : tie.Start invariant-loop decreases-loop → NetRecord
 net r =
     let s = r.args in
-    lent s.places s.transitions s.initial.now s.capacity.now s.rate.now s.delay.now s.arcs.now s.kind.now s.place.now s.weight.now
+    net_of s.net.now
 
 -- the transition in hand is one of the record's, and its slots stand in the tables
 low : (r : tie.Start invariant-loop decreases-loop) → r.args.j < 64
 low r = omega (arith, r.requires.0, r.requires.1.transitions)
 
-fit : (r : tie.Start invariant-loop decreases-loop) → 16 * r.args.j + get_or r.args.arcs.now r.args.j 0 ≤ 1024
+fit : (r : tie.Start invariant-loop decreases-loop) → 16 * r.args.j + get_or r.args.net.now.arcs.now r.args.j 0 ≤ 1024
 fit r = slots_fit (net r) r.requires.1 r.args.j r.requires.0
 
 -- so does the slot in hand

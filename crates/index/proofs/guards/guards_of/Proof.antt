@@ -1,6 +1,6 @@
 -- One transition more (Guarding). Assumes nothing.
 use Rattle.net.specs.declared.Net.{Net as NetRecord}
-use Rattle.net.specs.Record.{lent}
+use Rattle.net.specs.Record.{lent, net_of}
 use Rattle.index.specs.Guarding.{Guarding}
 use Rattle.index.proofs.Guarding.{guarding_none, guarding_all}
 use borrow.Author.Rules.{rules}
@@ -18,7 +18,7 @@ decreases-loop places transitions initial capacity rate delay arcs kind place we
 abbrev net : tie.Start invariant-loop decreases-loop → NetRecord
 net r =
     let s = r.args in
-    lent s.places s.transitions s.initial.now s.capacity.now s.rate.now s.delay.now s.arcs.now s.kind.now s.place.now s.weight.now
+    net_of s.net.now
 
 listed-words-requires : tie.Need-listed_words-words-requires invariant-loop decreases-loop
 listed-words-requires c κs = search rules

@@ -14,13 +14,13 @@ abbrev decreases-loop : tie.decreases-loop-a
 decreases-loop capacity kind place weight from end j words₀ a₀ words a = end - a
 
 -- the place of the slot in hand
-place_low : (c : tie.In-loop-a invariant-loop decreases-loop) → get_or c.args.place.now c.loop-a.a 0 < 32
+place_low : (c : tie.In-loop-a invariant-loop decreases-loop) → get_or c.args.net.now.place.now c.loop-a.a 0 < 32
 place_low c = c.requires.2 c.loop-a.a
 
 loop-holds : tie.Need-loop-a-init invariant-loop decreases-loop
 loop-holds c =
     let s = c.args in
-    listing_none s.capacity.now s.kind.now s.place.now s.weight.now s.from s.end s.j s.words.now c.requires.4
+    listing_none s.net.now.capacity.now s.net.now.kind.now s.net.now.place.now s.net.now.weight.now s.from s.end s.j s.words.now c.requires.4
 
 add-b : tie.Need-overflow_add-b invariant-loop decreases-loop
 add-b c = search rules
@@ -59,13 +59,13 @@ loop-again c =
     let i = c.before.before.before.before in
     let l = i.before in
     let s = l.args in
-    listing_more s.capacity.now s.kind.now s.place.now s.weight.now s.from s.end s.j s.words.now l.loop-a.words l.loop-a.a c.joined-w.result c.lists-on.result l.loop-a.invariant i.loop-a-test.true (place_low i.before.before) c.lists-on.ensures c.joined-w.ensures
+    listing_more s.net.now.capacity.now s.net.now.kind.now s.net.now.place.now s.net.now.weight.now s.from s.end s.j s.words.now l.loop-a.words l.loop-a.a c.joined-w.result c.lists-on.result l.loop-a.invariant i.loop-a-test.true (place_low i.before.before) c.lists-on.ensures c.joined-w.ensures
 
 returns : tie.Need-returns invariant-loop decreases-loop
 returns c =
     let l = c.before in
     let s = l.args in
-    listing_all s.capacity.now s.kind.now s.place.now s.weight.now s.from s.end s.j s.words.now l.loop-a.words l.loop-a.a l.loop-a.invariant c.loop-a-test.false
+    listing_all s.net.now.capacity.now s.net.now.kind.now s.net.now.place.now s.net.now.weight.now s.from s.end s.j s.words.now l.loop-a.words l.loop-a.a l.loop-a.invariant c.loop-a-test.false
 
 pub list_one_spec : {M : Type 1} → statement M
 list_one_spec =

@@ -49,7 +49,7 @@ returns : tie.Need-returns-then-heavy_slot invariant-loop decreases-loop
 returns c =
     let l = c.before.before.before.before in
     let s = l.args in
-    or_stop _ _ (kinetic_turn several s.kind.now s.place.now s.weight.now l.loop-a.a s.end l.loop-a.invariant l.loop-a-test.true)
+    or_stop _ _ (kinetic_turn several s.net.now.kind.now s.net.now.place.now s.net.now.weight.now l.loop-a.a s.end l.loop-a.invariant l.loop-a-test.true)
     (sym c.heavy_slot.ensures ∙ c.if-heavy_slot.true)
 
 add_a : tie.Need-overflow_add-a invariant-loop decreases-loop
@@ -62,14 +62,14 @@ loop-again : tie.Need-loop-a-preserved invariant-loop decreases-loop
 loop-again c =
     let l = c.before.before.before.before in
     let s = l.args in
-    or_go _ _ (kinetic_turn several s.kind.now s.place.now s.weight.now l.loop-a.a s.end l.loop-a.invariant l.loop-a-test.true)
+    or_go _ _ (kinetic_turn several s.net.now.kind.now s.net.now.place.now s.net.now.weight.now l.loop-a.a s.end l.loop-a.invariant l.loop-a-test.true)
     (sym c.heavy_slot.ensures ∙ c.if-heavy_slot.false)
 
 returns-2 : tie.Need-returns invariant-loop decreases-loop
 returns-2 c =
     let l = c.before in
     let s = l.args in
-    kinetic_end several s.kind.now s.place.now s.weight.now l.loop-a.a s.end l.loop-a.invariant c.loop-a-test.false
+    kinetic_end several s.net.now.kind.now s.net.now.place.now s.net.now.weight.now l.loop-a.a s.end l.loop-a.invariant c.loop-a-test.false
 
 pub heavy_slots_spec : {M : Type 1} → statement M
 heavy_slots_spec =

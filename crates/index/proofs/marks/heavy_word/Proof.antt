@@ -6,7 +6,7 @@ use mathlib.Core.Bool.{Bool}
 use lib.ListN.{get_or}
 use Rattle.net.specs.declared.Net.{Net as NetRecord}
 use Rattle.net.specs.Readable.{transition}
-use Rattle.net.specs.Record.{lent}
+use Rattle.net.specs.Record.{lent, net_of}
 use Rattle.engine.specs.Traits.{takes_several}
 use Rattle.index.proofs.Placed.{slots_fit}
 use Rattle.index.proofs.Marking.{Marked, marked_none, marked_more, marked_all, net_marks, several_slots}
@@ -26,17 +26,17 @@ decreases-loop places transitions initial capacity rate delay arcs kind place we
 abbrev net : tie.Start invariant-loop decreases-loop → NetRecord
 net r =
     let s = r.args in
-    lent s.places s.transitions s.initial.now s.capacity.now s.rate.now s.delay.now s.arcs.now s.kind.now s.place.now s.weight.now
+    net_of s.net.now
 
 -- the transition in hand is one of the record's, and its slots stand in the tables
 low : (c : tie.In-loop-j invariant-loop decreases-loop) → c.loop-j.j < 64
 low c = omega (arith, c.loop-j-test.true, c.requires.transitions)
 
-fit : (c : tie.In-loop-j invariant-loop decreases-loop) → 16 * c.loop-j.j + get_or c.args.arcs.now c.loop-j.j 0 ≤ 1024
+fit : (c : tie.In-loop-j invariant-loop decreases-loop) → 16 * c.loop-j.j + get_or c.args.net.now.arcs.now c.loop-j.j 0 ≤ 1024
 fit c = let r = c.before.before in slots_fit (net r) r.requires c.loop-j.j c.loop-j-test.true
 
 loop-holds : tie.Need-loop-j-init invariant-loop decreases-loop
-loop-holds c = marked_none (several (net c)) c.args.transitions
+loop-holds c = marked_none (several (net c)) c.args.net.now.transitions
 
 add-k : tie.Need-overflow_add-k invariant-loop decreases-loop
 add-k c = search rules

@@ -7,7 +7,7 @@ use mathlib.Core.Bool.{Bool}
 use Rattle.net.specs.declared.Net.{Net as NetRecord}
 use Rattle.net.specs.Net.{timed}
 use Rattle.net.specs.Readable.{transition}
-use Rattle.net.specs.Record.{lent}
+use Rattle.net.specs.Record.{lent, net_of}
 use Rattle.index.proofs.Marking.{Marked, marked_none, marked_more, marked_all, net_marks}
 use Rattle.index.proofs.marks.timed_word.Statement.{statement}
 use Rattle.index.proofs.marks.timed_word.Tie as tie
@@ -25,14 +25,14 @@ decreases-loop places transitions initial capacity rate delay arcs kind place we
 abbrev net : tie.Start invariant-loop decreases-loop → NetRecord
 net r =
     let s = r.args in
-    lent s.places s.transitions s.initial.now s.capacity.now s.rate.now s.delay.now s.arcs.now s.kind.now s.place.now s.weight.now
+    net_of s.net.now
 
 -- the transition in hand is one of the record's
 low : (c : tie.In-loop-j invariant-loop decreases-loop) → c.loop-j.j < 64
 low c = omega (arith, c.loop-j-test.true, c.requires)
 
 loop-holds : tie.Need-loop-j-init invariant-loop decreases-loop
-loop-holds c = marked_none (waits (net c)) c.args.transitions
+loop-holds c = marked_none (waits (net c)) c.args.net.now.transitions
 
 add-k : tie.Need-overflow_add-k invariant-loop decreases-loop
 add-k c = search rules

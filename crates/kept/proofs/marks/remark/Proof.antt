@@ -13,7 +13,7 @@ use Rattle.net.specs.declared.Net.{Net as NetRecord}
 use Rattle.net.specs.Net.{Transition, zero64}
 use Rattle.net.specs.Readable as Record
 use Rattle.net.specs.Readable.{readable}
-use Rattle.net.specs.Record.{lent}
+use Rattle.net.specs.Record.{lent, net_of}
 use Rattle.rules.specs.Exact.{some_inexact, rounded}
 use Rattle.rules.specs.Moves.{transition}
 use Rattle.rules.specs.Propensity.{propensity}
@@ -36,7 +36,7 @@ decreases-loop places transitions initial capacity rate delay arcs kind place we
 abbrev net : tie.Start invariant-loop decreases-loop → NetRecord
 net r =
     let s = r.args in
-    lent s.places s.transitions s.initial.now s.capacity.now s.rate.now s.delay.now s.arcs.now s.kind.now s.place.now s.weight.now
+    net_of s.net.now
 
 abbrev of : tie.Start invariant-loop decreases-loop → ℕ → Bool
 of r = rounds (net r) r.args.counts.now
@@ -90,7 +90,7 @@ loop-again c =
     let r = l.before.before in
     let s = r.args in
     let n = net r in
-    let m = marking s.places s.counts.now in
+    let m = marking s.net.now.places s.counts.now in
     let t = count_trailing_zeros 64 l.loop-left.left in
     setting_more (of r) s.word s.marks l.loop-left.found l.loop-left.left l.loop-left.invariant i.loop-left-test.true c.rounded-on.result
     (c.rounded-on.ensures

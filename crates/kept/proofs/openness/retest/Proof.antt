@@ -14,7 +14,7 @@ use Rattle.words.specs.Bits.{bit}
 use Rattle.net.specs.declared.Net.{Net as NetRecord}
 use Rattle.net.specs.Net.{pick, zero64}
 use Rattle.net.specs.Readable.{readable}
-use Rattle.net.specs.Record.{lent}
+use Rattle.net.specs.Record.{lent, net_of}
 use Rattle.rules.specs.Enabled.{enabled}
 use Rattle.rules.specs.Moves.{transition}
 use Rattle.engine.specs.Engine.{marking}
@@ -44,7 +44,7 @@ decreases-loop places transitions initial capacity rate delay arcs kind place we
 abbrev net : tie.Start invariant-loop decreases-loop → NetRecord
 net r =
     let s = r.args in
-    lent s.places s.transitions s.initial.now s.capacity.now s.rate.now s.delay.now s.arcs.now s.kind.now s.place.now s.weight.now
+    net_of s.net.now
 
 abbrev of : tie.Start invariant-loop decreases-loop → ℕ → Bool
 of r = may (net r) r.args.counts.now
@@ -104,7 +104,7 @@ loop-again c =
     let r = l.before.before in
     let s = r.args in
     let n = net r in
-    let m = marking s.places s.counts.now in
+    let m = marking s.net.now.places s.counts.now in
     let t = count_trailing_zeros 64 l.loop-left.left in
     let is : e.enabled-on.result ≡ of r t = e.enabled-on.ensures ∙ ap (enabled (readable n) m) (sym (transition_at n t (r.requires.3 t (in_word i)))) in (
       setting_more (of r) s.word s.able l.loop-left.found l.loop-left.left l.loop-left.invariant.0 i.loop-left-test.true e.enabled-on.result is c.joined-found.result c.joined-found.ensures,

@@ -7,7 +7,7 @@ use mathlib.Core.Logic.{◌⊎◌, ⊎_elim}
 use Prim.Native.Nat.{ℕ, ◌+◌, ◌-◌, ◌*◌, ◌≤◌, ◌<◌}
 use lib.ListN.{get_or}
 use Rattle.net.specs.declared.Net.{Net as NetRecord}
-use Rattle.net.specs.Record.{lent}
+use Rattle.net.specs.Record.{lent, net_of}
 use Rattle.kept.specs.Kept.{single, Alone, Two}
 use Rattle.kept.proofs.Filling.{Filling, filling_none, filling_more}
 use Rattle.kept.proofs.tables.ends_of.Statement.{statement}
@@ -55,7 +55,7 @@ decreases-loop places transitions initial capacity rate delay arcs kind place we
 abbrev net : tie.Start invariant-loop decreases-loop → NetRecord
 net r =
     let s = r.args in
-    lent s.places s.transitions s.initial.now s.capacity.now s.rate.now s.delay.now s.arcs.now s.kind.now s.place.now s.weight.now
+    net_of s.net.now
 
 low : (c : tie.In-loop-j invariant-loop decreases-loop) → c.loop-j.j < 64
 low c = omega (arith, c.loop-j-test.true, c.requires.0.transitions)

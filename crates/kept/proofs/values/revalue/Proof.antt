@@ -11,7 +11,7 @@ use Rattle.words.specs.Bits.{bit}
 use Rattle.net.specs.declared.Net.{Net as NetRecord}
 use Rattle.net.specs.Net.{rate_of}
 use Rattle.net.specs.Readable.{readable}
-use Rattle.net.specs.Record.{lent}
+use Rattle.net.specs.Record.{lent, net_of}
 use Rattle.rules.specs.Moves.{transition}
 use Rattle.rules.specs.Propensity.{factored}
 use Rattle.engine.specs.Engine.{marking}
@@ -32,7 +32,7 @@ decreases-loop places transitions initial capacity rate delay arcs kind place we
 abbrev net : tie.Start invariant-loop decreases-loop → NetRecord
 net r =
     let s = r.args in
-    lent s.places s.transitions s.initial.now s.capacity.now s.rate.now s.delay.now s.arcs.now s.kind.now s.place.now s.weight.now
+    net_of s.net.now
 
 abbrev of : tie.Start invariant-loop decreases-loop → ℕ → Float
 of r = worth (net r) r.args.counts.now

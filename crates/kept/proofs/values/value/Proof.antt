@@ -5,7 +5,7 @@ use Prim.Native.Nat.{◌-◌, ◌*◌, ◌≤◌, ◌<◌}
 use lib.ListN.{get_or}
 use lib.Ieee.{nan}
 use Rattle.net.specs.declared.Net.{Net as NetRecord}
-use Rattle.net.specs.Record.{lent}
+use Rattle.net.specs.Record.{net_of}
 use Rattle.kept.proofs.Valuing.{valuing_alone, valuing_two}
 use Rattle.kept.proofs.values.value.Statement.{statement}
 use Rattle.kept.proofs.values.value.Tie as tie
@@ -13,10 +13,10 @@ use Rattle.kept.proofs.values.value.Tie as tie
 abbrev net : tie.Start → NetRecord
 net r =
     let s = r.args in
-    lent s.places s.transitions s.initial.now s.capacity.now s.rate.now s.delay.now s.arcs.now s.kind.now s.place.now s.weight.now
+    net_of s.net.now
 
 -- the place is one of the counts
-inside : (r : tie.Start) → 2048 ≤ get_or r.args.ends.now r.args.j 0 → get_or r.args.ends.now r.args.j 0 < 4096 → get_or r.args.ends.now r.args.j 0 - 2048 < 32
+inside : (r : tie.Start) → 2048 ≤ get_or r.args.tables.now.ends r.args.j 0 → get_or r.args.tables.now.ends r.args.j 0 < 4096 → get_or r.args.tables.now.ends r.args.j 0 - 2048 < 32
 inside r h l =
     let a = r.requires.5.alone r.args.j r.requires.0 h l in
     omega (arith, a.from, r.requires.1.place (16 * r.args.j), r.requires.1.places)
@@ -47,7 +47,7 @@ returns c =
     let r = c.before.before.before.before.before in
     let s = r.args in
     valuing_two (net r.before) s.counts.now s.j r.requires.1 r.requires.0 (r.requires.5.two s.j r.requires.0 c.if-end-ge-TWO.true)
-    (get_or s.rates.now s.j nan) c.times_two.result (r.requires.4 s.j r.requires.0) c.times_two.ensures
+    (get_or s.tables.now.rates s.j nan) c.times_two.result (r.requires.4 s.j r.requires.0) c.times_two.ensures
 
 mul-times : tie.Need-offset_bounds-counts-p
 mul-times c = let r = c.before.before.before.before in omega (arith, inside r.before c.if-end-ge-ALONE.true (omega (arith, c.if-end-ge-TWO.false)))
@@ -58,15 +58,15 @@ element-copy-out-times c = inside c.before.before.before.before.before.before c.
 times-requires : tie.Need-times-requires
 times-requires c κs =
     let r = c.before.before.before.before.before in
-    (r.requires.3.small (get_or r.args.ends.now r.args.j 0 - 2048), λ e. omega arith)
+    (r.requires.3.small (get_or r.args.tables.now.ends r.args.j 0 - 2048), λ e. omega arith)
 
 returns-2 : tie.Need-returns-then-end-ge-ALONE
 returns-2 c =
     let r = c.before.before.before.before.before.before in
     let s = r.args in
-    valuing_alone (net r.before.before) s.counts.now s.j (get_or s.ends.now s.j 0 - 2048) r.requires.1 r.requires.0
+    valuing_alone (net r.before.before) s.counts.now s.j (get_or s.tables.now.ends s.j 0 - 2048) r.requires.1 r.requires.0
     (r.requires.5.alone s.j r.requires.0 c.if-end-ge-ALONE.true (omega (arith, c.if-end-ge-TWO.false)))
-    (get_or s.rates.now s.j nan) c.times.result (r.requires.4 s.j r.requires.0) c.times.ensures
+    (get_or s.tables.now.rates s.j nan) c.times.result (r.requires.4 s.j r.requires.0) c.times.ensures
 
 walked-requires : tie.Need-walked-requires
 walked-requires c κs =

@@ -6,7 +6,7 @@ use Prim.Native.Nat.{ℕ, ◌+◌, ◌-◌, ◌*◌, ◌<◌}
 use lib.ListN.{get_or}
 use Rattle.net.specs.declared.Net.{Net as NetRecord}
 use Rattle.net.specs.Net.{amount}
-use Rattle.net.specs.Record.{lent}
+use Rattle.net.specs.Record.{lent, net_of}
 use Rattle.engine.specs.Limits.{at_least}
 use Rattle.engine.proofs.Arcs.{amount_most}
 use Rattle.engine.proofs.Factors.{times_limit}
@@ -24,7 +24,7 @@ decreases-loop places transitions initial capacity rate delay arcs kind place we
 abbrev net : tie.Start invariant-loop decreases-loop → NetRecord
 net r =
     let s = r.args in
-    lent s.places s.transitions s.initial.now s.capacity.now s.rate.now s.delay.now s.arcs.now s.kind.now s.place.now s.weight.now
+    net_of s.net.now
 
 abbrev start : tie.In-loop-a invariant-loop decreases-loop → tie.Start invariant-loop decreases-loop
 start c = c.before.before.before
@@ -33,15 +33,15 @@ abbrev slot : tie.In-loop-a invariant-loop decreases-loop → ℕ
 slot c = c.loop-a.a
 
 -- the slot is one of transition j
-inside : (c : tie.In-loop-a invariant-loop decreases-loop) → slot c < 16 * (start c).args.j + get_or (start c).args.arcs.now (start c).args.j 0
+inside : (c : tie.In-loop-a invariant-loop decreases-loop) → slot c < 16 * (start c).args.j + get_or (start c).args.net.now.arcs.now (start c).args.j 0
 inside c = omega (arith, c.loop-a-test.true, (start c).requires.5)
 
 in_table : (c : tie.In-loop-a invariant-loop decreases-loop) → slot c < 1024
 in_table c = omega (arith, inside c, (start c).requires.0, (start c).requires.1.transitions, (start c).requires.1.arcs (start c).args.j)
 
 -- the limit of a kinetic take
-taken_by_lem : (c : tie.In-loop-a invariant-loop decreases-loop) → get_or (start c).args.kind.now (slot c) 0 ≡ 0
-    → get_or (start c).args.limit.now (slot c) 0 ≡ at_least (amount (get_or (start c).args.weight.now (slot c) 0))
+taken_by_lem : (c : tie.In-loop-a invariant-loop decreases-loop) → get_or (start c).args.net.now.kind.now (slot c) 0 ≡ 0
+    → get_or (start c).args.limit.now (slot c) 0 ≡ at_least (amount (get_or (start c).args.net.now.weight.now (slot c) 0))
 taken_by_lem c k =
     let r = start c in
     kinetic_says (net r) r.requires.1 (slot c) k r.args.j (get_or r.args.limit.now (slot c) 0) c.loop-a.invariant.low (inside c)
@@ -93,7 +93,7 @@ times-requires : tie.Need-times-x-requires invariant-loop decreases-loop
 times-requires c κs =
     let i = c.before.before.before.before.before.before.before.before in
     let r = start i in
-    (r.requires.3.small (get_or r.args.place.now (slot i) 0), λ k. omega (arith, taken_by_lem i k, amount_most (get_or r.args.weight.now (slot i) 0) (r.requires.1.weight (slot i))))
+    (r.requires.3.small (get_or r.args.net.now.place.now (slot i) 0), λ k. omega (arith, taken_by_lem i k, amount_most (get_or r.args.net.now.weight.now (slot i) 0) (r.requires.1.weight (slot i))))
 
 add_a : tie.Need-overflow_add-a invariant-loop decreases-loop
 add_a c = omega (arith, in_table c.before.before.before.before.before.before.before.before.before)
@@ -109,8 +109,8 @@ loop-again c =
     let v = i.loop-a in
     valuing_more (net r) s.counts.now s.j r.requires.1 v.x c.times-x.result v.a v.invariant (inside i)
     (c.times-x.ensures
-    ∙ times_limit v.x (get_or s.kind.now v.a 0) (get_or s.weight.now v.a 0) (get_or s.limit.now v.a 0)
-    (get_or s.counts.now (get_or s.place.now v.a 0) 0) (r.requires.1.weight v.a) (taken_by_lem i))
+    ∙ times_limit v.x (get_or s.net.now.kind.now v.a 0) (get_or s.net.now.weight.now v.a 0) (get_or s.limit.now v.a 0)
+    (get_or s.counts.now (get_or s.net.now.place.now v.a 0) 0) (r.requires.1.weight v.a) (taken_by_lem i))
 
 returns : tie.Need-returns invariant-loop decreases-loop
 returns c =

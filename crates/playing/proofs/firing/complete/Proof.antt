@@ -8,7 +8,7 @@ use mathlib.Core.List.{List}
 use Prim.Native.Nat.{ℕ, ◌+◌, ◌≤◌}
 use Rattle.net.specs.declared.Net.{Net as NetRecord}
 use Rattle.net.specs.Readable.{readable}
-use Rattle.net.specs.Record.{lent}
+use Rattle.net.specs.Record.{net_of}
 use Rattle.rules.specs.Timers.{others}
 use Rattle.engine.specs.Engine.{Counts, marking}
 use Rattle.engine.proofs.Touching.{quiet_none}
@@ -23,8 +23,7 @@ use Rattle.playing.proofs.firing.complete.Tie as tie
 
 abbrev net : tie.Start → NetRecord
 net s =
-    lent s.args.places s.args.transitions s.args.initial.now s.args.capacity.now s.args.rate.now s.args.delay.now s.args.arcs.now
-    s.args.kind.now s.args.place.now s.args.weight.now
+    net_of s.args.net.now
 
 abbrev start : tie.After-remove_first-left → tie.Start
 start r = r.before.before

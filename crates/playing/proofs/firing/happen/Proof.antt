@@ -1,6 +1,6 @@
 -- Which event it is stands in the definition as it does in the program.
 use Rattle.net.specs.declared.Net.{Net as NetRecord}
-use Rattle.net.specs.Record.{lent}
+use Rattle.net.specs.Record.{net_of}
 use Rattle.rules.specs.Step.{State}
 use Rattle.playing.specs.Stepping.{state_of}
 use Rattle.playing.proofs.Steps.{event_completes, event_races}
@@ -9,8 +9,7 @@ use Rattle.playing.proofs.firing.happen.Tie as tie
 
 abbrev net : tie.Start → NetRecord
 net s =
-    lent s.args.places s.args.transitions s.args.initial.now s.args.capacity.now s.args.rate.now s.args.delay.now s.args.arcs.now
-    s.args.kind.now s.args.place.now s.args.weight.now
+    net_of s.args.net.now
 
 abbrev from : tie.Start → State
 from s =

@@ -9,7 +9,7 @@ use Prim.Native.Nat.{ℕ, ◌≤◌}
 use lib.ListN.{take}
 use Rattle.net.specs.declared.Net.{Net as NetRecord}
 use Rattle.net.specs.Readable.{readable}
-use Rattle.net.specs.Record.{lent}
+use Rattle.net.specs.Record.{net_of}
 use Rattle.engine.specs.Engine.{Counts, marking}
 use Rattle.engine.proofs.Touching.{quiet_none}
 use Rattle.timers.specs.Turning.{running}
@@ -22,8 +22,7 @@ use Rattle.playing.proofs.firing.race.Tie as tie
 
 abbrev net : tie.Start → NetRecord
 net s =
-    lent s.args.places s.args.transitions s.args.initial.now s.args.capacity.now s.args.rate.now s.args.delay.now s.args.arcs.now
-    s.args.kind.now s.args.place.now s.args.weight.now
+    net_of s.args.net.now
 
 uniform-requires : tie.Need-uniform-d-requires
 uniform-requires c κs = search rules
@@ -75,10 +74,10 @@ returns c =
     let fits = c.if-f.true in
     let counts' = f.fire-f.new.counts in (
       race_at (net s) a.counts.now a.ats.now a.owners.now a.ring a.clock a.a0 a.rng.s d.uniform-d.result.rng.s
-          (take a.transitions a.props.now) d.uniform-d.result.value (some j) d.uniform-d.ensures.0 d.uniform-d.ensures.1
+          (take a.net.now.transitions a.props.now) d.uniform-d.result.value (some j) d.uniform-d.ensures.0 d.uniform-d.ensures.1
           (sym (ap choice_of k.in-Chosen.is) ∙ e.choose_by_sums-chosen.ensures) j refl f.if-j-transitions.true counts' _ true (rw fits at f.fire-f.ensures.0)
           (λ z. omega (arith, s.requires.3, f.fire-f.ensures.2 fits)),
-      (ready s counts' f.fire-f.ensures.1, λ z. (f.fire-f.ensures.4 fits a.transitions a.initial.now a.capacity.now a.rate.now a.delay.now s.requires.0.tidy s.requires.4).0),
+      (ready s counts' f.fire-f.ensures.1, λ z. (f.fire-f.ensures.4 fits a.net.now.transitions a.net.now.initial.now a.net.now.capacity.now a.net.now.rate.now a.net.now.delay.now s.requires.0.tidy s.requires.4).0),
     )
 
 returns-2 : tie.Need-returns-then-j-transitions
@@ -92,7 +91,7 @@ returns-2 c =
     let j = k.in-Chosen.j in
     let counts' = f.fire-f.new.counts in (
       race_at (net s) a.counts.now a.ats.now a.owners.now a.ring a.clock a.a0 a.rng.s d.uniform-d.result.rng.s
-          (take a.transitions a.props.now) d.uniform-d.result.value (some j) d.uniform-d.ensures.0 d.uniform-d.ensures.1
+          (take a.net.now.transitions a.props.now) d.uniform-d.result.value (some j) d.uniform-d.ensures.0 d.uniform-d.ensures.1
           (sym (ap choice_of k.in-Chosen.is) ∙ e.choose_by_sums-chosen.ensures) j refl f.if-j-transitions.true counts' _ false (rw c.if-f.false at f.fire-f.ensures.0)
           (λ z. absurd (false≢true z)),
       (ready s counts' f.fire-f.ensures.1, λ z. absurd (false≢true z)),
@@ -105,9 +104,9 @@ returns-3 c =
     let s = d.before in
     let a = s.args in (
       race_none (net s) a.counts.now a.ats.now a.owners.now a.ring a.clock a.a0 a.rng.s d.uniform-d.result.rng.s
-          (take a.transitions a.props.now) d.uniform-d.result.value none d.uniform-d.ensures.0 d.uniform-d.ensures.1
+          (take a.net.now.transitions a.props.now) d.uniform-d.result.value none d.uniform-d.ensures.0 d.uniform-d.ensures.1
           (sym (ap choice_of c.in-Nobody.is) ∙ e.choose_by_sums-chosen.ensures) _ refl (omega (arith, s.requires.3)),
-      (ready s a.counts.now s.requires.0.small, λ z. quiet_none (readable (net s)) (marking a.places a.counts.now)),
+      (ready s a.counts.now s.requires.0.small, λ z. quiet_none (readable (net s)) (marking a.net.now.places a.counts.now)),
     )
 
 returns-4 : tie.Need-returns-else-j-transitions
@@ -119,9 +118,9 @@ returns-4 c =
     let a = s.args in
     let j = k.in-Chosen.j in (
       race_past (net s) a.counts.now a.ats.now a.owners.now a.ring a.clock a.a0 a.rng.s d.uniform-d.result.rng.s
-          (take a.transitions a.props.now) d.uniform-d.result.value (some j) d.uniform-d.ensures.0 d.uniform-d.ensures.1
+          (take a.net.now.transitions a.props.now) d.uniform-d.result.value (some j) d.uniform-d.ensures.0 d.uniform-d.ensures.1
           (sym (ap choice_of k.in-Chosen.is) ∙ e.choose_by_sums-chosen.ensures) j refl _ c.if-j-transitions.false s.requires.0.small (omega (arith, s.requires.3)),
-      (ready s a.counts.now s.requires.0.small, λ z. quiet_none (readable (net s)) (marking a.places a.counts.now)),
+      (ready s a.counts.now s.requires.0.small, λ z. quiet_none (readable (net s)) (marking a.net.now.places a.counts.now)),
     )
 
 pub race_spec : {M : Type 1} → statement M

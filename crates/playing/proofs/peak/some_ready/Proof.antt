@@ -7,7 +7,7 @@ use Prim.Native.Nat.{◌-◌}
 use Rattle.net.specs.declared.Net.{Net as NetRecord}
 use Rattle.net.specs.Net.{Transition}
 use Rattle.net.specs.Tests.{any}
-use Rattle.net.specs.Record.{lent}
+use Rattle.net.specs.Record.{lent, net_of}
 use Rattle.net.specs.Readable.{readable, transition, transitions_from}
 use Rattle.rules.specs.Enabled.{enabled}
 use Rattle.rules.proofs.Happening.{ready}
@@ -27,15 +27,14 @@ decreases-loop places transitions initial capacity rate delay arcs kind place we
 
 abbrev net_at : tie.Start invariant-loop decreases-loop → NetRecord
 net_at s =
-    lent s.args.places s.args.transitions s.args.initial.now s.args.capacity.now s.args.rate.now s.args.delay.now
-    s.args.arcs.now s.args.kind.now s.args.place.now s.args.weight.now
+    net_of s.args.net.now
 
 -- whether a transition would start
 abbrev on : tie.Start invariant-loop decreases-loop → Transition → Bool
-on s = ready (readable (net_at s)) (marking s.args.places s.args.counts.now)
+on s = ready (readable (net_at s)) (marking s.args.net.now.places s.args.counts.now)
 
 loop-holds : tie.Need-loop-j-init invariant-loop decreases-loop
-loop-holds c = any_whole (on c) (net_at c) c.args.transitions
+loop-holds c = any_whole (on c) (net_at c) c.args.net.now.transitions
 
 add-k : tie.Need-overflow_add-k invariant-loop decreases-loop
 add-k c = search rules
@@ -55,7 +54,7 @@ returns : tie.Need-returns-then-enabled invariant-loop decreases-loop
 returns c =
     let f = c.before.before in
     let l = f.before.before.before in
-    any_stop (on l.before) (net_at l.before) l.loop-j.j l.args.transitions l.loop-j.invariant f.loop-j-test.true
+    any_stop (on l.before) (net_at l.before) l.loop-j.j l.args.net.now.transitions l.loop-j.invariant f.loop-j-test.true
     (λ i. f.if-delay-j.true i && (sym c.enabled.ensures ∙ c.if-enabled.true) i)
 
 loop-less : tie.Need-loop-j-smaller-else-enabled invariant-loop decreases-loop
@@ -65,7 +64,7 @@ loop-again : tie.Need-loop-j-preserved-else-enabled invariant-loop decreases-loo
 loop-again c =
     let f = c.before.before in
     let l = f.before.before.before in
-    any_go (on l.before) (net_at l.before) l.loop-j.j l.args.transitions l.loop-j.invariant f.loop-j-test.true
+    any_go (on l.before) (net_at l.before) l.loop-j.j l.args.net.now.transitions l.loop-j.invariant f.loop-j-test.true
     (λ i. f.if-delay-j.true i && (sym c.enabled.ensures ∙ c.if-enabled.false) i)
 
 loop-less-2 : tie.Need-loop-j-smaller invariant-loop decreases-loop
@@ -75,13 +74,13 @@ loop-again-2 : tie.Need-loop-j-preserved invariant-loop decreases-loop
 loop-again-2 c =
     let l = c.before.before.before in
     let s = l.before in
-    any_go (on s) (net_at s) l.loop-j.j s.args.transitions l.loop-j.invariant c.loop-j-test.true
-    (λ i. c.if-delay-j.false i && enabled (readable (net_at s)) (marking s.args.places s.args.counts.now) (transition (net_at s) l.loop-j.j))
+    any_go (on s) (net_at s) l.loop-j.j s.args.net.now.transitions l.loop-j.invariant c.loop-j-test.true
+    (λ i. c.if-delay-j.false i && enabled (readable (net_at s)) (marking s.args.net.now.places s.args.counts.now) (transition (net_at s) l.loop-j.j))
 
 returns-2 : tie.Need-returns invariant-loop decreases-loop
 returns-2 c =
     let l = c.before in
-    any_end (on l.before) (net_at l.before) l.loop-j.j l.args.transitions l.loop-j.invariant c.loop-j-test.false
+    any_end (on l.before) (net_at l.before) l.loop-j.j l.args.net.now.transitions l.loop-j.invariant c.loop-j-test.false
 
 pub some_ready_spec : {M : Type 1} → statement M
 some_ready_spec =

@@ -8,7 +8,7 @@ use Prim.Native.Nat.{ℕ, suc, ◌+◌, ◌-◌, ◌≤◌, ◌<◌}
 use lib.ListN.{length, drop}
 use Rattle.net.specs.Net.{pick}
 use Rattle.net.specs.Readable.{readable}
-use Rattle.net.specs.Record.{lent}
+use Rattle.net.specs.Record.{lent, net_of}
 use Rattle.rng.specs.State.{words}
 use Rattle.rules.proofs.Play.{higher, play_within}
 use Rattle.jump.specs.Answers.{unit_wait}
@@ -68,7 +68,7 @@ loop-holds c =
         a.requires.0,
         a.requires.1,
         a.requires.3,
-        so_far_none (out_of s.halts) s.room _ s.last s.instants.now s.places s.steps s.s.next s.s.tokens s.s.peak _ s.table.now
+        so_far_none (out_of s.halts) s.room _ s.last s.instants.now s.net.now.places s.steps s.s.next s.s.tokens s.s.peak _ s.table.now
             a.requires.4 a.requires.8 a.requires.7,
         a.requires.9,
       ),
@@ -230,7 +230,7 @@ returns : tie.Need-returns invariant-loop decreases-loop
 returns c =
     let l = c.before.before in
     let a = l.args in
-    let net = lent a.places a.transitions a.initial.now a.capacity.now a.rate.now a.delay.now a.arcs.now a.kind.now a.place.now a.weight.now in
+    let net = net_of a.net.now in
     let r = c.stopped.ensures in
     let e : walked_at l.loop-going.end l.loop-going.done l.loop-going.rounded l.loop-going.at ≡ c.stopped.result =
     λ i. record {

@@ -9,7 +9,7 @@ use lib.Dec.{leb-zero}
 use Rattle.words.specs.Bits.{bit}
 use Rattle.net.specs.declared.Net.{Net as NetRecord}
 use Rattle.net.specs.Readable.{readable}
-use Rattle.net.specs.Record.{lent}
+use Rattle.net.specs.Record.{lent, net_of}
 use Rattle.rules.specs.Step as Rule
 use Rattle.engine.specs.Engine.{marking}
 use Rattle.engine.specs.Guards.{Quiet}
@@ -38,12 +38,11 @@ decreases-loop places transitions initial capacity rate delay arcs kind place we
 
 abbrev net_at : tie.Start invariant-loop decreases-loop → NetRecord
 net_at s =
-    lent s.args.places s.args.transitions s.args.initial.now s.args.capacity.now s.args.rate.now s.args.delay.now
-    s.args.arcs.now s.args.kind.now s.args.place.now s.args.weight.now
+    net_of s.args.net.now
 
 loop-holds : tie.Need-loop-ahead-init invariant-loop decreases-loop
 loop-holds c =
-    let m = marking c.args.places c.args.counts.now in (
+    let m = marking c.args.net.now.places c.args.counts.now in (
       omega arith,
       so_none _ _ (from_first c.args.room (net_at c) c.args.t m (timers_of c.args.ats.now c.args.owners.now c.args.ring)),
       c.requires.0,
@@ -61,14 +60,14 @@ cast-j : tie.Need-overflow_cast-j invariant-loop decreases-loop
 cast-j c = let i = c in
     let l = i.loop-ahead in
     let s = i.before.before in
-    omega (arith, next_small (net_at s) s.args.timed s.requires.3 (marking s.args.places l.counts) l.tried l.from l.ahead l.invariant.5 i.loop-ahead-test.true)
+    omega (arith, next_small (net_at s) s.args.tables.now.timed s.requires.3 (marking s.args.net.now.places l.counts) l.tried l.from l.ahead l.invariant.5 i.loop-ahead-test.true)
 
 try-start-requires : tie.Need-try_start-s-requires invariant-loop decreases-loop
 try-start-requires c κs =
     let i = c.before.before.before in
     let l = i.loop-ahead in
     let s = i.before.before in
-    (next_inside (net_at s) s.args.timed s.requires.3 (marking s.args.places l.counts) l.tried l.from l.ahead l.invariant.5 i.loop-ahead-test.true, l.invariant.2, l.invariant.3, s.requires.2)
+    (next_inside (net_at s) s.args.tables.now.timed s.requires.3 (marking s.args.net.now.places l.counts) l.tried l.from l.ahead l.invariant.5 i.loop-ahead-test.true, l.invariant.2, l.invariant.3, s.requires.2)
 
 returns : tie.Need-returns-then-s invariant-loop decreases-loop
 returns c =
@@ -77,8 +76,8 @@ returns c =
     let l = i.loop-ahead in
     let s = i.before.before in
     let j = count_trailing_zeros 64 l.ahead in (
-      turn_full (so_skip l.invariant.1 (skips (net_at s) s.args.timed s.requires.3 (marking s.args.places l.counts) l.tried l.from l.ahead l.invariant.5 i.loop-ahead-test.true s.args.room s.args.t (timers_of l.ats l.owners l.k))) (pass_from s.args.room (net_at s) s.args.t (j + 1)) _ _ u.try_start-s.ensures.0
-          (from_next s.args.room (net_at s) s.args.t (marking s.args.places l.counts) (timers_of l.ats l.owners l.k) j (next_inside (net_at s) s.args.timed s.requires.3 (marking s.args.places l.counts) l.tried l.from l.ahead l.invariant.5 i.loop-ahead-test.true))
+      turn_full (so_skip l.invariant.1 (skips (net_at s) s.args.tables.now.timed s.requires.3 (marking s.args.net.now.places l.counts) l.tried l.from l.ahead l.invariant.5 i.loop-ahead-test.true s.args.room s.args.t (timers_of l.ats l.owners l.k))) (pass_from s.args.room (net_at s) s.args.t (j + 1)) _ _ u.try_start-s.ensures.0
+          (from_next s.args.room (net_at s) s.args.t (marking s.args.net.now.places l.counts) (timers_of l.ats l.owners l.k) j (next_inside (net_at s) s.args.tables.now.timed s.requires.3 (marking s.args.net.now.places l.counts) l.tried l.from l.ahead l.invariant.5 i.loop-ahead-test.true))
           c.if-s.true,
       (u.try_start-s.ensures.1.0, λ f. absurd (true≢false (sym c.if-s.true ∙ f))),
     )
@@ -88,21 +87,21 @@ add-from c =
     let i = c.before.before.before.before.before.before.before.before.before.before in
     let l = i.loop-ahead in
     let s = i.before.before in
-    omega (arith, next_small (net_at s) s.args.timed s.requires.3 (marking s.args.places l.counts) l.tried l.from l.ahead l.invariant.5 i.loop-ahead-test.true)
+    omega (arith, next_small (net_at s) s.args.tables.now.timed s.requires.3 (marking s.args.net.now.places l.counts) l.tried l.from l.ahead l.invariant.5 i.loop-ahead-test.true)
 
 from-bit-requires : tie.Need-from_bit-ahead-requires invariant-loop decreases-loop
 from-bit-requires c κs =
     let i = c.before.before.before.before.before.before.before.before.before.before in
     let l = i.loop-ahead in
     let s = i.before.before in
-    omega (arith, next_small (net_at s) s.args.timed s.requires.3 (marking s.args.places l.counts) l.tried l.from l.ahead l.invariant.5 i.loop-ahead-test.true)
+    omega (arith, next_small (net_at s) s.args.tables.now.timed s.requires.3 (marking s.args.net.now.places l.counts) l.tried l.from l.ahead l.invariant.5 i.loop-ahead-test.true)
 
 loop-less : tie.Need-loop-ahead-smaller invariant-loop decreases-loop
 loop-less c =
     let i = c.before.before.before.before.before.before.before.before.before.before.before in
     let l = i.loop-ahead in
     let s = i.before.before in
-    omega (arith, next_from (net_at s) s.args.timed s.requires.3 (marking s.args.places l.counts) l.tried l.from l.ahead l.invariant.5 i.loop-ahead-test.true, next_inside (net_at s) s.args.timed s.requires.3 (marking s.args.places l.counts) l.tried l.from l.ahead l.invariant.5 i.loop-ahead-test.true)
+    omega (arith, next_from (net_at s) s.args.tables.now.timed s.requires.3 (marking s.args.net.now.places l.counts) l.tried l.from l.ahead l.invariant.5 i.loop-ahead-test.true, next_inside (net_at s) s.args.tables.now.timed s.requires.3 (marking s.args.net.now.places l.counts) l.tried l.from l.ahead l.invariant.5 i.loop-ahead-test.true)
 
 loop-again : tie.Need-loop-ahead-preserved invariant-loop decreases-loop
 loop-again c =
@@ -112,14 +111,14 @@ loop-again c =
     let s = i.before.before in
     let j = count_trailing_zeros 64 l.ahead in
     let q = u.try_start-s.ensures.1.1 c.if-s.false in (
-      omega (arith, next_inside (net_at s) s.args.timed s.requires.3 (marking s.args.places l.counts) l.tried l.from l.ahead l.invariant.5 i.loop-ahead-test.true),
-      turned (so_skip l.invariant.1 (skips (net_at s) s.args.timed s.requires.3 (marking s.args.places l.counts) l.tried l.from l.ahead l.invariant.5 i.loop-ahead-test.true s.args.room s.args.t (timers_of l.ats l.owners l.k))) (pass_from s.args.room (net_at s) s.args.t (j + 1)) u.try_start-s.ensures.0
-          (from_next s.args.room (net_at s) s.args.t (marking s.args.places l.counts) (timers_of l.ats l.owners l.k) j (next_inside (net_at s) s.args.timed s.requires.3 (marking s.args.places l.counts) l.tried l.from l.ahead l.invariant.5 i.loop-ahead-test.true))
+      omega (arith, next_inside (net_at s) s.args.tables.now.timed s.requires.3 (marking s.args.net.now.places l.counts) l.tried l.from l.ahead l.invariant.5 i.loop-ahead-test.true),
+      turned (so_skip l.invariant.1 (skips (net_at s) s.args.tables.now.timed s.requires.3 (marking s.args.net.now.places l.counts) l.tried l.from l.ahead l.invariant.5 i.loop-ahead-test.true s.args.room s.args.t (timers_of l.ats l.owners l.k))) (pass_from s.args.room (net_at s) s.args.t (j + 1)) u.try_start-s.ensures.0
+          (from_next s.args.room (net_at s) s.args.t (marking s.args.net.now.places l.counts) (timers_of l.ats l.owners l.k) j (next_inside (net_at s) s.args.tables.now.timed s.requires.3 (marking s.args.net.now.places l.counts) l.tried l.from l.ahead l.invariant.5 i.loop-ahead-test.true))
           c.if-s.false,
       u.try_start-s.ensures.1.0.0,
       u.try_start-s.ensures.1.0.1,
       quiet_more (readable (net_at s)) _ _ _ l.moved l.crossed u.try_start-s.result.moved u.try_start-s.result.crossed l.invariant.4 q,
-      goes_on (net_at s) s.args.timed s.requires.3 (marking s.args.places l.counts) l.tried l.from l.ahead l.invariant.5 u.try_start-s.result.crossed q _ _
+      goes_on (net_at s) s.args.tables.now.timed s.requires.3 (marking s.args.net.now.places l.counts) l.tried l.from l.ahead l.invariant.5 u.try_start-s.result.crossed q _ _
           c.from_bit-ahead.ensures.0 c.from_bit-ahead.ensures.1,
     )
 
@@ -128,7 +127,7 @@ returns-2 c =
     let l = c.loop-ahead in
     let s = c.before.before in (
       so_ended l.invariant.1 [] _ _ l.k l.moved l.crossed
-          (ends (net_at s) s.args.timed s.requires.3 (marking s.args.places l.counts) l.tried l.from l.ahead l.invariant.5 c.loop-ahead-test.false s.args.room s.args.t (timers_of l.ats l.owners l.k))
+          (ends (net_at s) s.args.tables.now.timed s.requires.3 (marking s.args.net.now.places l.counts) l.tried l.from l.ahead l.invariant.5 c.loop-ahead-test.false s.args.room s.args.t (timers_of l.ats l.owners l.k))
           refl,
       ((l.invariant.2, l.invariant.3), λ f. l.invariant.4),
     )

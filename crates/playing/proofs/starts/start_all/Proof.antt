@@ -9,7 +9,7 @@ use Rattle.words.specs.Bits.{bit}
 use Prim.Native.Nat.{ℕ, suc, ◌+◌, ◌-◌, ◌≤◌}
 use Rattle.net.specs.declared.Net.{Net as NetRecord}
 use Rattle.net.specs.Readable.{readable}
-use Rattle.net.specs.Record.{lent}
+use Rattle.net.specs.Record.{lent, net_of}
 use Rattle.rules.specs.Step as Rule
 use Rattle.engine.specs.Engine.{marking}
 use Rattle.engine.specs.Guards.{Quiet}
@@ -42,17 +42,16 @@ decreases-loop places transitions initial capacity rate delay arcs kind place we
 
 abbrev net_at : tie.Start invariant-loop decreases-loop → NetRecord
 net_at s =
-    lent s.args.places s.args.transitions s.args.initial.now s.args.capacity.now s.args.rate.now s.args.delay.now
-    s.args.arcs.now s.args.kind.now s.args.place.now s.args.weight.now
+    net_of s.args.net.now
 
-asked : (s : tie.Start invariant-loop decreases-loop) → ShutBut (bit_and s.args.before s.args.timed) (readable (net_at s)) (marking s.args.places s.args.counts.now)
-asked s = asked_shut (net_at s) s.args.timed s.requires.3 (marking s.args.places s.args.counts.now) s.args.before s.requires.4
+asked : (s : tie.Start invariant-loop decreases-loop) → ShutBut (bit_and s.args.before s.args.tables.now.timed) (readable (net_at s)) (marking s.args.net.now.places s.args.counts.now)
+asked s = asked_shut (net_at s) s.args.tables.now.timed s.requires.3 (marking s.args.net.now.places s.args.counts.now) s.args.before s.requires.4
 
 returns : tie.Need-returns-then-asked-eq0 invariant-loop decreases-loop
 returns c =
     let s = c.before in (
-      done [] refl (none_asked (net_at s) (marking s.args.places s.args.counts.now) _ c.if-asked-eq0.true (asked s) s.args.room s.args.t (timers_of s.args.ats.now s.args.owners.now s.args.ring) s.args.room) refl,
-      ((s.requires.0, s.requires.1), λ f. quiet_none (readable (net_at s)) (marking s.args.places s.args.counts.now)),
+      done [] refl (none_asked (net_at s) (marking s.args.net.now.places s.args.counts.now) _ c.if-asked-eq0.true (asked s) s.args.room s.args.t (timers_of s.args.ats.now s.args.owners.now s.args.ring) s.args.room) refl,
+      ((s.requires.0, s.requires.1), λ f. quiet_none (readable (net_at s)) (marking s.args.net.now.places s.args.counts.now)),
     )
 
 loop-holds : tie.Need-loop-i-init invariant-loop decreases-loop
@@ -61,12 +60,12 @@ loop-holds c =
     let all : suc s.args.room - 0 ≡ suc s.args.room = omega arith in (
       omega arith,
       so_none _ _
-          (ap (λ (k : ℕ). Rule.passes k s.args.room (readable (net_at s)) s.args.t (marking s.args.places s.args.counts.now)
+          (ap (λ (k : ℕ). Rule.passes k s.args.room (readable (net_at s)) s.args.t (marking s.args.net.now.places s.args.counts.now)
           (timers_of s.args.ats.now s.args.owners.now s.args.ring)) all),
       s.requires.0,
       s.requires.1,
-      quiet_none (readable (net_at s)) (marking s.args.places s.args.counts.now),
-      asked_only s.args.before s.args.timed,
+      quiet_none (readable (net_at s)) (marking s.args.net.now.places s.args.counts.now),
+      asked_only s.args.before s.args.tables.now.timed,
       asked s,
     )
 
@@ -84,7 +83,7 @@ returns-2 c =
     let l = b.loop-i in
     let s = b.before.before.before in (
       again_full l.invariant.1 (Rule.passes (suc s.args.room - (l.i + 1)) s.args.room (readable (net_at s)) s.args.t) _ _ u.pass-s.ensures.0
-          (passes_next s.args.room (readable (net_at s)) s.args.t (marking s.args.places l.counts) (timers_of l.ats l.owners l.k) (suc s.args.room) l.i (omega (arith, b.loop-i-test.true)))
+          (passes_next s.args.room (readable (net_at s)) s.args.t (marking s.args.net.now.places l.counts) (timers_of l.ats l.owners l.k) (suc s.args.room) l.i (omega (arith, b.loop-i-test.true)))
           c.if-s.true,
       (u.pass-s.ensures.1.0, λ f. absurd (true≢false (sym c.if-s.true ∙ f))),
     )
@@ -97,7 +96,7 @@ returns-3 c =
     let s = b.before.before.before in
     let n = c.if-s.false in (
       again_ended l.invariant.1 (Rule.passes (suc s.args.room - (l.i + 1)) s.args.room (readable (net_at s)) s.args.t) u.pass-s.result.timers _ _ u.pass-s.ensures.0
-          (passes_next s.args.room (readable (net_at s)) s.args.t (marking s.args.places l.counts) (timers_of l.ats l.owners l.k) (suc s.args.room) l.i (omega (arith, b.loop-i-test.true)))
+          (passes_next s.args.room (readable (net_at s)) s.args.t (marking s.args.net.now.places l.counts) (timers_of l.ats l.owners l.k) (suc s.args.room) l.i (omega (arith, b.loop-i-test.true)))
           n (not-true _ c.if-not-s.true),
       (u.pass-s.ensures.1.0, λ f. quiet_more (readable (net_at s)) _ _ _ l.moved l.crossed u.pass-s.result.moved u.pass-s.result.crossed l.invariant.4 (u.pass-s.ensures.1.1 n)),
     )
@@ -122,13 +121,13 @@ loop-again c =
     let q = u.pass-s.ensures.1.1 n in (
       omega (arith, b.loop-i-test.true),
       again_turned l.invariant.1 (Rule.passes (suc s.args.room - (l.i + 1)) s.args.room (readable (net_at s)) s.args.t) u.pass-s.ensures.0
-          (passes_next s.args.room (readable (net_at s)) s.args.t (marking s.args.places l.counts) (timers_of l.ats l.owners l.k) (suc s.args.room) l.i (omega (arith, b.loop-i-test.true)))
+          (passes_next s.args.room (readable (net_at s)) s.args.t (marking s.args.net.now.places l.counts) (timers_of l.ats l.owners l.k) (suc s.args.room) l.i (omega (arith, b.loop-i-test.true)))
           n (not-false _ c.if-not-s.false),
       u.pass-s.ensures.1.0.0,
       u.pass-s.ensures.1.0.1,
       quiet_more (readable (net_at s)) _ _ _ l.moved l.crossed u.pass-s.result.moved u.pass-s.result.crossed l.invariant.4 q,
-      joined_only s.args.timed u.pass-s.result.crossed l.asked l.invariant.5,
-      shut_joined (net_at s) u.pass-s.result.crossed s.args.timed l.asked s.requires.3 l.invariant.6 q,
+      joined_only s.args.tables.now.timed u.pass-s.result.crossed l.asked l.invariant.5,
+      shut_joined (net_at s) u.pass-s.result.crossed s.args.tables.now.timed l.asked s.requires.3 l.invariant.6 q,
     )
 
 returns-4 : tie.Need-returns invariant-loop decreases-loop
@@ -136,7 +135,7 @@ returns-4 c =
     let l = c.loop-i in
     let s = c.before.before.before in (
       so_ended l.invariant.1 [] _ _ l.k _ _
-          (passes_end s.args.room (readable (net_at s)) s.args.t (marking s.args.places l.counts) (timers_of l.ats l.owners l.k) (suc s.args.room) l.i (omega (arith, c.loop-i-test.false)))
+          (passes_end s.args.room (readable (net_at s)) s.args.t (marking s.args.net.now.places l.counts) (timers_of l.ats l.owners l.k) (suc s.args.room) l.i (omega (arith, c.loop-i-test.false)))
           refl,
       ((l.invariant.2, l.invariant.3), λ f. l.invariant.4),
     )

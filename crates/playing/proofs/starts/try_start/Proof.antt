@@ -10,7 +10,7 @@ use lib.ListN.{length}
 use Rattle.net.specs.declared.Net.{Net as NetRecord}
 use Rattle.net.specs.Net.{Marking, pick}
 use Rattle.net.specs.Readable.{readable, transition}
-use Rattle.net.specs.Record.{lent}
+use Rattle.net.specs.Record.{net_of}
 use Rattle.rules.specs.Timers.{Timer, timer_of, insert}
 use Rattle.engine.specs.Engine.{marking}
 use Rattle.timers.specs.Turning.{timers_of, has_room}
@@ -27,11 +27,10 @@ use Rattle.playing.proofs.starts.try_start.Tie as tie
 -- the net, the counts and the timers at the call
 abbrev net_at : tie.Start → NetRecord
 net_at s =
-    lent s.args.places s.args.transitions s.args.initial.now s.args.capacity.now s.args.rate.now s.args.delay.now
-    s.args.arcs.now s.args.kind.now s.args.place.now s.args.weight.now
+    net_of s.args.net.now
 
 abbrev counts_at : tie.Start → Marking
-counts_at s = marking s.args.places s.args.counts.now
+counts_at s = marking s.args.net.now.places s.args.counts.now
 
 abbrev timers_at : tie.Start → List Timer
 timers_at s = timers_of s.args.ats.now s.args.owners.now s.args.ring
@@ -86,7 +85,7 @@ returns c =
           },
           one_more_fits x s.args.ats.now c.insert-put.new.ats s.args.owners.now c.insert-put.new.owners s.requires.2 list,
         ),
-        λ f. (k.take-took.ensures.4 s.args.transitions s.args.initial.now s.args.capacity.now s.args.rate.now s.args.delay.now s.requires.1.tidy s.requires.3).0,
+        λ f. (k.take-took.ensures.4 s.args.net.now.transitions s.args.net.now.initial.now s.args.net.now.capacity.now s.args.net.now.rate.now s.args.net.now.delay.now s.requires.1.tidy s.requires.3).0,
       ),
     )
 

@@ -2,7 +2,7 @@
 use Prim.Native.Nat.{◌/◌, ◌%◌, ◌<◌}
 use native.Mathlib.Omega.{arith}
 use Rattle.net.specs.declared.Net.{Net as NetRecord}
-use Rattle.net.specs.Record.{lent}
+use Rattle.net.specs.Record.{net_of}
 use Rattle.gates.proofs.Arcs.{light}
 use Rattle.sde.proofs.Changes.{change_made}
 use borrow.Author.Rules.{rules}
@@ -11,10 +11,9 @@ use Rattle.sde.proofs.change.change_of.Tie as tie
 
 abbrev net_at : tie.Start → NetRecord
 net_at s =
-    lent s.args.places s.args.transitions s.args.initial.now s.args.capacity.now s.args.rate.now s.args.delay.now
-    s.args.arcs.now s.args.kind.now s.args.place.now s.args.weight.now
+    net_of s.args.net.now
 
-inside : (s : tie.Start) → s.args.c / 32 < s.args.transitions
+inside : (s : tie.Start) → s.args.c / 32 < s.args.net.now.transitions
 inside s = omega (arith, s.requires.0)
 
 mul-from : tie.Need-overflow_mul-from

@@ -3,7 +3,7 @@ use borrow.Author.Count.{below_none}
 use lib.ListN.{length, get_or, length-set}
 use lib.Ieee.{nan}
 use Rattle.net.specs.declared.Net.{Net as NetRecord}
-use Rattle.net.specs.Record.{lent}
+use Rattle.net.specs.Record.{lent, net_of}
 use Rattle.sde.specs.Slots.{change_of}
 use Rattle.sde.proofs.Changes.{cells_more}
 use borrow.Author.Rules.{rules}
@@ -23,8 +23,7 @@ decreases-loop places transitions initial capacity rate delay arcs kind place we
 
 abbrev net_at : tie.Start invariant-loop decreases-loop → NetRecord
 net_at s =
-    lent s.args.places s.args.transitions s.args.initial.now s.args.capacity.now s.args.rate.now s.args.delay.now
-    s.args.arcs.now s.args.kind.now s.args.place.now s.args.weight.now
+    net_of s.args.net.now
 
 mul-end : tie.Need-overflow_mul-end invariant-loop decreases-loop
 mul-end c = omega (arith, c.requires.0.transitions)

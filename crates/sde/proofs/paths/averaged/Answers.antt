@@ -11,7 +11,7 @@ sum_paths-k-requires c =
 pub returns-then-k-realizations : goal.returns-then-k-realizations
 returns-then-k-realizations c =
     let s = c in
-    call_stopped (s.args.places * s.args.n) s.args.realizations c.sum_paths-k.result _ _ _ _ _ c.sum_paths-k.ensures s.requires.8 s.requires.9 s.requires.10
+    call_stopped (s.args.net.now.places * s.args.n) s.args.realizations c.sum_paths-k.result _ _ _ _ _ c.sum_paths-k.ensures s.requires.8 s.requires.9 s.requires.10
     c.if-k-realizations.true _ _ _ c.clear.ensures c.clear-then-k-realizations.ensures c.clear-then-k-realizations-2.ensures
 
 pub finish-requires : goal.finish-requires
@@ -21,5 +21,5 @@ pub returns : goal.returns
 returns c =
     let s = c in
     let f = c.finish.ensures in
-    call_averaged (s.args.places * s.args.n) s.args.realizations c.sum_paths-k.result _ _ _ _ _ c.sum_paths-k.ensures s.requires.8 s.requires.9 s.requires.10
+    call_averaged (s.args.net.now.places * s.args.n) s.args.realizations c.sum_paths-k.result _ _ _ _ _ c.sum_paths-k.ensures s.requires.8 s.requires.9 s.requires.10
     c.if-k-realizations.false _ _ _ f.0 f.1 f.2

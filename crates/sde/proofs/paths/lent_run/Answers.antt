@@ -18,7 +18,7 @@ fill_changes-requires c =
     let s = c in
     let g = s.args in
     let r = c.fill_rates in
-    (tidied_sound g.places g.transitions g.initial.now g.capacity.now g.rate.now r.new.rates g.delay.now g.arcs.now g.kind.now g.place.now g.weight.now r.ensures s.requires.0, refl)
+    (tidied_sound g.net.now.places g.net.now.transitions g.net.now.initial.now g.net.now.capacity.now g.net.now.rate.now r.new.rates g.net.now.delay.now g.net.now.arcs.now g.net.now.kind.now g.net.now.place.now g.net.now.weight.now r.ensures s.requires.0, refl)
 
 pub fill_ends-requires : goal.fill_ends-requires
 fill_ends-requires c = let s = c in (s.requires.0.transitions, s.requires.0.arcs, refl)
@@ -28,9 +28,9 @@ averaged-requires c =
     let s = c in
     let g = s.args in
     let r = c.fill_rates in (
-      tidied_sound g.places g.transitions g.initial.now g.capacity.now g.rate.now r.new.rates g.delay.now g.arcs.now g.kind.now g.place.now g.weight.now r.ensures s.requires.0,
+      tidied_sound g.net.now.places g.net.now.transitions g.net.now.initial.now g.net.now.capacity.now g.net.now.rate.now r.new.rates g.net.now.delay.now g.net.now.arcs.now g.net.now.kind.now g.net.now.place.now g.net.now.weight.now r.ensures s.requires.0,
       record {
-        of_rates = rated g.places g.transitions g.initial.now g.capacity.now g.rate.now r.new.rates g.delay.now g.arcs.now g.kind.now g.place.now g.weight.now r.ensures;
+        of_rates = rated g.net.now.places g.net.now.transitions g.net.now.initial.now g.net.now.capacity.now g.net.now.rate.now r.new.rates g.net.now.delay.now g.net.now.arcs.now g.net.now.kind.now g.net.now.place.now g.net.now.weight.now r.ensures;
         of_changes = c.fill_changes.ensures;
         of_skips = c.fill_skips.ensures;
         of_ends = c.fill_ends.ensures;
@@ -53,6 +53,6 @@ returns c =
     let r = c.fill_rates in
     by_free c.gates_of-g.result _ c.gates_of-g.ensures c.is_gated.result c.is_gated.ensures _ _ c.if-is_gated.false
     (c.averaged.ensures
-    ∙ ap (tabulated (g.places * g.samples) (record { mean = g.mean.now; deviation = g.deviation.now; path = g.path.now }))
-    (members_same g.places g.transitions g.initial.now g.capacity.now g.rate.now r.new.rates g.delay.now g.arcs.now g.kind.now g.place.now g.weight.now r.ensures
+    ∙ ap (tabulated (g.net.now.places * g.samples) (record { mean = g.mean.now; deviation = g.deviation.now; path = g.path.now }))
+    (members_same g.net.now.places g.net.now.transitions g.net.now.initial.now g.net.now.capacity.now g.net.now.rate.now r.new.rates g.net.now.delay.now g.net.now.arcs.now g.net.now.kind.now g.net.now.place.now g.net.now.weight.now r.ensures
     (record { samples = g.samples; realizations = g.realizations; seed = g.seed; horizon = g.horizon }) 0 g.realizations))

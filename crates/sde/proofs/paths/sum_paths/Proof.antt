@@ -2,7 +2,7 @@
 use lib.ListN.{length}
 use lib.Ieee.{Float}
 use Rattle.net.specs.declared.Net.{Net as NetRecord}
-use Rattle.net.specs.Record.{lent}
+use Rattle.net.specs.Record.{lent, net_of}
 use Rattle.net.specs.Readable.{readable}
 use Rattle.averages.specs.Request.{Request}
 use Rattle.averages.specs.Moments.{plus, plus_square}
@@ -32,8 +32,7 @@ decreases-loop places transitions initial capacity rate delay arcs kind place we
 
 abbrev net_at : tie.Start invariant-loop decreases-loop → NetRecord
 net_at s =
-    lent s.args.places s.args.transitions s.args.initial.now s.args.capacity.now s.args.rate.now s.args.delay.now
-    s.args.arcs.now s.args.kind.now s.args.place.now s.args.weight.now
+    net_of s.args.net.now
 
 abbrev request : tie.Start invariant-loop decreases-loop → Request
 request s = asked s.args.n s.args.realizations s.args.seed s.args.horizon
@@ -50,7 +49,7 @@ clear-requires-2 c κs = search rules
 loop-holds : tie.Need-loop-k-init invariant-loop decreases-loop
 loop-holds c =
     let s = c.before.before.before.before.before.before.before.before.before.before.before in
-    let cells = s.args.places * s.args.n in
+    let cells = s.args.net.now.places * s.args.n in
     let e = none_yet plus cells s.args.mean.now _ s.requires.7 c.clear.ensures in
     let f = none_yet plus_square cells s.args.deviation.now _ s.requires.8 c.clear-2.ensures in (
       omega arith,
@@ -86,7 +85,7 @@ returns c =
     let l = c.before.before.before.before.before.before.before.before.before in
     let s = c.before.before.before.before.before.before.before.before.before.before.before.before.before.before.before.before.before.before.before.before.before in
     let w = c.walk-stopped in
-    let cells = s.args.places * s.args.n in
+    let cells = s.args.net.now.places * s.args.n in
     let e = none_yet plus cells s.args.mean.now _ s.requires.7 c.clear.ensures in
     let f = none_yet plus_square cells s.args.deviation.now _ s.requires.8 c.clear-2.ensures in
     summed_from e.1 f.1
@@ -108,7 +107,7 @@ loop-again c =
     let l = c.before.before.before.before.before.before.before.before.before.before.before.before.before.before.before.before.before.before.before in
     let s = c.before.before.before.before.before.before.before.before.before.before.before.before.before.before.before.before.before.before.before.before.before.before.before.before.before.before.before.before.before in
     let w = c.walk-stopped in
-    let cells = s.args.places * s.args.n in
+    let cells = s.args.net.now.places * s.args.n in
     let e = none_yet plus cells s.args.mean.now _ s.requires.7 c.clear.ensures in
     let f = none_yet plus_square cells s.args.deviation.now _ s.requires.8 c.clear-2.ensures in
     let u = sums_next (readable (net_at s)) (request s) cells c.loop-k.k c.loop-k.invariant.1 c.loop-k-test.true w.result _
@@ -134,7 +133,7 @@ returns-2 : tie.Need-returns invariant-loop decreases-loop
 returns-2 c =
     let l = c.before in
     let s = c.before.before.before.before.before.before.before.before.before.before.before.before.before in
-    let cells = s.args.places * s.args.n in
+    let cells = s.args.net.now.places * s.args.n in
     let e = none_yet plus cells s.args.mean.now _ s.requires.7 c.clear.ensures in
     let f = none_yet plus_square cells s.args.deviation.now _ s.requires.8 c.clear-2.ensures in
     summed_from e.1 f.1

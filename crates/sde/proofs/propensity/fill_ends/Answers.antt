@@ -23,7 +23,7 @@ loop-j-preserved c =
     let s = l in
     let g = s.args in (
       length-set l.loop-j.ends l.loop-j.j c.kinetic_end-e.result ∙ l.loop-j.invariant.0,
-      skips_more (λ (b e : ℕ). KineticEnd g.kind.now (16 * b) (16 * b + get_or g.arcs.now b 0) e) l.loop-j.ends l.loop-j.j c.kinetic_end-e.result
+      skips_more (λ (b e : ℕ). KineticEnd g.net.now.kind.now (16 * b) (16 * b + get_or g.net.now.arcs.now b 0) e) l.loop-j.ends l.loop-j.j c.kinetic_end-e.result
           (omega (arith, l.loop-j.invariant.0, s.requires.0, c.loop-j-test.true)) c.kinetic_end-e.ensures l.loop-j.invariant.1,
     )
 

@@ -18,7 +18,7 @@ loop-j-preserved c =
     let s = l in
     let r = c.rate_of-r.result in (
       length-set l.loop-j.rates l.loop-j.j r ∙ l.loop-j.invariant.0,
-      cells_more (λ (b : ℕ). tidy (get_or s.args.rate.now b nan) (get_or s.args.delay.now b nan)) l.loop-j.rates l.loop-j.j r
+      cells_more (λ (b : ℕ). tidy (get_or s.args.net.now.rate.now b nan) (get_or s.args.net.now.delay.now b nan)) l.loop-j.rates l.loop-j.j r
           (omega (arith, l.loop-j.invariant.0, s.requires.0)) c.rate_of-r.ensures l.loop-j.invariant.1,
     )
 

@@ -31,10 +31,10 @@ returns-then-spent c =
     let g = l.args in
     let i = l.loop-s.s in
     let t = c.loop-s-test.true in
-    let p = get_or g.place.now i 0 in
+    let p = get_or g.net.now.place.now i 0 in
     sym
-    (made (take g.places g.x.now) l.loop-s.a g.kind.now g.place.now g.weight.now i g.end t (get_or g.x.now p nan) c.times-b.result
-    (value_at g.places g.x.now p (l.requires.3 i l.loop-s.invariant.0 t)) c.times-b.ensures c.spent.result true
+    (made (take g.net.now.places g.x.now) l.loop-s.a g.net.now.kind.now g.net.now.place.now g.net.now.weight.now i g.end t (get_or g.x.now p nan) c.times-b.result
+    (value_at g.net.now.places g.x.now p (l.requires.3 i l.loop-s.invariant.0 t)) c.times-b.ensures c.spent.result true
     c.spent.ensures c.if-spent.true)
     ∙ l.loop-s.invariant.1
 
@@ -44,11 +44,11 @@ loop-s-preserved c =
     let g = l.args in
     let i = l.loop-s.s in
     let t = c.loop-s-test.true in
-    let p = get_or g.place.now i 0 in (
+    let p = get_or g.net.now.place.now i 0 in (
       omega arith,
       sym
-          (made (take g.places g.x.now) l.loop-s.a g.kind.now g.place.now g.weight.now i g.end t (get_or g.x.now p nan) c.times-b.result
-          (value_at g.places g.x.now p (l.requires.3 i l.loop-s.invariant.0 t)) c.times-b.ensures c.spent.result false
+          (made (take g.net.now.places g.x.now) l.loop-s.a g.net.now.kind.now g.net.now.place.now g.net.now.weight.now i g.end t (get_or g.x.now p nan) c.times-b.result
+          (value_at g.net.now.places g.x.now p (l.requires.3 i l.loop-s.invariant.0 t)) c.times-b.ensures c.spent.result false
           c.spent.ensures c.if-spent.false)
           ∙ l.loop-s.invariant.1,
     )
@@ -57,4 +57,4 @@ pub returns : goal.returns
 returns c =
     let l = c in
     let g = l.args in
-    factors_end (take g.places g.x.now) l.loop-s.a g.kind.now g.place.now g.weight.now l.loop-s.s g.end c.loop-s-test.false ∙ l.loop-s.invariant.1
+    factors_end (take g.net.now.places g.x.now) l.loop-s.a g.net.now.kind.now g.net.now.place.now g.net.now.weight.now l.loop-s.s g.end c.loop-s-test.false ∙ l.loop-s.invariant.1

@@ -1,7 +1,7 @@
 -- The slots of a transition of an accepted net name its places, and weigh little; its rate, which is tidy, and the factors up to its kinetic end. Assumes nothing.
 use native.Mathlib.Omega.{arith}
 use Rattle.net.specs.declared.Net.{Net as NetRecord}
-use Rattle.net.specs.Record.{lent}
+use Rattle.net.specs.Record.{net_of}
 use lib.ListN.{get_or, take}
 use Rattle.gates.proofs.Arcs.{light}
 use Rattle.sde.proofs.Factors.{inside}
@@ -12,8 +12,7 @@ use Rattle.sde.proofs.propensity.propensity.Tie as tie
 
 abbrev net_at : tie.Start → NetRecord
 net_at s =
-    lent s.args.places s.args.transitions s.args.initial.now s.args.capacity.now s.args.rate.now s.args.delay.now
-    s.args.arcs.now s.args.kind.now s.args.place.now s.args.weight.now
+    net_of s.args.net.now
 
 mul-product : tie.Need-overflow_mul-j
 mul-product c = search rules
@@ -45,7 +44,7 @@ returns : tie.Need-returns
 returns c =
     let s = c.before.before.before in
     let j = s.args.j in
-    propensity_within (net_at s.before) (take s.args.places s.args.x.now) j (get_or s.args.ends.now j 0) (s.requires.3 j s.requires.0) (s.requires.2 j s.requires.0) c.product.ensures
+    propensity_within (net_at s.before) (take s.args.net.now.places s.args.x.now) j (get_or s.args.ends.now j 0) (s.requires.3 j s.requires.0) (s.requires.2 j s.requires.0) c.product.ensures
 
 pub propensity_spec : {M : Type 1} → statement M
 propensity_spec =

@@ -1,6 +1,6 @@
 -- The substeps that are left, from the state so far, come to the whole. Assumes nothing.
 use Rattle.net.specs.declared.Net.{Net as NetRecord}
-use Rattle.net.specs.Record.{lent}
+use Rattle.net.specs.Record.{lent, net_of}
 use Rattle.net.specs.Readable.{readable}
 use Rattle.sde.specs.Diffusion.{substep, repeated, over_interval}
 use Rattle.sde.specs.Arrays.{state_of, Lengths}
@@ -24,8 +24,7 @@ decreases-loop places transitions initial capacity rate delay arcs kind place we
 
 abbrev net_at : tie.Start invariant-loop decreases-loop → NetRecord
 net_at s =
-    lent s.args.places s.args.transitions s.args.initial.now s.args.capacity.now s.args.rate.now s.args.delay.now
-    s.args.arcs.now s.args.kind.now s.args.place.now s.args.weight.now
+    net_of s.args.net.now
 
 loop-holds : tie.Need-loop-i-init invariant-loop decreases-loop
 loop-holds c = let s = c.before in (omega arith, interval_some (readable (net_at s)) s.args.dt _ c.if-dt.true, s.requires.3)
@@ -40,7 +39,7 @@ returns : tie.Need-returns-then-p invariant-loop decreases-loop
 returns c =
     let l = c.before.before.before.before.before in
     let s = c.before.before.before.before.before.before.before in (
-      repeated_stop (substep (readable (net_at s)) s.args.dt) 20 l.loop-i.i (state_of s.args.places l.loop-i.x l.loop-i.s) _ c.substep-p.result.stopped
+      repeated_stop (substep (readable (net_at s)) s.args.dt) 20 l.loop-i.i (state_of s.args.net.now.places l.loop-i.x l.loop-i.s) _ c.substep-p.result.stopped
           l.loop-i.invariant.1 c.loop-i-test.true c.substep-p.ensures.0 c.if-p.true,
       c.substep-p.ensures.1,
     )
@@ -53,7 +52,7 @@ loop-again c =
     let l = c.before.before.before.before.before.before in
     let s = c.before.before.before.before.before.before.before.before in (
       omega (arith, c.loop-i-test.true),
-      repeated_go (substep (readable (net_at s)) s.args.dt) 20 l.loop-i.i (state_of s.args.places l.loop-i.x l.loop-i.s) _ c.substep-p.result.stopped
+      repeated_go (substep (readable (net_at s)) s.args.dt) 20 l.loop-i.i (state_of s.args.net.now.places l.loop-i.x l.loop-i.s) _ c.substep-p.result.stopped
           l.loop-i.invariant.1 c.loop-i-test.true c.substep-p.ensures.0 c.if-p.false,
       c.substep-p.ensures.1,
     )
@@ -62,7 +61,7 @@ returns-2 : tie.Need-returns-then-dt invariant-loop decreases-loop
 returns-2 c =
     let l = c.before in
     let s = c.before.before.before in (
-      repeated_end (substep (readable (net_at s)) s.args.dt) 20 l.loop-i.i (state_of s.args.places l.loop-i.x l.loop-i.s) c.loop-i-test.false ∙ l.loop-i.invariant.1,
+      repeated_end (substep (readable (net_at s)) s.args.dt) 20 l.loop-i.i (state_of s.args.net.now.places l.loop-i.x l.loop-i.s) c.loop-i-test.false ∙ l.loop-i.invariant.1,
       l.loop-i.invariant.2,
     )
 

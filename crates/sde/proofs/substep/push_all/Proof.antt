@@ -2,7 +2,7 @@
 -- refused draw, and a draw whose noise and drift are spread. Assumes nothing.
 use mathlib.Core.Bool.{true, false}
 use Rattle.net.specs.declared.Net.{Net as NetRecord}
-use Rattle.net.specs.Record.{lent}
+use Rattle.net.specs.Record.{lent, net_of}
 use Rattle.net.specs.Readable.{transitions_from}
 use Rattle.sde.specs.Diffusion.{pushed_all}
 use Rattle.sde.specs.Arrays.{going_of, Lengths}
@@ -27,11 +27,10 @@ decreases-loop places transitions initial capacity rate delay arcs kind place we
 
 abbrev net_at : tie.Start invariant-loop decreases-loop → NetRecord
 net_at s =
-    lent s.args.places s.args.transitions s.args.initial.now s.args.capacity.now s.args.rate.now s.args.delay.now
-    s.args.arcs.now s.args.kind.now s.args.place.now s.args.weight.now
+    net_of s.args.net.now
 
 loop-holds : tie.Need-loop-j-init invariant-loop decreases-loop
-loop-holds c = (omega arith, all_whole (net_at c) c.args.dt c.args.transitions _, c.requires.3)
+loop-holds c = (omega arith, all_whole (net_at c) c.args.dt c.args.net.now.transitions _, c.requires.3)
 
 add-next : tie.Need-overflow_add-next invariant-loop decreases-loop
 add-next c = search rules
@@ -58,7 +57,7 @@ spread-requires c κs =
       omega (arith, h, s.requires.0.transitions),
       s.requires.0.places,
       c.loop-j.invariant.2,
-      skips_of s.args.places c.loop-j.j s.args.changes.now s.args.skips.now s.args.transitions h s.requires.0.places s.requires.1.of_skips,
+      skips_of s.args.net.now.places c.loop-j.j s.args.changes.now s.args.skips.now s.args.net.now.transitions h s.requires.0.places s.requires.1.of_skips,
     )
 
 enum_told : tie.Need-enum_told-1 invariant-loop decreases-loop
@@ -71,10 +70,10 @@ returns c =
     let g = s.args in
     let h = c.loop-j-test.true in
     let y =
-    push_refused (net_at s) g.changes.now c.loop-j.j g.places h s.requires.0.places s.requires.1.of_changes c.loop-j.x c.loop-j.drift c.loop-j.invariant.2.of_x c.loop-j.invariant.2.of_drift
+    push_refused (net_at s) g.changes.now c.loop-j.j g.net.now.places h s.requires.0.places s.requires.1.of_changes c.loop-j.x c.loop-j.drift c.loop-j.invariant.2.of_x c.loop-j.invariant.2.of_drift
     g.dt g.root c.propensity-a.result c.loop-j.s s.requires.2 c.propensity-a.ensures c.if-a.false c.normal-drawn.result c.normal-drawn.ensures
     c.in-Refused.is in (
-      all_stop (net_at s) g.dt c.loop-j.j g.transitions (going_of g.places c.loop-j.x c.loop-j.drift c.loop-j.s) (going_of g.places c.loop-j.x c.loop-j.drift c.loop-j.s) true
+      all_stop (net_at s) g.dt c.loop-j.j g.net.now.transitions (going_of g.net.now.places c.loop-j.x c.loop-j.drift c.loop-j.s) (going_of g.net.now.places c.loop-j.x c.loop-j.drift c.loop-j.s) true
           c.loop-j.invariant.1 h y refl,
       c.loop-j.invariant.2,
     )
@@ -89,10 +88,10 @@ loop-again c =
     let g = s.args in
     let h = c.loop-j-test.true in
     let y =
-    push_nothing (net_at s) g.changes.now c.loop-j.j g.places h s.requires.0.places s.requires.1.of_changes c.loop-j.x c.loop-j.drift c.loop-j.invariant.2.of_x c.loop-j.invariant.2.of_drift
+    push_nothing (net_at s) g.changes.now c.loop-j.j g.net.now.places h s.requires.0.places s.requires.1.of_changes c.loop-j.x c.loop-j.drift c.loop-j.invariant.2.of_x c.loop-j.invariant.2.of_drift
     g.dt g.root c.propensity-a.result c.loop-j.s s.requires.2 c.propensity-a.ensures c.if-a.true in (
       omega (arith, h),
-      all_go (net_at s) g.dt c.loop-j.j g.transitions (going_of g.places c.loop-j.x c.loop-j.drift c.loop-j.s) (going_of g.places c.loop-j.x c.loop-j.drift c.loop-j.s) false
+      all_go (net_at s) g.dt c.loop-j.j g.net.now.transitions (going_of g.net.now.places c.loop-j.x c.loop-j.drift c.loop-j.s) (going_of g.net.now.places c.loop-j.x c.loop-j.drift c.loop-j.s) false
           c.loop-j.invariant.1 h y refl,
       c.loop-j.invariant.2,
     )
@@ -108,11 +107,11 @@ loop-again-2 c =
     let h = c.loop-j-test.true in
     let m = c.spread.ensures in
     let y =
-    push_value (net_at s) g.changes.now c.loop-j.j g.places h s.requires.0.places s.requires.1.of_changes c.loop-j.x c.loop-j.drift c.loop-j.invariant.2.of_x c.loop-j.invariant.2.of_drift
+    push_value (net_at s) g.changes.now c.loop-j.j g.net.now.places h s.requires.0.places s.requires.1.of_changes c.loop-j.x c.loop-j.drift c.loop-j.invariant.2.of_x c.loop-j.invariant.2.of_drift
     g.dt g.root c.propensity-a.result c.loop-j.s s.requires.2 c.propensity-a.ensures c.if-a.false c.normal-drawn.result c.normal-drawn.ensures
     _ c.sqrt.result _ _ c.in-Value.is c.sqrt.ensures.1 m.0 m.1 in (
       omega (arith, h),
-      all_go (net_at s) g.dt c.loop-j.j g.transitions (going_of g.places c.loop-j.x c.loop-j.drift c.loop-j.s) _ false
+      all_go (net_at s) g.dt c.loop-j.j g.net.now.transitions (going_of g.net.now.places c.loop-j.x c.loop-j.drift c.loop-j.s) _ false
           c.loop-j.invariant.1 h y refl,
       record { of_x = m.0.long; of_drift = m.1.long },
     )
@@ -121,7 +120,7 @@ returns-2 : tie.Need-returns invariant-loop decreases-loop
 returns-2 c =
     let l = c.before in
     let s = l.before in (
-      all_end (net_at s) s.args.dt l.loop-j.j s.args.transitions (going_of s.args.places l.loop-j.x l.loop-j.drift l.loop-j.s) c.loop-j-test.false ∙ l.loop-j.invariant.1,
+      all_end (net_at s) s.args.dt l.loop-j.j s.args.net.now.transitions (going_of s.args.net.now.places l.loop-j.x l.loop-j.drift l.loop-j.s) c.loop-j-test.false ∙ l.loop-j.invariant.1,
       l.loop-j.invariant.2,
     )
 

@@ -1,6 +1,6 @@
 -- The drift cleared, the transitions in their order, the drift added: the parts of the definition. Assumes nothing.
 use Rattle.net.specs.declared.Net.{Net as NetRecord}
-use Rattle.net.specs.Record.{lent}
+use Rattle.net.specs.Record.{net_of}
 use Rattle.net.specs.Readable.{readable}
 use Rattle.sde.specs.Arrays.{state_of}
 use Rattle.sde.proofs.Substeps.{begun_is, after_drift_is, substep_stop, substep_go}
@@ -9,8 +9,7 @@ use Rattle.sde.proofs.substep.substep.Tie as tie
 
 abbrev net_at : tie.Start → NetRecord
 net_at s =
-    lent s.args.places s.args.transitions s.args.initial.now s.args.capacity.now s.args.rate.now s.args.delay.now
-    s.args.arcs.now s.args.kind.now s.args.place.now s.args.weight.now
+    net_of s.args.net.now
 
 clear-requires : tie.Need-clear-requires
 clear-requires c κs = (c.requires.0.places, c.requires.3.of_drift)
@@ -23,8 +22,8 @@ returns c =
     let s = c.before.before.before.before.before.before in
     let g = s.args in
     let p = c.push_all-p in (
-      substep_stop (readable (net_at s)) g.dt (state_of g.places g.x.now g.sampler) _ _ p.result.stopped
-          (begun_is g.places s.requires.0.places g.x.now g.drift.now s.requires.3.of_x s.requires.3.of_drift g.sampler _ c.clear.ensures)
+      substep_stop (readable (net_at s)) g.dt (state_of g.net.now.places g.x.now g.sampler) _ _ p.result.stopped
+          (begun_is g.net.now.places s.requires.0.places g.x.now g.drift.now s.requires.3.of_x s.requires.3.of_drift g.sampler _ c.clear.ensures)
           p.ensures.0 c.if-p.true _,
       p.ensures.1,
     )
@@ -38,10 +37,10 @@ returns-2 c =
     let g = s.args in
     let p = c.push_all-p in
     let m = c.add_drift.ensures in (
-      substep_go (readable (net_at s)) g.dt (state_of g.places g.x.now g.sampler) _ _ p.result.stopped
-          (begun_is g.places s.requires.0.places g.x.now g.drift.now s.requires.3.of_x s.requires.3.of_drift g.sampler _ c.clear.ensures)
+      substep_go (readable (net_at s)) g.dt (state_of g.net.now.places g.x.now g.sampler) _ _ p.result.stopped
+          (begun_is g.net.now.places s.requires.0.places g.x.now g.drift.now s.requires.3.of_x s.requires.3.of_drift g.sampler _ c.clear.ensures)
           p.ensures.0 c.if-p.false _
-          (after_drift_is g.places s.requires.0.places _ _ p.ensures.1.of_x p.ensures.1.of_drift p.result.sampler _ m),
+          (after_drift_is g.net.now.places s.requires.0.places _ _ p.ensures.1.of_x p.ensures.1.of_drift p.result.sampler _ m),
       record { of_x = m.long; of_drift = p.ensures.1.of_drift },
     )
 

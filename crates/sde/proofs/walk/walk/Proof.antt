@@ -2,7 +2,7 @@
 use native.Mathlib.Omega.{arith}
 use mathlib.Core.Path.{◌∙◌}
 use Rattle.net.specs.declared.Net.{Net as NetRecord}
-use Rattle.net.specs.Record.{lent}
+use Rattle.net.specs.Record.{net_of}
 use Rattle.sde.proofs.Cells.{column_beyond}
 use Rattle.sde.proofs.Walks.{walk_made, beyond_join}
 use borrow.Author.Rules.{rules}
@@ -11,8 +11,7 @@ use Rattle.sde.proofs.walk.walk.Tie as tie
 
 abbrev net_at : tie.Start → NetRecord
 net_at s =
-    lent s.args.places s.args.transitions s.args.initial.now s.args.capacity.now s.args.rate.now s.args.delay.now
-    s.args.arcs.now s.args.kind.now s.args.place.now s.args.weight.now
+    net_of s.args.net.now
 
 first-state-requires : tie.Need-first_state-requires
 first-state-requires c κs = let s = c.before.before in (s.requires.0.places, s.requires.0.initial, s.requires.3.of_x)
@@ -46,7 +45,7 @@ returns c =
       w.ensures.0
           ∙ walk_made (net_at s) s.args.x.now _ s.requires.3.of_x s.requires.0.places c.first_state.ensures s.args.seed c.new-s.result c.new-s.ensures
           s.args.dt s.args.n,
-      beyond_join (column_beyond s.args.places s.args.n 0 _ _ _ s.requires.4 c.show.ensures) w.ensures.1,
+      beyond_join (column_beyond s.args.net.now.places s.args.n 0 _ _ _ s.requires.4 c.show.ensures) w.ensures.1,
       w.ensures.2,
     )
 

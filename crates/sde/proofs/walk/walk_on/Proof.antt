@@ -2,7 +2,7 @@
 use mathlib.Core.List.{[], ◌∷◌}
 use lib.ListN.{take}
 use Rattle.net.specs.declared.Net.{Net as NetRecord}
-use Rattle.net.specs.Record.{lent}
+use Rattle.net.specs.Record.{lent, net_of}
 use Rattle.net.specs.Readable.{readable}
 use Rattle.rules.specs.Step.{Answer}
 use Rattle.sde.specs.Diffusion.{State, further, over_interval}
@@ -28,8 +28,7 @@ decreases-loop places transitions initial capacity rate delay arcs kind place we
 
 abbrev net_at : tie.Start invariant-loop decreases-loop → NetRecord
 net_at s =
-    lent s.args.places s.args.transitions s.args.initial.now s.args.capacity.now s.args.rate.now s.args.delay.now
-    s.args.arcs.now s.args.kind.now s.args.place.now s.args.weight.now
+    net_of s.args.net.now
 
 abbrev over : tie.Start invariant-loop decreases-loop → State → Answer State
 over s = over_interval (readable (net_at s)) s.args.dt
@@ -37,7 +36,7 @@ over s = over_interval (readable (net_at s)) s.args.dt
 loop-holds : tie.Need-loop-i-init invariant-loop decreases-loop
 loop-holds c =
     let s = c.before in
-    (s.requires.4, progress_first s.args.places s.args.n s.args.x.now s.args.table.now _ s.requires.7, s.requires.3)
+    (s.requires.4, progress_first s.args.net.now.places s.args.n s.args.x.now s.args.table.now _ s.requires.7, s.requires.3)
 
 add-next : tie.Need-overflow_add-next invariant-loop decreases-loop
 add-next c = search rules
@@ -53,7 +52,7 @@ returns c =
     let l = c.before.before.before.before.before in
     let s = c.before.before.before.before.before.before.before in
     let p = c.over_interval-p in (
-      progress_stop s.args.places s.args.n l.loop-i.i (over s) (state_of s.args.places l.loop-i.x l.loop-i.s) _ p.result.stopped l.loop-i.invariant.1
+      progress_stop s.args.net.now.places s.args.n l.loop-i.i (over s) (state_of s.args.net.now.places l.loop-i.x l.loop-i.s) _ p.result.stopped l.loop-i.invariant.1
           c.loop-i-test.true p.ensures.0 c.if-p.true [],
       l.loop-i.invariant.1.beyond,
       p.ensures.1,
@@ -74,7 +73,7 @@ loop-again c =
     let s = c.before.before.before.before.before.before.before.before.before.before.before.before in
     let p = c.over_interval-p in (
       omega (arith, c.loop-i-test.true),
-      progress_more s.args.places s.args.n c.loop-i.i (over s) (state_of s.args.places c.loop-i.x c.loop-i.s) _ p.result.stopped c.loop-i.invariant.1
+      progress_more s.args.net.now.places s.args.n c.loop-i.i (over s) (state_of s.args.net.now.places c.loop-i.x c.loop-i.s) _ p.result.stopped c.loop-i.invariant.1
           c.loop-i-test.true p.ensures.0 c.if-p.false _ _ refl c.show.ensures,
       p.ensures.1,
     )
@@ -86,7 +85,7 @@ returns-2 : tie.Need-returns invariant-loop decreases-loop
 returns-2 c =
     let l = c.before in
     let s = c.before.before.before in (
-      progress_end s.args.places s.args.n l.loop-i.i (over s) (state_of s.args.places l.loop-i.x l.loop-i.s) l.loop-i.invariant.1 l.loop-i.invariant.0 c.loop-i-test.false
+      progress_end s.args.net.now.places s.args.n l.loop-i.i (over s) (state_of s.args.net.now.places l.loop-i.x l.loop-i.s) l.loop-i.invariant.1 l.loop-i.invariant.0 c.loop-i-test.false
           s.requires.6,
       l.loop-i.invariant.1.beyond,
       l.loop-i.invariant.2,
