@@ -2,10 +2,10 @@
 use mathlib.Core.Path.{◌≡◌}
 use Prim.Native.Nat.{◌-◌, ◌≤◌}
 use lib.ListN.{length}
-use Rattle.net_io.proofs.read_input.Given as goal
+use Rattle.net_io.proofs.read_on.Given as goal
 
 abbrev pub invariant-loop-n : goal.invariant-loop-n
-invariant-loop-n l = (length l.text ≡ length l.initial.text) × (l.n ≤ length l.initial.text)
+invariant-loop-n g l = (length l.text ≡ length l.initial.text) × (l.n ≤ length l.initial.text)
 
 abbrev pub decreases-loop-n : goal.decreases-loop-n
-decreases-loop-n l = length l.initial.text - l.n
+decreases-loop-n g l = length l.initial.text - l.n
