@@ -56,13 +56,7 @@ pub fn place_fault(before: usize, strange: bool, initial: u64, capacity: u64) ->
     if bounds::MOST_PLACES <= before {
         return Err(Refusal::BadSize);
     }
-    if strange {
-        return Err(Refusal::OutsideDomain);
-    }
-    if bounds::MOST_TOKENS < initial {
-        return Err(Refusal::OutsideDomain);
-    }
-    if bounds::MOST_TOKENS < capacity {
+    if strange || bounds::MOST_TOKENS < initial || bounds::MOST_TOKENS < capacity {
         return Err(Refusal::OutsideDomain);
     }
     Ok(())
