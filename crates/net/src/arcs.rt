@@ -24,10 +24,7 @@ impl Arcs<'_> {
         ensures { result ≡ Tests.any (λ (l : Readable.Slot). ltb 4 l.kind || ltb 1_000_000 l.weight) (Readable.lent_slots self.now) }
     {
         for slot in self.from..self.end {
-            if crate::BLOCK < self.net.kind[slot] {
-                return true;
-            }
-            if bounds::MOST_WEIGHT < self.net.weight[slot] {
+            if crate::BLOCK < self.net.kind[slot] || bounds::MOST_WEIGHT < self.net.weight[slot] {
                 return true;
             }
         }
@@ -38,13 +35,7 @@ impl Arcs<'_> {
     pub fn outside(&self, strange: bool, rate: f64, delay: f64) -> bool
         ensures { let slots = Readable.lent_slots self.now in result ≡ (strange || Readable.strange slots || Tests.outside (Readable.transition_of rate delay slots)) }
     {
-        if strange {
-            return true;
-        }
-        if !bounds::rate_fits(rate) {
-            return true;
-        }
-        if !bounds::delay_fits(delay) {
+        if strange || !bounds::rate_fits(rate) || !bounds::delay_fits(delay) {
             return true;
         }
         self.outside_arc()

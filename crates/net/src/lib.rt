@@ -21,7 +21,7 @@ use refusals::Refusal;
 
 // Up to 32 places, 64 transitions and 16 arcs a transition. The label of place p stands in label from byte 16 * p on; lengths[p] says how many
 // bytes it has. Arc i of transition j stands in slot 16 * j + i of kind, place and weight; arcs[j] says how many it has. Slots past the counts
-// and bytes past the lengths are not looked at.
+// and bytes past the lengths are not looked at. The fields stay arrays side by side, with their counts: C lends them so, and no net takes heap.
 #[derive(Clone, Copy)]
 pub struct Net {
     pub places: usize,
@@ -38,7 +38,7 @@ pub struct Net {
     pub weight: [u64; 1024],
 }
 
-// The kinds of arcs.
+// The kinds of arcs. They stay numbers: C lends them as such (cild_path), and a larger one is refused by 4 in its turn, after 2 and 3.
 pub const KINETIC_TAKE: u64 = 0;
 
 pub const TAKE: u64 = 1;
@@ -56,13 +56,7 @@ pub fn place_fault(before: usize, strange: bool, initial: u64, capacity: u64) ->
     if bounds::MOST_PLACES <= before {
         return Err(Refusal::BadSize);
     }
-    if strange {
-        return Err(Refusal::OutsideDomain);
-    }
-    if bounds::MOST_TOKENS < initial {
-        return Err(Refusal::OutsideDomain);
-    }
-    if bounds::MOST_TOKENS < capacity {
+    if strange || bounds::MOST_TOKENS < initial || bounds::MOST_TOKENS < capacity {
         return Err(Refusal::OutsideDomain);
     }
     Ok(())

@@ -93,10 +93,7 @@ impl Arcs<'_> {
     pub fn delayed_for_nothing(&self, delay: f64) -> bool
         ensures { result ≡ (Ieee.lt NetSpec.zero64 delay && Tests.empty (Readable.takes_of (Readable.lent_slots self.now))) }
     {
-        if 0.0 < delay {
-            return !self.any_take();
-        }
-        false
+        0.0 < delay && !self.any_take()
     }
 
     // 7: kinetic weights that total more than 16. It stops where they do, so no sum is large.

@@ -1,5 +1,4 @@
 -- The invariant: the test of the labels that are left is that of all. Assumes nothing.
-use mathlib.Core.Path.{sym, ◌∙◌}
 use Rattle.text.specs.Text.{same}
 use Rattle.net.specs.Labels.{label_at}
 use Rattle.net.proofs.Slots.{or_stop, or_go}

@@ -1,15 +1,10 @@
 -- The invariant: the first fault of the transitions that are left is that of all. Assumes nothing.
-use mathlib.Core.Path.{sym, ap, ◌∙◌}
+use mathlib.Core.Path.{sym}
 use Rattle.std.proofs.lemmas.Result.{err_from_is_err_and}
-use Rattle.net.specs.Readable.{move_fault, moves_fault}
+use Rattle.net.specs.Readable.{move_fault}
 use Rattle.net.specs.Record.{net_of}
-use Rattle.net.proofs.Faults.{else_stop, else_go, faults_turn, faults_end, minus_zero}
+use Rattle.net.proofs.Faults.{else_stop, else_go, faults_turn}
 use Rattle.net.proofs.transitions.transitions_fault.Goals as goal
-
-pub loop-j-init : goal.loop-j-init
-loop-j-init c =
-    let n = c.args.net.now in
-    ap (moves_fault (net_of n) 0) (minus_zero n.transitions)
 
 pub returns-in_err-transition_at : goal.returns-in_err-transition_at
 returns-in_err-transition_at c =
@@ -24,8 +19,3 @@ loop-j-preserved c =
     let n = c.args.net.now in
     else_go _ (faults_turn (move_fault (net_of n)) c.loop-j.j n.transitions c.loop-j-test.true c.loop-j.invariant)
     (sym c.in_ok-transition_at.ensures)
-
-pub returns : goal.returns
-returns c =
-    let n = c.args.net.now in
-    faults_end (move_fault (net_of n)) c.loop-j.j n.transitions c.loop-j-test.false c.loop-j.invariant

@@ -7,6 +7,3 @@ use Rattle.net.proofs.lent.Arcs.delayed_for_nothing.Goals as goal
 
 pub returns-then-delay : goal.returns-then-delay
 returns-then-delay c = and_both c.if-delay.true (ap not c.any_take.ensures ∙ sym (empty_takes (lent_slots c.args.self.now)))
-
-pub returns : goal.returns
-returns c = simp c.if-delay.false

@@ -7,7 +7,7 @@ use lib.ListN.{get_or}
 use Rattle.words.specs.Bits.{bit}
 use Rattle.net.specs.Readable.{lent_from, lent_slots}
 use Rattle.net.proofs.Slots.{or_stop, or_go, taken}
-use Rattle.net.proofs.Twice.{left, again_none, no_take_turn, take_turn, left_end}
+use Rattle.net.proofs.Twice.{left, again_none, no_take_turn, take_turn}
 use Rattle.net.proofs.lent.Arcs.taken_twice.Goals as goal
 use Rattle.net.proofs.lent.Arcs.taken_twice.Goals.{then-self-slot-le-TAKE+else-taken_again, else-self-slot-le-TAKE}
 
@@ -37,6 +37,3 @@ loop-slot-preserved c =
       | else-self-slot-le-TAKE w ↦
           rw w.seen-is (no_take_turn _ _ _ _ _ met c.loop-slot-test.true c.loop-slot.invariant (lt-leb _ _ w.if-self-slot-le-TAKE.false))
     ]
-
-pub returns : goal.returns
-returns c = left_end _ _ _ _ _ (bit c.loop-slot.seen) c.loop-slot-test.false c.loop-slot.invariant
