@@ -164,10 +164,8 @@ pub fn plog(x: f64) -> f64
     }
     let b = f64::to_bits(x);
     let e = b >> 52;
-    if 1 <= e {
-        if e < 2047 {
-            return scaled_log(b, 0);
-        }
+    if 1 <= e && e < 2047 {
+        return scaled_log(b, 0);
     }
     other_log(x)
 }
