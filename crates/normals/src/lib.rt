@@ -7,7 +7,7 @@ ghost use Rattle.rng.specs.Xoshiro as Xoshiro;
 ghost use Rattle.normals.specs.Normal as Spec;
 
 use refusals::Refusal;
-use rng::{Uniform, Xoshiro256};
+use rng::{Drawn, Xoshiro256};
 
 // A generator, and the second value of the last pair: `spare` counts where `waiting` says so. No `Option`: `cild_normals` promises C the bits of a spare that
 // waits no more.
@@ -37,14 +37,13 @@ struct Pair {
 const MOST_PAIRS: u64 = 128;
 
 // 2 * uniform - 1, and the generator after it.
-fn coordinate(rng: Xoshiro256) -> Uniform
+fn coordinate(rng: Xoshiro256) -> Drawn<f64>
     ensures { (result.value ≡ Spec.coordinate (Rng.words rng.s)) × (Rng.words result.rng.s ≡ Xoshiro.step (Rng.words rng.s)) }
 {
     let d = rng.uniform();
-    let g = d.rng;
-    Uniform {
+    Drawn {
         value: 2.0 * d.value - 1.0,
-        rng: g,
+        rng: d.rng,
     }
 }
 
