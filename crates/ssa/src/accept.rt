@@ -118,5 +118,7 @@ pub fn accepted_path(
 {
     let mut slots = Slots::blank();
     slots.fill(net);
-    lent_path(&slots.of(net), instants, limit, generator, table)
+    // Lent anew, for no longer than the slots.
+    let fields = *net;
+    lent_path(&slots.of(&fields), instants, limit, generator, table)
 }

@@ -112,8 +112,10 @@ pub fn resume(
 {
     let mut slots = Slots::blank();
     slots.fill(net);
+    // Lent anew, for no longer than the slots.
+    let fields = *net;
     lent_on(
-        &slots.of(net), counts, ats, owners, instants, halts, steps, s, table,
+        &slots.of(&fields), counts, ats, owners, instants, halts, steps, s, table,
     )
 }
 
