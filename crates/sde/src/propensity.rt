@@ -10,7 +10,6 @@ ghost use Rattle.net.specs.Sound as Sound;
 ghost use Rattle.sde.specs.Diffusion as Diffusion;
 ghost use Rattle.sde.specs.Slots as Slots;
 
-use combinations::RealWays;
 use engine::marking;
 use net::LentNet;
 
@@ -19,11 +18,7 @@ fn ways(x: f64, w: u64) -> f64
     requires { w ≤ 1_000_000 }
     ensures { result ≡ Diffusion.ways_at x w }
 {
-    let answer = combinations::combinations_real(x, w as i64);
-    match answer {
-        RealWays::Value(v) => v,
-        RealWays::Refused => 0.0 / 0.0,
-    }
+    combinations::combinations_real(x, w as i64).unwrap_or(0.0 / 0.0)
 }
 
 // a times the ways of one slot, at the value v of its place: only a kinetic take has them. A weight of 1 has v ways.

@@ -14,7 +14,7 @@ ghost use Rattle.sde.specs.Slots as Slots;
 
 use crate::propensity;
 use net::LentNet;
-use normals::{Draw, GaussianSampler};
+use normals::GaussianSampler;
 
 // The sampler after some draws, and whether one of them was refused.
 #[derive(Clone, Copy)]
@@ -117,11 +117,11 @@ fn push_all<'a>(
             let draw = drawn.draw;
             s = drawn.sampler;
             match draw {
-                Draw::Value(z) => {
+                Ok(z) => {
                     let noise = root::sqrt(a) * root * z;
                     spread(changes, skips, net.places, j, a, dt, noise, x, drift);
                 }
-                Draw::Refused => {
+                Err(_) => {
                     return Pushed {
                         sampler: s,
                         stopped: true,

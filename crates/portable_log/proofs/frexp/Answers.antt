@@ -13,9 +13,3 @@ float_to_bits-b c = no_nan c.args.x c.if-x.false
 
 pub float_to_bits-x : goal.float_to_bits-x
 float_to_bits-x c = let s = c in scaled_number s.args.x (no_nan s.args.x s.if-x.false)
-
-pub returns-then-field-eq0 : goal.returns-then-field-eq0
-returns-then-field-eq0 c = let f = c in c.parts_of.ensures ∙ simp (eq-eqb _ _ (sym f.field.ensures ∙ c.if-field-eq0.true))
-
-pub returns : goal.returns
-returns c = let f = c in c.parts_of-2.ensures ∙ simp (ne_eqb _ _ (λ e. c.if-field-eq0.false (f.field.ensures ∙ e)))

@@ -16,12 +16,3 @@ pub returns-then-e-lt2047 : goal.returns-then-e-lt2047
 returns-then-e-lt2047 c =
     let p = c in
     c.scaled_log.ensures ∙ at_normal p.args.x p.if-x.false (omega arith) (omega arith)
-
-pub other_log-requires : goal.other_log-requires
-other_log-requires c = (
-  c.if-x.false,
-  λ g. elim c.if-e-ge1.branch [
-    | goal.then-e-ge1+else-e-lt2047 w ↦ w.if-e-lt2047.false
-    | goal.else-e-ge1 w ↦ absurd (lt_irrefl 1 (lt_of_le_of_lt g w.if-e-ge1.false))
-  ],
-)

@@ -13,9 +13,3 @@ returns-then-part-low c test =
     (sym c.high.ensures ∙ c.if-high-n.true) c.if-part-low.true in
     let c = test in
     nearest-if-close (omega (arith, ltb-true, leb-true))
-
-pub returns-else-part-low : goal.returns-else-part-low
-returns-else-part-low c e = absurd (false≢true e)
-
-pub returns-else-high-n : goal.returns-else-high-n
-returns-else-high-n c e = absurd (false≢true e)

@@ -4,9 +4,6 @@ use Rattle.std.proofs.Common.{arith}
 use Rattle.root.proofs.Turns.{root_lt, skipped, taken, done}
 use Rattle.root.proofs.whole_root.Goals as goal
 
-pub loop-i-init : goal.loop-i-init
-loop-i-init c = record { turns = omega arith; small = omega arith; left = omega arith; word = c.ranges.m.fits; whole = omega arith }
-
 pub overflow_mul-t : goal.overflow_mul-t
 overflow_mul-t c = omega (arith, root_lt c.loop-i.invariant)
 
@@ -19,20 +16,8 @@ overflow_mul-trial c = omega (arith, root_lt c.loop-i.invariant)
 pub overflow_add-trial : goal.overflow_add-trial
 overflow_add-trial c = omega (arith, root_lt c.loop-i.invariant)
 
-pub overflow_mul-root : goal.overflow_mul-root
-overflow_mul-root c = omega (arith, root_lt c.loop-i.invariant)
-
-pub overflow_add-root : goal.overflow_add-root
-overflow_add-root c = omega (arith, root_lt c.loop-i.invariant)
-
 pub loop-i-preserved-then-trial-t : goal.loop-i-preserved-then-trial-t
 loop-i-preserved-then-trial-t c = taken c.loop-i.invariant c.loop-i-test.true c.if-trial-t.true
 
-pub overflow_mul-root-else-trial-t : goal.overflow_mul-root-else-trial-t
-overflow_mul-root-else-trial-t c = omega (arith, root_lt c.loop-i.invariant)
-
 pub loop-i-preserved : goal.loop-i-preserved
 loop-i-preserved c = skipped c.loop-i.invariant c.loop-i-test.true c.if-trial-t.false
-
-pub returns : goal.returns
-returns c = let g = c.loop-i.invariant in (done g c.loop-i-test.false, omega (arith, g.left), root_lt g)
