@@ -8,6 +8,3 @@ use Rattle.sde.proofs.propensity.fill_ends.Given as goal
 abbrev pub invariant-loop-j : goal.invariant-loop-j
 invariant-loop-j l =
     (length l.ends ≡ 64) × ((b : ℕ) → b < l.j → KineticEnd l.net.kind.now (16 * b) (16 * b + get_or l.net.arcs.now b 0) (get_or l.ends b 0))
-
-abbrev pub decreases-loop-j : goal.decreases-loop-j
-decreases-loop-j l = l.net.transitions - l.j

@@ -4,6 +4,3 @@ use Rattle.sde.proofs.propensity.kinetic_end.Given as goal
 
 abbrev pub invariant-loop-e : goal.invariant-loop-e
 invariant-loop-e l = KineticEnd l.kind l.from l.end l.e
-
-abbrev pub decreases-loop-e : goal.decreases-loop-e
-decreases-loop-e l = l.e

@@ -8,6 +8,3 @@ use Rattle.sde.proofs.substep.add_drift.Given as goal
 
 abbrev pub invariant-loop-p : goal.invariant-loop-p
 invariant-loop-p l = (l.p ≤ l.places) × MapTo (λ (q : ℕ) (v : Float). above_zero (add binary64 v (get_or l.drift q nan))) l.p l.initial.x l.x
-
-abbrev pub decreases-loop-p : goal.decreases-loop-p
-decreases-loop-p l = l.places - l.p

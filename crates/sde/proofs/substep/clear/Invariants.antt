@@ -7,6 +7,3 @@ use Rattle.sde.proofs.substep.clear.Given as goal
 
 abbrev pub invariant-loop-p : goal.invariant-loop-p
 invariant-loop-p l = (l.p ≤ l.places) × MapTo (λ (q : ℕ) (v : Float). zero64) l.p l.initial.drift l.drift
-
-abbrev pub decreases-loop-p : goal.decreases-loop-p
-decreases-loop-p l = l.places - l.p

@@ -21,6 +21,3 @@ abbrev pub invariant-loop-p : goal.invariant-loop-p
 invariant-loop-p l =
     (l.p ≤ l.places) × MapTo (noisy l.changes l.j l.noise) l.p l.initial.x l.x × MapTo (drifting l.changes l.j l.a l.dt) l.p l.initial.drift l.drift
     × (l.p < l.places → eq (get_or l.changes (32 * l.j + l.p) nan) zero64 ≡ false)
-
-abbrev pub decreases-loop-p : goal.decreases-loop-p
-decreases-loop-p l = l.places - l.p

@@ -5,6 +5,3 @@ use Rattle.sde.proofs.walk.show.Given as goal
 
 abbrev pub invariant-loop-p : goal.invariant-loop-p
 invariant-loop-p l = (l.p ≤ l.places) × Column l.n l.i l.p l.x l.initial.table l.table
-
-abbrev pub decreases-loop-p : goal.decreases-loop-p
-decreases-loop-p l = l.places - l.p
