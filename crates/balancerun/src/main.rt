@@ -6,22 +6,22 @@
 
 ghost use Rattle.std.specs.Prelude.{◌≤◌, length};
 
-use balance::BalanceAnswer;
 use net::Net;
 use net_io::arguments::number_of;
 use net_io::{read_input, say, text_room, write, write_number, write_refused};
 use net_text::Judged;
+use refusals::Refusal;
 use std::env::Env;
 
-fn write_answer(rt: &HostRuntime, answer: BalanceAnswer) {
+fn write_answer(rt: &HostRuntime, answer: Result<Option<usize>, Refusal>) {
     match answer {
-        BalanceAnswer::Balanced => write(rt, b"(balance yes)\n"),
-        BalanceAnswer::Unbalanced(j) => {
+        Ok(None) => write(rt, b"(balance yes)\n"),
+        Ok(Some(j)) => {
             write(rt, b"(balance no ");
             write_number(rt, j as u64);
             write(rt, b")\n");
         }
-        BalanceAnswer::Refused(c) => write_refused(rt, c.number(), 0),
+        Err(c) => write_refused(rt, c.number(), 0),
     }
 }
 
