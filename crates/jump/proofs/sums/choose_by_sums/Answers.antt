@@ -1,5 +1,5 @@
 -- No transition before j is chosen, by the kept sums (`reached`): so the one at which the loop stops is, and at the end the last positive one. Assumes nothing.
-use Prim.Native.Nat.{◌≤◌}
+
 use native.Mathlib.Omega.{arith}
 use Rattle.jump.proofs.Choosing.{stop_chosen, fail_chosen, not_reached, not_positive, one_below}
 use Rattle.jump.proofs.sums.choose_by_sums.Goals as goal

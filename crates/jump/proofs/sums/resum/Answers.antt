@@ -1,5 +1,4 @@
 -- The sums before j are good, and the sum in hand is that of the first j (Summing). Assumes nothing.
-use native.Mathlib.Omega.{arith}
 use Rattle.jump.proofs.Summing.{summing_none, summing_more, summing_all}
 use Rattle.jump.proofs.sums.resum.Goals as goal
 
