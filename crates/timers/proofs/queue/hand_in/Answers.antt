@@ -8,16 +8,8 @@ use Rattle.net.specs.Net.{pick}
 use Rattle.rules.specs.Timers.{Timer}
 use Rattle.timers.specs.InOrder.{in_order}
 use Rattle.timers.specs.Turning.{from, held}
-use Rattle.timers.proofs.Queues.{loaded_none, loaded_more, loaded_all, one_if_lem}
+use Rattle.timers.proofs.Queues.{loaded_all, one_if_lem}
 use Rattle.timers.proofs.queue.hand_in.Goals as goal
-
-pub loop-i-init : goal.loop-i-init
-loop-i-init c = (loaded_none _ _)
-
-pub loop-i-preserved : goal.loop-i-preserved
-loop-i-preserved c =
-    let l = c.loop-i in
-    (loaded_more c.args.queue l.i _ (held l.ats l.owners) _ l.invariant c.write.ensures)
 
 pub returns : goal.returns
 returns c =

@@ -1,19 +1,12 @@
 -- The first i places of the queue hold the first i timers.
 use native.Mathlib.Omega.{arith}
 use Prim.Native.Nat.{min}
-use Rattle.timers.specs.Turning.{timer_of, held, running}
-use Rattle.timers.proofs.Queues.{queued_none, queued_more, queued_all}
+use Rattle.timers.specs.Turning.{held, running}
+use Rattle.timers.proofs.Queues.{queued_none, queued_all}
 use Rattle.timers.proofs.queue.hand_out.Goals as goal
 
 pub loop-i-init : goal.loop-i-init
 loop-i-init c = queued_none _ _
-
-pub loop-i-preserved : goal.loop-i-preserved
-loop-i-preserved c =
-    let l = c.loop-i in
-    let a = c.args in
-    queued_more (held a.ats.now a.owners.now) a.ring.start l.i l.times l.whos l.takens
-    (timer_of c.read-x.result) (omega (arith, c.capped-n.ensures)) l.invariant c.slot.ensures c.read-x.ensures
 
 pub returns : goal.returns
 returns c =

@@ -6,7 +6,7 @@ use Prim.{tt}
 use lib.Ieee.{nan_bits, of_bits}
 use Rattle.net.specs.Net.{pick}
 use Rattle.timers.specs.Turning.{held}
-use Rattle.timers.proofs.Queues.{rises_start, rises_step, rises_stop, rises_end}
+use Rattle.timers.proofs.Queues.{rises_start, rises_step, rises_stop}
 use Rattle.timers.proofs.queue.order_of.Goals as goal
 
 pub float_from_bits-last : goal.float_from_bits-last
@@ -28,10 +28,3 @@ returns-else-last-at c =
     λ owners.
     let stop = l.invariant owners ∙ rises_stop (held c.args.ats.now owners) c.args.n l.i l.last c.requires (omega arith) c.if-last-at.false in
     sym (ap (λ (b : Bool). pick b 1 0) stop)
-
-pub returns : goal.returns
-returns c =
-    let l = c.loop-i in
-    λ owners.
-    let end = l.invariant owners ∙ rises_end (held c.args.ats.now owners) c.args.n l.i l.last (omega arith) in
-    sym (ap (λ (b : Bool). pick b 1 0) end)
