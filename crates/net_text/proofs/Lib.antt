@@ -4,14 +4,4 @@ pub mod Hexadecimal
 pub mod Arcs
 pub mod Many
 pub mod Walk
-pub mod Parts
-pub mod Patterns
 pub mod Labels
-pub mod Lined
-pub mod Clipped
-pub mod Stored
-pub mod Taking
-pub mod Cut
-pub mod Turns
-pub mod Whole
-pub mod Written
