@@ -4,4 +4,11 @@ pub mod Hexadecimal
 pub mod Arcs
 pub mod Many
 pub mod Walk
+pub mod Parts
+pub mod Patterns
 pub mod Labels
+pub mod Clipped
+pub mod Stored
+pub mod Cut
+pub mod Taking
+pub mod Written

@@ -1,5 +1,6 @@
 // The lines in their order, and what each adds to the net.
-ghost use Rattle.std.specs.Prelude.{◌≡◌, ◌+◌, ◌*◌, ◌<◌, ◌≤◌};
+ghost use Rattle.std.specs.Prelude.{◌≡◌, ◌+◌, ◌*◌, ◌<◌, ◌≤◌, eqb, position};
+ghost use Rattle.text.specs.Text.{newline};
 ghost use Rattle.net.specs.Tests as Tests;
 ghost use Rattle.net.specs.Readable as Readable;
 ghost use Rattle.net.specs.Record.{blank};
@@ -134,11 +135,18 @@ fn one_line(line: &[u8], stage: Stage, net: &mut Net) -> Result<Stage, Refusal>
     }
 }
 
+// Where the first newline stands.
+fn newline_at(text: &[u8]) -> Option<usize>
+    ensures { result ≡ position (λ b. eqb b newline) text.now }
+{
+    text.iter().position(|b| *b == b'\n')
+}
+
 // The first line, without the newline that ends it, and what is left behind that; None where no newline stands.
 fn first_line<'a>(text: &'a [u8]) -> Option<(&'a [u8], &'a [u8])>
     ensures { Spec.FirstLine text.now result }
 {
-    let end = text.iter().position(|b| *b == b'\n')?;
+    let end = newline_at(text)?;
     Some((&text[..end], &text[end + 1..]))
 }
 
