@@ -11,7 +11,7 @@ use lib.Seq.{drop-cons, drop-length}
 use borrow.Author.Tests.{le-leb, lt-leb, leb-true, ltb-false}
 use Rattle.std.proofs.Common.{Option, Some, None, position}
 use Rattle.std.specs.List.{position_or_len, prefix_len}
-use Rattle.core.specs.Option.{unwrap_or, is_some}
+use Rattle.std.specs.Option.{unwrap_or, is_some}
 use Rattle.std.proofs.lemmas.List.Sums.{prefix_len-le-length}
 use Rattle.net.specs.Net.{pick}
 use Rattle.text.specs.Text.{Bytes}

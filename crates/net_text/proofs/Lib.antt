@@ -12,3 +12,5 @@ pub mod Stored
 pub mod Cut
 pub mod Taking
 pub mod Written
+pub mod Turns
+pub mod Whole

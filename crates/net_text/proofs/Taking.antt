@@ -10,7 +10,9 @@ use lib.Dec.{eqb, leb, ltb}
 use lib.ListN.{length, get_or, set, length-map}
 use lib.Ieee.{Float, binary64, of_bits}
 use borrow.Author.Tests.{eq-eqb, ne_eqb, leb-false, ltb-true, ltb-false, eqb-true, not-false}
-use Rattle.std.proofs.Common.{◌≢◌, Ok, Err}
+use Rattle.std.proofs.Common.{◌≢◌, Some, None, Result, Ok, Err, Bor}
+use Rattle.std.proofs.Common.{Option as Option'}
+use Rattle.std.specs.Option.{ok_or}
 use Rattle.refusals.specs.declared.Refusal.{Refusal}
 use Rattle.refusals.specs.declared.Refusal.TheVariants.{WrongForm}
 use Rattle.net.specs.Net.{Place, Transition, Net, pick}
@@ -25,7 +27,7 @@ use Rattle.net_text.specs.Forms.{wrong, met, RawArc, raw_place, raw_move, raw_ru
 use Rattle.net_text.specs.Reading.{RunLine, badly, bad_arc, Due, inside, closing, go_on, unless, after_place, after_move, inside_line, line_read}
 use Rattle.net_text.specs.Filled.{arc_slot, kind_slots, place_slots, weight_slots, with_line, with_place}
 use Rattle.net_text.specs.Scanned.{held, slot_of, with_slots, SlotsKept}
-use Rattle.net_text.specs.Seen.{PlaceMet, RunMet, MoveMet}
+use Rattle.net_text.specs.Seen.{PlaceMet, RunMet, MoveMet, MoveIs}
 use Rattle.net_text.specs.Position.{Room, run_of, inside_of, LineTaken, place_line_tests, PlaceTaken, MoveTaken, run_tests}
 use Rattle.net_text.specs.declared.form.PlaceSeen.{PlaceSeen}
 use Rattle.net_text.specs.declared.form.RunSeen.{RunSeen}
@@ -365,8 +367,8 @@ module _ (line : Bytes) (n : NetRecord) where
                 ∙ sym (ap (with_line n) move_says);
           }
 
--- the same floats
-pub floats_same : (p k : ℕ) (bad : Bool) (x y x' y' : Float) (ls : List Slot) → x ≡ x' → y ≡ y'
-    → first_of (move_tests p k bad (transition_of x y ls)) ≡ first_of (move_tests p k bad (transition_of x' y' ls))
-floats_same p k bad x y x' y' ls e f =
-    ap (λ (z : Float). first_of (move_tests p k bad (transition_of z y ls))) e ∙ ap (λ (z : Float). first_of (move_tests p k bad (transition_of x' z ls))) f
+-- the form of a move that is met
+pub move_met : (line : Bytes) (base : ℕ) (n n₁ : NetRecord) (r : Option' (MoveSeen × Bor Bytes)) (x : MoveSeen × Bor Bytes)
+    → ◌≡◌ {A = Result (MoveSeen × Bor Bytes) Refusal} (Ok x) (ok_or r WrongForm) → MoveIs line base n n₁ r → MoveMet line base n n₁ x.0 x.1.now
+move_met line base n n₁ None x e h = let z : ◌≡◌ {A = ℕ} 0 1 = cc in absurd (omega arith)
+move_met line base n n₁ (Some y) x e h = let same : x ≡ y = cc in rw same h
