@@ -9,7 +9,3 @@ use Rattle.engine.proofs.slots.fill_slots.Given as goal
 abbrev pub invariant-loop-a : goal.invariant-loop-a
 invariant-loop-a l =
     (length l.limit ≡ 1024) × ((b : ℕ) → b < l.a → get_or l.limit b 0 ≡ limit_at (net_of l.net) b)
-
-abbrev pub decreases-loop-a : goal.decreases-loop-a
-decreases-loop-a l =
-    l.end - l.a
