@@ -1,6 +1,6 @@
 -- The table says of every slot its limit, or that a test may end there; from transition j on it is as it was. Assumes nothing.
 use mathlib.Core.Path.{◌≡◌}
-use Prim.Native.Nat.{ℕ, ◌-◌, ◌*◌, ◌≤◌}
+use Prim.Native.Nat.{ℕ, ◌*◌, ◌≤◌}
 use lib.ListN.{length, get_or}
 use Rattle.engine.specs.Limits.{Says}
 use Rattle.engine.proofs.slots.mark_rests.Given as goal
