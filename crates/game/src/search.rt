@@ -56,11 +56,8 @@ fn fired<'a>(
             counts: after,
         };
     }
-    let f = marking::fire(net, guards, &mut after, j);
-    Outcome {
-        may: f.fits,
-        counts: after,
-    }
+    let may = marking::fire(net, guards, &mut after, j).is_some();
+    Outcome { may, counts: after }
 }
 
 // Does the fault side win by this?
