@@ -13,8 +13,7 @@ use lib.Ieee.{Float, nan, binary64, add, lt, le}
 use Rattle.net.specs.Net.{pick, zero64}
 use Rattle.rules.specs.Jump.{chosen_from, chosen}
 use Rattle.rules.specs.RunningSums.{sums_from, sum_at, SumsKept, LastPositive}
-use Rattle.jump.specs.declared.Choice.{Choice}
-use Rattle.jump.specs.declared.Choice.TheVariants.{Nobody, Chosen}
+use Rattle.std.specs.Prelude.{Option as Answered, Some, None}
 use Rattle.jump.specs.Answers.{choice_of, NonePositive, FindsLast}
 
 -- whether a transition is chosen that has propensity a and running sum s
@@ -94,10 +93,10 @@ module _ (k : ℕ) (props : List Float) (enough : k ≤ length props) where
         let z : some (0 + j) ≡ some j = ap some (omega arith) in
         sym (stops r zero64 0 none (take k props) j (omega (arith, as_many)) (same j h ∙ simp (p, q)) (λ i l. same i (omega arith) ∙ f i l) ∙ z)
 
-    pub fail_chosen : ((i : ℕ) → i < k → reached r (get_or props i nan) (get_or sums i nan) ≡ false) → (c : Choice) → FindsLast (take k props) c
+    pub fail_chosen : ((i : ℕ) → i < k → reached r (get_or props i nan) (get_or sums i nan) ≡ false) → (c : Answered ℕ) → FindsLast (take k props) c
         → choice_of c ≡ chosen r (take k props)
-    fail_chosen f Nobody w = sym (none_left r zero64 0 none (take k props) w)
-    fail_chosen f (Chosen j) w =
+    fail_chosen f None w = sym (none_left r zero64 0 none (take k props) w)
+    fail_chosen f (Some j) w =
         let z : some (0 + j) ≡ some j = ap some (omega arith) in
         sym (fails r zero64 0 none (take k props) (λ i l. let b : i < k = omega (arith, as_many) in same i b ∙ f i b) j w ∙ z)
 

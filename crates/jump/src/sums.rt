@@ -26,12 +26,9 @@ pub fn resum(transitions: usize, from: usize, props: &[f64; 64], sums: &mut [f64
         × (result ≡ total (take transitions props.now)) }
 {
     let mut sum = sum_before(sums, from);
-    let mut j = from;
-    while j < transitions {
-        let k = j + 1;
-        sum = sum + props[j];
+    for j in from..transitions {
+        sum += props[j];
         sums[j] = sum;
-        j = k;
     }
     sum
 }
@@ -41,13 +38,10 @@ fn last_positive(transitions: usize, props: &[f64; 64]) -> Option<usize>
     requires { (transitions ≤ 64) × (length props.now ≡ 64) }
     ensures { Answers.FindsLast (take transitions props.now) result }
 {
-    let mut k = transitions;
-    while 0 < k {
-        let j = k - 1;
+    for j in (0..transitions).rev() {
         if 0.0 < props[j] {
             return Some(j);
         }
-        k = j;
     }
     None
 }
@@ -62,15 +56,10 @@ pub fn choose_by_sums<'a>(
     requires { (transitions ≤ 64) × (length props.now ≡ 64) × Sums.SumsKept transitions (take transitions props.now) sums.now }
     ensures { Answers.choice_of result ≡ Jump.chosen r (take transitions props.now) }
 {
-    let mut j: usize = 0;
-    while j < transitions {
-        let k = j + 1;
-        if r <= sums[j] {
-            if 0.0 < props[j] {
-                return Some(j);
-            }
+    for j in 0..transitions {
+        if r <= sums[j] && 0.0 < props[j] {
+            return Some(j);
         }
-        j = k;
     }
     last_positive(transitions, props)
 }

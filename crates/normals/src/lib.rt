@@ -7,7 +7,7 @@ ghost use Rattle.rng.specs.Xoshiro as Xoshiro;
 ghost use Rattle.normals.specs.Normal as Spec;
 
 use refusals::Refusal;
-use rng::{Uniform, Xoshiro256};
+use rng::{Drawn, Xoshiro256};
 
 // A generator, and the second value of the last pair: `spare` counts where `waiting` says so. No `Option`: `cild_normals` promises C the bits of a spare that
 // waits no more.
@@ -37,14 +37,13 @@ struct Pair {
 const MOST_PAIRS: u64 = 128;
 
 // 2 * uniform - 1, and the generator after it.
-fn coordinate(rng: Xoshiro256) -> Uniform
+fn coordinate(rng: Xoshiro256) -> Drawn<f64>
     ensures { (result.value ≡ Spec.coordinate (Rng.words rng.s)) × (Rng.words result.rng.s ≡ Xoshiro.step (Rng.words rng.s)) }
 {
     let d = rng.uniform();
-    let g = d.rng;
-    Uniform {
+    Drawn {
         value: 2.0 * d.value - 1.0,
-        rng: g,
+        rng: d.rng,
     }
 }
 
@@ -58,8 +57,8 @@ fn drawn_pair(rng: Xoshiro256) -> Pair
     let u1 = a.value;
     let u2 = b.value;
     Pair {
-        u1: u1,
-        u2: u2,
+        u1,
+        u2,
         sq: u1 * u1 + u2 * u2,
         rng: g2,
     }
@@ -69,10 +68,7 @@ fn drawn_pair(rng: Xoshiro256) -> Pair
 fn accepted(sq: f64) -> bool
     ensures { result ≡ Spec.accepted sq }
 {
-    if 0.0 < sq {
-        return sq < 1.0;
-    }
-    false
+    0.0 < sq && sq < 1.0
 }
 
 fn scale(sq: f64) -> f64
@@ -86,7 +82,7 @@ fn first_accepted(rng: Xoshiro256) -> Option<Pair>
     ensures { Spec.found_of result ≡ Spec.first_accepted 128 (Rng.words rng.s) }
 {
     let mut g = rng;
-    for i in 0..MOST_PAIRS {
+    for _ in 0..MOST_PAIRS {
         let p = drawn_pair(g);
         if accepted(p.sq) {
             return Some(p);

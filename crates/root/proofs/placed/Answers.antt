@@ -1,6 +1,5 @@
 -- `placed` is `root_in`: q, with half the exponent over it, is the pattern of `root_in` (`Scaled`). Assumes nothing.
-use Rattle.std.proofs.Common.{arith}
-use Rattle.root.proofs.Scaled.{half_lt, made, made_is_number}
+use Rattle.root.proofs.Scaled.{made, made_is_number}
 use Rattle.root.proofs.placed.Goals as goal
 
 pub float_from_bits-result : goal.float_from_bits-result

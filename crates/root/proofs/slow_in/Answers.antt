@@ -1,6 +1,5 @@
 -- `slow_in` is `root_in`: m << (v % 2) shifts nothing out of the word, and `slow_root` finds what `placed` asks for. Assumes nothing.
-use Rattle.std.proofs.Common.{◌≡◌, ℕ, ◌*◌, ◌%◌, ◌^◌, subst, arith}
-use Rattle.root.specs.Whole.{NearestWhole}
+use Rattle.std.proofs.Common.{arith}
 use Rattle.root.proofs.Scaled.{word_range}
 use Rattle.root.proofs.slow_in.Goals as goal
 

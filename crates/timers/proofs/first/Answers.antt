@@ -5,5 +5,4 @@ use Rattle.timers.proofs.first.Goals as goal
 
 pub returns : goal.returns
 returns c =
-    let s = c in
-    first_is _ (timers_of s.args.ats.now s.args.owners.now s.args.ring) c.timer_at.ensures
+    first_is _ (timers_of c.args.ats.now c.args.owners.now c.args.ring) c.timer_at.ensures

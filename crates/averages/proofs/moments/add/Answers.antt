@@ -5,19 +5,18 @@ use Rattle.averages.proofs.Fronts.{with_more, with_end}
 use Rattle.averages.proofs.moments.add.Goals as goal
 
 pub loop-c-init : goal.loop-c-init
-loop-c-init c = (omega arith, refl, refl)
+loop-c-init c = (refl, refl)
 
 pub loop-c-preserved : goal.loop-c-preserved
 loop-c-preserved c =
     let l = c in
     let a = l.args in (
-      omega arith,
-      length-set l.loop-c.sums l.loop-c.c _ ∙ l.loop-c.invariant.1,
-      with_more Moments.plus l.loop-c.c a.path.now a.sums.now l.loop-c.invariant.2 (omega arith) (omega arith),
+      length-set l.loop-c.sums l.loop-c.c _ ∙ l.loop-c.invariant.0,
+      with_more Moments.plus l.loop-c.c a.path.now a.sums.now l.loop-c.invariant.1 (omega arith) (omega arith),
     )
 
 pub returns : goal.returns
 returns c =
     let l = c in
     let a = l.args in
-    l.loop-c.invariant.2 ∙ with_end Moments.plus l.loop-c.c a.cells a.path.now a.sums.now (omega arith) (λ h. omega arith)
+    l.loop-c.invariant.1 ∙ with_end Moments.plus l.loop-c.c a.cells a.path.now a.sums.now (omega arith) (λ h. omega arith)

@@ -8,22 +8,21 @@ use Rattle.timers.proofs.Places.{up_none, up_one}
 use Rattle.timers.proofs.slots.make_room.Goals as goal
 
 pub loop-k-init : goal.loop-k-init
-loop-k-init c = (search rules, search rules, up_none _ _ _)
+loop-k-init c = (search rules, up_none _ _ _)
 
 pub loop-k-preserved : goal.loop-k-preserved
 loop-k-preserved c =
     let l = c.loop-k in
-    let s = c in (
+    let a = c.args in
+    let up : l.k - 1 + 1 ≡ l.k = omega arith in (
       omega arith,
-      omega arith,
-      up_one s.args.start (s.args.start + (l.k - 1)) (s.args.start + l.k) (s.args.start + s.args.n) _ (held l.ats l.owners) _
-          (omega arith) (omega arith) (omega arith) (omega arith) l.invariant.2
-          c.slot.ensures c.read-x.ensures c.slot-in-loop-k.ensures c.write.ensures,
+      up_one a.start (a.start + (l.k - 1)) (a.start + l.k) (a.start + a.n) _ (held l.ats l.owners) _
+          (omega arith) (omega arith) (omega arith) (omega arith) l.invariant.1
+          c.slot.ensures c.read-x.ensures (rw up at c.slot-in-loop-k.ensures) c.write.ensures,
     )
 
 pub returns : goal.returns
 returns c =
     let l = c.loop-k in
-    let s = c in
-    let e : l.k ≡ s.args.i = omega arith in
-    rw e at l.invariant.2
+    let e : l.k ≡ c.args.i = omega arith in
+    rw e at l.invariant.1

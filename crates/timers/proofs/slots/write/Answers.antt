@@ -8,7 +8,6 @@ use Rattle.timers.proofs.slots.write.Goals as goal
 
 pub returns : goal.returns
 returns c =
-    let s = c in
-    let la : length s.args.ats.now ≡ 256 = search rules in
-    let lo : length s.args.owners.now ≡ 512 = search rules in
-    stored s.args.ats.now s.args.owners.now s.args.k (timer_of s.args.x) la lo s.requires
+    let la : length c.args.ats.now ≡ 256 = search rules in
+    let lo : length c.args.owners.now ≡ 512 = search rules in
+    stored c.args.ats.now c.args.owners.now c.args.k (timer_of c.args.x) la lo c.requires
