@@ -6,7 +6,7 @@ use mathlib.Core.Bool.{Bool, true, false}
 use mathlib.Core.List.{List}
 use native.Mathlib.Omega.{arith}
 use native.Mathlib.Numerals.{add-one}
-use lib.ListN.{length, get_or, take}
+use lib.ListN.{length, get_or, take, length-take}
 use lib.Seq.{get_or-take, length-take-le}
 use lib.Ieee.{Float, nan, binary64, add, mul, lt, eq}
 use Rattle.std.specs.Prelude.{Result, Ok, Err}
@@ -29,8 +29,8 @@ use Rattle.sde.proofs.Each.{each_same, each_one}
 
 -- what follows an answer that stopped or left a
 module _ {A B : Type 0} {ans : Answer A} (a : A) (r : Result Unit RefusalEnum) (e : answered r a ≡ ans) (f : A → Answer B) where
-  pub then_stop : (c : RefusalEnum) → r ≡ Err c → (b : B) → answered (Err c) b ≡ and_then ans f
-  then_stop c h b = ap (λ (x : Answer A). and_then x f) (sym (ap (λ (t : Result Unit RefusalEnum). answered t a) h) ∙ e)
+  pub then_stop : (c : RefusalEnum) → r ≡ Err c → refused (number_of c) ≡ and_then ans f
+  then_stop c h = ap (λ (x : Answer A). and_then x f) (sym (ap (λ (t : Result Unit RefusalEnum). answered t a) h) ∙ e)
 
   pub then_go : (u : Unit) → r ≡ Ok u → f a ≡ and_then ans f
   then_go u h = ap (λ (x : Answer A). and_then x f) (sym (ap (λ (t : Result Unit RefusalEnum). answered t a) h) ∙ e)
@@ -126,25 +126,23 @@ all_whole n dt e g =
 
 -- ---- a substep
 
-module _ (places : ℕ) (small : places ≤ 32) (u v : StateStruct) (lx : length u.x ≡ 32) (ld : length u.drift ≡ 32) (e : v.sampler ≡ u.sampler) where
-  -- with its drift cleared
-  pub begun_is : v.x ≡ u.x → Mapped places (λ (p : ℕ) (v : Float). zero64) u.drift v.drift → going_of places v ≡ begun (state_of places u)
-  begun_is h m =
-      let a = length-take-le places u.x (omega arith) in
-      let b = length-take-le places u.drift (omega arith) in
-      λ i. record { x = take places (h i); drift = (m.each ∙ each_one zero64 0 (take places u.drift) (take places u.x) (omega arith)) i; sampler = sampler_of (e i) }
+-- with its drift cleared
+pub begun_is : (places : ℕ) (u : StateStruct) (drift : List Float) → places ≤ 32 → length u.x ≡ 32 → length u.drift ≡ 32
+    → Mapped places (λ (p : ℕ) (v : Float). zero64) u.drift drift
+    → ◌≡◌ {A = Going} (record { x = take places u.x; drift = take places drift; sampler = sampler_of u.sampler }) (begun (state_of places u))
+begun_is places u drift small lx ld m =
+    let a = length-take-le places u.x (omega arith) in
+    let b = length-take-le places u.drift (omega arith) in
+    ap (λ (d : List Float). record { x = take places u.x; drift = d; sampler = sampler_of u.sampler }) (m.each ∙ each_one zero64 0 (take places u.drift) (take places u.x) (omega arith))
 
-  -- with its drift added
-  pub after_drift_is : Mapped places (λ (p : ℕ) (v : Float). above_zero (add binary64 v (get_or u.drift p nan))) u.x v.x
-      → state_of places v ≡ after_drift (going_of places u)
-  after_drift_is m =
-      let a = length-take-le places u.x (omega arith) in
-      λ i. record {
-        x = (m.each
-            ∙ each_same (λ (p : ℕ) (v : Float). above_zero (add binary64 v (get_or u.drift p nan))) (λ (p : ℕ) (v : Float). above_zero (add binary64 v (at (take places u.drift) p))) (take places u.x)
-            (λ i b v. ap (λ (w : Float). above_zero (add binary64 v w)) (sym (get_or-take places u.drift i nan (omega arith))))) i;
-        sampler = sampler_of (e i);
-      }
+-- with its drift added
+pub after_drift_is : (places : ℕ) (u : StateStruct) (x : List Float) → Mapped places (λ (p : ℕ) (v : Float). above_zero (add binary64 v (get_or u.drift p nan))) u.x x
+    → ◌≡◌ {A = State} (record { x = take places x; sampler = sampler_of u.sampler }) (after_drift (going_of places u))
+after_drift_is places u x m =
+    ap (λ (y : List Float). record { x = y; sampler = sampler_of u.sampler })
+    (m.each
+    ∙ each_same (λ (p : ℕ) (v : Float). above_zero (add binary64 v (get_or u.drift p nan))) (λ (p : ℕ) (v : Float). above_zero (add binary64 v (at (take places u.drift) p))) (take places u.x)
+    (λ i b v. ap (λ (w : Float). above_zero (add binary64 v w)) (sym (get_or-take places u.drift i nan (omega (arith, length-take places u.x))))))
 
 -- ---- substep by substep
 
@@ -172,23 +170,23 @@ module _ (n : Net) (dt : Float) (s : State) where
 
 module _ (n : NetRecord) (dt : Float) (j e : ℕ) (g g' : Going) (r : Result Unit RefusalEnum) {w : Answer Going} (inv : pushed_all dt (transitions_from n j (e - j)) g ≡ w)
     (h : j < e) (y : answered r g' ≡ pushed dt (transition n j) g) where
-  pub all_stop : (c : RefusalEnum) → r ≡ Err c → (v : Going) → answered (Err c) v ≡ w
-  all_stop c t v = then_stop g' r y (pushed_all dt (transitions_from n (j + 1) (e - (j + 1)))) c t v ∙ sym (all_step n dt j e g h) ∙ inv
+  pub all_stop : (c : RefusalEnum) → r ≡ Err c → refused (number_of c) ≡ w
+  all_stop c t = then_stop g' r y (pushed_all dt (transitions_from n (j + 1) (e - (j + 1)))) c t ∙ sym (all_step n dt j e g h) ∙ inv
 
   pub all_go : (u : Unit) → r ≡ Ok u → pushed_all dt (transitions_from n (j + 1) (e - (j + 1))) g' ≡ w
   all_go u t = then_go g' r y (pushed_all dt (transitions_from n (j + 1) (e - (j + 1)))) u t ∙ sym (all_step n dt j e g h) ∙ inv
 
 module _ (f : State → Answer State) (k i : ℕ) (g g' : State) (r : Result Unit RefusalEnum) {w : Answer State} (inv : repeated (k - i) f g ≡ w) (h : i < k) (y : answered r g' ≡ f g) where
-  pub repeated_stop : (c : RefusalEnum) → r ≡ Err c → (v : State) → answered (Err c) v ≡ w
-  repeated_stop c t v = then_stop g' r y (repeated (k - (i + 1)) f) c t v ∙ sym (repeated_step f k i g h) ∙ inv
+  pub repeated_stop : (c : RefusalEnum) → r ≡ Err c → refused (number_of c) ≡ w
+  repeated_stop c t = then_stop g' r y (repeated (k - (i + 1)) f) c t ∙ sym (repeated_step f k i g h) ∙ inv
 
   pub repeated_go : (u : Unit) → r ≡ Ok u → repeated (k - (i + 1)) f g' ≡ w
   repeated_go u t = then_go g' r y (repeated (k - (i + 1)) f) u t ∙ sym (repeated_step f k i g h) ∙ inv
 
 -- a substep: g is its beginning, g' what the transitions left, and u' what the drift left
 module _ (n : Net) (dt : Float) (u : State) (g g' : Going) (r : Result Unit RefusalEnum) (b : g ≡ begun u) (y : answered r g' ≡ pushed_all dt n.transitions g) where
-  pub substep_stop : (c : RefusalEnum) → r ≡ Err c → (v : State) → answered (Err c) v ≡ substep n dt u
-  substep_stop c t v = then_stop g' r (y ∙ ap (pushed_all dt n.transitions) b) (λ (x : Going). given (after_drift x)) c t v
+  pub substep_stop : (c : RefusalEnum) → r ≡ Err c → refused (number_of c) ≡ substep n dt u
+  substep_stop c t = then_stop g' r (y ∙ ap (pushed_all dt n.transitions) b) (λ (x : Going). given (after_drift x)) c t
 
   pub substep_go : (o : Unit) → r ≡ Ok o → (u' : State) → u' ≡ after_drift g' → given u' ≡ substep n dt u
   substep_go o t u' z = ap given z ∙ then_go g' r (y ∙ ap (pushed_all dt n.transitions) b) (λ (x : Going). given (after_drift x)) o t
