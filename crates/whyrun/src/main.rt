@@ -4,7 +4,6 @@
 #![tactic(auto)]
 
 use net_io::{Input, read_input, say, text_room, write_front};
-use net_text::Judged;
 use reason::ReasonAnswer;
 use text::Written;
 
@@ -34,11 +33,9 @@ fn show_reason(rt: &HostRuntime, net: net::Net) {
 }
 
 fn ask(rt: &HostRuntime, text: &[u8]) {
-    let read = net_text::read_net(text);
-    let judged = read.judged;
-    match judged {
-        Judged::Refused(number, line) => show_refused(rt, number, line),
-        Judged::Given => show_reason(rt, read.net),
+    match net_text::read_net(text) {
+        Ok(read) => show_reason(rt, read.net),
+        Err(down) => show_refused(rt, down.refusal.number(), down.line),
     }
 }
 

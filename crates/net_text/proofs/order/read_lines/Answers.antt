@@ -1,0 +1,1 @@
+use Rattle.net_text.proofs.order.read_lines.Goals as goal
