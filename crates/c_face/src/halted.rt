@@ -42,7 +42,7 @@ fn leave(
 {
     let end = r.end;
     if let PathEnd::Refused(c) = end {
-        *told = [c, 0, 0, 0, 0];
+        *told = [c.number(), 0, 0, 0, 0];
         return;
     }
     let s = r.state;
@@ -104,7 +104,21 @@ pub extern "C" fn cild_path_until<'a>(
         Told.Left call told.new halted.old times.old halted.new times.new table.new
         × (words state.new ≡ call.state.now.generator) }
 {
-    let r = ssa::fields_path_until(&LentNet { places: places, transitions: transitions, initial: initial, capacity: capacity, label: label, lengths: lengths, rate: rate, delay: delay, arcs: arcs, kind: kind, place: place, weight: weight }, Xoshiro256::from_state(*state), instants, limit, named, table);
+    let net = LentNet {
+        places,
+        transitions,
+        initial,
+        capacity,
+        label,
+        lengths,
+        rate,
+        delay,
+        arcs,
+        kind,
+        place,
+        weight,
+    };
+    let r = ssa::path_until(&net, Xoshiro256::from_state(*state), instants, limit, named, table);
     let s = r.state;
     let generator = s.generator;
     *state = generator.state();
@@ -157,6 +171,34 @@ pub extern "C" fn cild_carry<'a>(
         told.new halted.old times.old halted.new times.new table.new }
 {
     let path = path_in(halted, times);
-    let r = ssa::fields_carry(old_places, old_transitions, old_initial, old_capacity, old_label, old_lengths, old_rate, old_delay, old_arcs, old_kind, old_place, old_weight, &LentNet { places: places, transitions: transitions, initial: initial, capacity: capacity, label: label, lengths: lengths, rate: rate, delay: delay, arcs: arcs, kind: kind, place: place, weight: weight }, pairs, path, instants, named, table);
+    let old = LentNet {
+        places: old_places,
+        transitions: old_transitions,
+        initial: old_initial,
+        capacity: old_capacity,
+        label: old_label,
+        lengths: old_lengths,
+        rate: old_rate,
+        delay: old_delay,
+        arcs: old_arcs,
+        kind: old_kind,
+        place: old_place,
+        weight: old_weight,
+    };
+    let net = LentNet {
+        places,
+        transitions,
+        initial,
+        capacity,
+        label,
+        lengths,
+        rate,
+        delay,
+        arcs,
+        kind,
+        place,
+        weight,
+    };
+    let r = ssa::carry(&old, &net, pairs, path, instants, named, table);
     leave(old_places, r, halted, times, told);
 }

@@ -18,7 +18,7 @@ pub fn end_number(end: PathEnd) -> u64
         PathEnd::Spent => 101,
         PathEnd::Reached => 102,
         PathEnd::Halted => 103,
-        PathEnd::Refused(c) => c,
+        PathEnd::Refused(c) => c.number(),
     }
 }
 
@@ -48,7 +48,21 @@ pub extern "C" fn cild_path<'a>(
         rate.now delay.now arcs.now kind.now place.now weight.now) (words state.old) instants.now limit table.old)
         told.new (words state.new) table.new }
 {
-    let r = ssa::fields_path(&LentNet { places: places, transitions: transitions, initial: initial, capacity: capacity, label: label, lengths: lengths, rate: rate, delay: delay, arcs: arcs, kind: kind, place: place, weight: weight }, Xoshiro256::from_state(*state), instants, limit, table);
+    let net = LentNet {
+        places,
+        transitions,
+        initial,
+        capacity,
+        label,
+        lengths,
+        rate,
+        delay,
+        arcs,
+        kind,
+        place,
+        weight,
+    };
+    let r = ssa::path(&net, Xoshiro256::from_state(*state), instants, limit, table);
     let end = r.end;
     *told = [end_number(end), r.steps, r.settled, r.peak, r.rounded];
     let generator = r.generator;

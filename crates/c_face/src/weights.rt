@@ -39,20 +39,20 @@ pub extern "C" fn cild_balance(
     ensures { told.new ≡ told_of (called (labelled places transitions initial.now capacity.now label.now lengths.now
         rate.now delay.now arcs.now kind.now place.now weight.now) weights.now) }
 {
-    let net = Net {
-        places: places,
-        transitions: transitions,
-        initial: *initial,
-        capacity: *capacity,
-        label: *label,
-        lengths: *lengths,
-        rate: *rate,
-        delay: *delay,
-        arcs: *arcs,
-        kind: *kind,
-        place: *place,
-        weight: *weight,
+    let net = LentNet {
+        places,
+        transitions,
+        initial,
+        capacity,
+        label,
+        lengths,
+        rate,
+        delay,
+        arcs,
+        kind,
+        place,
+        weight,
     };
-    let r = balance::balance(net, weights);
+    let r = balance::balance(&net, weights);
     *told = balance_numbers(r);
 }
