@@ -6,7 +6,7 @@ use Rattle.sde.proofs.paths.averaged.Goals as goal
 pub returns-in-Err : goal.returns-in-Err
 returns-in-Err c =
     let r = c.args.run.now in
-    call_stopped (r.net.places * r.n) c.args.realizations _ _ _ _ _ c.requires.2 c.requires.3 c.requires.4 _ c.in-Err.ensures _ _ _ c.clear.ensures c.clear-2.ensures c.clear-3.ensures
+    call_stopped (r.net.places * r.n) c.args.realizations _ _ _ _ _ c.requires.2 c.requires.3 c.requires.4 _ c.in-Err.ensures _ _ _ c.clear.ensures c.clear-in-Err.ensures c.clear-in-Err-2.ensures
 
 pub returns : goal.returns
 returns c =
