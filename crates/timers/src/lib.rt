@@ -21,6 +21,7 @@ pub struct Timer {
     pub taken: u64,
 }
 
+// The slots are lent apart from the ring: `remove_first` moves no entry because it is not lent them (RemovedFrom), and C lends them apart (`cild_timer_insert`).
 // Where the list starts, how long it is, and 1 where its completion times are known to be in order: then a new timer's place is looked for from the end.
 // That is a word, since the bytes that fill up a bool are copied apart from it, which made a step three times as long.
 #[derive(Clone, Copy)]

@@ -7,7 +7,7 @@ ghost use Rattle.timers.specs.Turning as Turning;
 
 use crate::{Ring, Timer, slots};
 
-// Timers in the order in which they leave, the first at 0. A length above 256 is 256.
+// Timers in the order in which they leave, the first at 0. A length above 256 is 256. Three lists side by side, as `cild_timers_in` is lent them by C.
 #[derive(Clone, Copy)]
 pub struct Queue {
     pub ats: [f64; 256],
