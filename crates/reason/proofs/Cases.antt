@@ -3,7 +3,7 @@ use Prim.Native.Nat.{ℕ, zero, suc, ◌+◌, ◌-◌, ◌/◌, ◌%◌, ◌≤�
 use native.Mathlib.Numerals.{add-one}
 use native.Mathlib.Omega.{arith}
 use native.Mathlib.Nat.{zero-add}
-use mathlib.Core.Path.{◌≡◌, refl, sym, ap, ◌∙◌}
+use mathlib.Core.Path.{◌≡◌, refl, sym, ◌∙◌}
 use mathlib.Core.Bool.{Bool, true, false, cond, not, ◌&&◌}
 use mathlib.Core.List.{List, [], ◌∷◌, ◌++◌, map}
 use lib.Dec.{eqb, leb}
@@ -11,14 +11,13 @@ use lib.ListN.{length, drop}
 use Rattle.refusals.specs as Reason
 use Rattle.net.specs.Net.{pick}
 use Rattle.text.specs.Text.{Bytes, bytes}
-use Rattle.text.specs.Numbers.{decimal_text}
-use Rattle.text.specs.Buffer.{written, and_then}
+use Rattle.text.specs.Buffer.{written}
 use Rattle.std.specs.Prelude.{Option, Some, None, Result, Ok, Err, ok_or}
 use Rattle.refusals.specs.declared.Refusal.TheVariants.{ShortBuffer}
 use Rattle.gates.specs.Gated.{bits_from}
-use Rattle.reason.specs.Reasons.{Reasons, opening, read_words, inhibitor_words, non_kinetic_words}
+use Rattle.reason.specs.Reasons.{Reasons, read_words, inhibitor_words, non_kinetic_words}
 use Rattle.reason.specs.Call.{answered, told}
-use Rattle.reason.specs.Parts.{lead, then_lead, then_counted, then_place, still_first, then_bound, then_labels, then_timed, then_all}
+use Rattle.reason.specs.Parts.{lead, then_counted, then_place, still_first, then_bound, then_labels, then_timed, then_all}
 
 pub lead_later : (i : ℕ) → (i ≡ 0 → ⊥) → bytes "; " ≡ lead i
 lead_later zero h = absurd (h refl)

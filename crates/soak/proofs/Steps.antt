@@ -7,10 +7,9 @@ use mathlib.Core.List.{List, [], ◌∷◌, ◌++◌, append_assoc, append-nil}
 use lib.ListN.{length}
 use Rattle.rng.specs.State.{State}
 use Rattle.rng.specs.Xoshiro.{output, step}
-use Rattle.text.specs.Text.{Bytes, bytes}
-use Rattle.text.specs.Numbers.{decimal_text}
+use Rattle.text.specs.Text.{Bytes}
 use Rattle.text.specs.Buffer.{written, and_then}
-use Rattle.std.specs.Prelude.{Option, Some, None}
+use Rattle.std.specs.Prelude.{Option, None}
 use Rattle.text.proofs.Places.{then_joined, front_fits}
 use Rattle.net_writing.specs.Writing.{together}
 use Rattle.soak.specs.Soak.{start, choice, after}

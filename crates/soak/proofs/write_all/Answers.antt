@@ -1,12 +1,11 @@
 -- `write_all` meets its contract: the first line, the places, the transitions and the run line, one behind the other.
-use mathlib.Core.Path.{◌≡◌, ap, ◌∙◌}
+use mathlib.Core.Path.{ap, ◌∙◌}
 use mathlib.Core.List.{◌++◌}
-use Rattle.rng.specs.State.{words}
 use Rattle.rng.specs.Splitmix.{seeded}
 use Rattle.text.specs.Text.{bytes}
 use Rattle.text.specs.Buffer.{written}
 use Rattle.soak.specs.Soak.{start, after}
-use Rattle.soak.specs.Words.{then_all, places_words, moves_words, run_words, all_the_words}
+use Rattle.soak.specs.Words.{then_all, moves_words, run_words, all_the_words}
 use Rattle.soak.proofs.Steps.{Left, short, places_all, moves_all}
 use Rattle.soak.proofs.write_all.Goals as goal
 

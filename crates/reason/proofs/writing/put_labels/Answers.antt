@@ -1,5 +1,5 @@
 -- `put_labels` meets its contract. The invariant: the places that are left, written from here, are all of them written.
-use mathlib.Core.Path.{sym, ap, ◌∙◌, refl}
+use mathlib.Core.Path.{ap, ◌∙◌, refl}
 use Prim.Native.Nat.{ℕ, ◌+◌, ◌/◌, ◌%◌}
 use lib.Dec.{eqb}
 use Rattle.std.specs.Prelude.{Option, Some}
