@@ -2,7 +2,7 @@
 ghost use Rattle.std.specs.Prelude.{◌≡◌, ◌-◌, ◌*◌, ◌≤◌, length};
 ghost use Rattle.net.specs.Net as Reader;
 ghost use Rattle.net.specs.Readable as Record;
-ghost use Rattle.net.specs.Record.{lent};
+ghost use Rattle.net.specs.Record.{net_of};
 ghost use Rattle.net.specs.Sound as Sound;
 ghost use Rattle.net.specs.declared.Net.{Net as NetRecord};
 ghost use Rattle.rules.specs.Balance as Balance;
@@ -10,8 +10,8 @@ ghost use Rattle.engine.specs.Arcs as Arcs;
 ghost use Rattle.balance.specs.Call as Call;
 ghost use Rattle.balance.specs.Slots as Slots;
 
-use crate::BalanceAnswer;
 use engine::slots;
+use net::LentNet;
 
 // The largest weight of a place.
 const MOST_WEIGHT: u64 = 1_000;
@@ -20,14 +20,7 @@ const MOST_WEIGHT: u64 = 1_000;
 pub fn some_above(weights: &[u64]) -> bool
     ensures { result ≡ Balance.some_above1000 weights.now }
 {
-    let mut p: usize = 0;
-    while p < weights.len() {
-        if MOST_WEIGHT < weights[p] {
-            return true;
-        }
-        p += 1;
-    }
-    false
+    weights.iter().any(|w| MOST_WEIGHT < *w)
 }
 
 // What an arc of this weight moves, its place weighing w.
@@ -62,57 +55,34 @@ fn put_weight(kind: u64, weight: u64, w: u64) -> u64
 }
 
 // Do the slots from `from` to before `end` put as much weight as they take?
-fn slots_even<'a>(
-    kind: &'a [u64; 1024],
-    place: &'a [usize; 1024],
-    weight: &'a [u64; 1024],
-    from: usize,
-    end: usize,
-    weights: &[u64],
-) -> bool
-    requires { (end ≤ 1024) × Arcs.Light from end weight.now × Slots.Placed from end place.now (length weights.now) × Slots.Small weights.now }
-    ensures { result ≡ Slots.slots_even weights.now (Record.slots kind.now place.now weight.now from (end - from)) }
+fn slots_even(net: &LentNet, from: usize, end: usize, weights: &[u64]) -> bool
+    requires { (end ≤ 1024) × Arcs.Light from end net.now.weight.now × Slots.Placed from end net.now.place.now (length weights.now) × Slots.Small weights.now }
+    ensures { result ≡ Slots.slots_even weights.now (Record.slots net.now.kind.now net.now.place.now net.now.weight.now from (end - from)) }
 {
     let mut put: u64 = 0;
     let mut taken: u64 = 0;
-    let mut a = from;
-    while a < end {
-        let k = kind[a];
-        let p = place[a];
-        let m = weight[a];
+    for a in from..end {
+        let k = net.kind[a];
+        let p = net.place[a];
+        let m = net.weight[a];
         let w = weights[p];
         put = put + put_weight(k, m, w);
         taken = taken + taken_weight(k, m, w);
-        a += 1;
     }
     put == taken
 }
 
-// The lowest transition that does not put as much weight as it takes, or that there is none.
-pub fn first_uneven<'a>(
-    places: usize,
-    transitions: usize,
-    initial: &'a [u64; 32],
-    capacity: &'a [u64; 32],
-    rate: &'a [f64; 64],
-    delay: &'a [f64; 64],
-    arcs: &'a [usize; 64],
-    kind: &'a [u64; 1024],
-    place: &'a [usize; 1024],
-    weight: &'a [u64; 1024],
-    weights: &[u64],
-) -> BalanceAnswer
-    requires { let net = lent places transitions initial.now capacity.now rate.now delay.now arcs.now kind.now place.now weight.now in Sound.Sound net × (length weights.now ≡ places) × Slots.Small weights.now }
-    ensures { let net = lent places transitions initial.now capacity.now rate.now delay.now arcs.now kind.now place.now weight.now in Call.call_of result ≡ Call.weighed (Record.readable net) weights.now }
+// The lowest transition that does not put as much weight as it takes.
+pub fn first_uneven(net: &LentNet, weights: &[u64]) -> Option<usize>
+    requires { let net = net_of net.now in Sound.Sound net × (length weights.now ≡ net.places) × Slots.Small weights.now }
+    ensures { let net = net_of net.now in Call.lowest result ≡ Balance.unbalanced (Record.readable net) weights.now }
 {
-    let mut j: usize = 0;
-    while j < transitions {
+    for j in 0..net.transitions {
         let from = 16 * j;
-        let end = from + arcs[j];
-        if !slots_even(kind, place, weight, from, end, weights) {
-            return BalanceAnswer::Unbalanced(j);
+        let end = from + net.arcs[j];
+        if !slots_even(net, from, end, weights) {
+            return Some(j);
         }
-        j += 1;
     }
-    BalanceAnswer::Balanced
+    None
 }

@@ -86,10 +86,10 @@ filling_stop {s₀} {xs₀} {s} {xs} {i} {c} {t} m h e f =
     ∙ m.rest
 
 pub filling_end : {s₀ : Sampler} {xs₀ : List Float} {s : Sampler} {xs : List Float} {i : ℕ} → Filling s₀ xs₀ s xs i → i ≡ length xs →
-    made i xs s ≡ filled s₀ xs₀
+    made (length xs) xs s ≡ filled s₀ xs₀
 unfolding filled
 filling_end {s₀} {xs₀} {s} {xs} {i} m e =
-    same_made s (omega (arith, length-take-le i xs m.within)) (sym (take-append-drop i xs) ∙ ap (λ (l : List Float). take i xs ++ l) none)
+    same_made s (omega (arith, e, length-take-le i xs m.within)) (sym (take-append-drop i xs) ∙ ap (λ (l : List Float). take i xs ++ l) none)
     ∙ ap (λ (l : List Float). behind (take i xs) (filled s l)) (sym none)
     ∙ m.rest
   where

@@ -5,3 +5,4 @@ pub mod Parts
 pub mod Running
 pub mod Putting
 pub mod Written
+pub mod Flags

@@ -1,12 +1,12 @@
 -- Values that are put into a list from one cell on, one by one; and the words of a path, once its counts, its numbers, and the transitions and taken
 -- weights of its timers are put among zeros. Assumes nothing.
-use Prim.Native.Nat.{ℕ, ◌+◌, ◌-◌, ◌≤◌, ◌<◌}
+use Prim.Native.Nat.{ℕ, ◌+◌, ◌-◌, ◌≤◌, ◌<◌, min}
 use mathlib.Core.Path.{◌≡◌, refl, sym, ap, ◌∙◌}
 use mathlib.Core.Bool.{Bool, true, false}
 use mathlib.Core.Logic.{◌⊎◌, inl, inr}
 use mathlib.Core.List.{List}
 use native.Mathlib.Omega.{arith}
-use native.Mathlib.Nat.{ne_of_lt, ne_of_gt}
+use native.Mathlib.Nat.{ne_of_lt, ne_of_gt, min-le_left, min-le_right, min-eq_left, le-min}
 use borrow.Author.Count.{below_none, below_more}
 use borrow.Author.Tests.{lt-ltb, le-ltb, ltb-true, ltb-false}
 use lib.Dec.{ltb}
@@ -16,7 +16,7 @@ use lib.Seq.{get_or-set_same, get_or-set_other, get_or-take}
 use Rattle.rules.specs.Timers.{Timer}
 use Rattle.engine.specs.Engine.{marking}
 use Rattle.carried.specs.Timers.{timers_in}
-use Rattle.c_face.specs.Layout.{Least, Put, timer_at, word_in}
+use Rattle.c_face.specs.Layout.{Put, timer_at, word_in}
 use Rattle.c_face.proofs.Running.{timer_at_lem, timer_past}
 
 pub put_none : (xs : List ℕ) (a : ℕ) (vs : List ℕ) → Put xs a vs 0 xs
@@ -46,16 +46,29 @@ put_at_lem {a = a} {ys = ys} m i l h =
     let e : i ≡ a + (i - a) = omega arith in
     ap (λ (k : ℕ). get_or ys k 0) e ∙ m.inside (i - a) (omega arith)
 
--- past the smaller of two numbers and not past the second, past the first
-least_past : {a b r : ℕ} → Least a b r → (i : ℕ) → r ≤ i → i < b → a ≤ i
-least_past m i l h = omega (arith, m.one (omega arith))
-
 split : (a b : ℕ) → (a < b) ⊎ (b ≤ a)
 split a b = go (ltb a b) refl
   where
     go : (t : Bool) → ltb a b ≡ t → (a < b) ⊎ (b ≤ a)
     go true e = inl (ltb-true a b e)
     go false e = inr (ltb-false a b e)
+
+-- r is the smaller of a and b
+pub record Least (a b r : ℕ) : Type 0 where
+  pub low : r ≤ a
+  pub high : r ≤ b
+  pub one : r < b → r ≡ a
+
+pub least_min : (a b r : ℕ) → r ≡ min a b → Least a b r
+least_min a b r e = go (split a b)
+  where
+    go : (a < b) ⊎ (b ≤ a) → Least a b r
+    go (inl l) = let f : r ≡ a = e ∙ min-eq_left (omega arith) in record { low = omega arith; high = omega arith; one = λ h. f }
+    go (inr l) = let f : b ≤ min a b = le-min l (omega arith) in record { low = rw e (min-le_left a b); high = rw e (min-le_right a b); one = λ h. omega arith }
+
+-- past the smaller of two numbers and not past the second, past the first
+least_past : {a b r : ℕ} → Least a b r → (i : ℕ) → r ≤ i → i < b → a ≤ i
+least_past m i l h = omega (arith, m.one (omega arith))
 
 -- counts, numbers, transitions and taken weights put into a list of zeros
 module _ (places : ℕ) (counts numbers whos takens : List ℕ) (n p m : ℕ) (few : Least places 32 p) (some : Least n 256 m) {v w x y z : List ℕ}

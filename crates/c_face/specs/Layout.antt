@@ -27,12 +27,6 @@ word_in m numbers q i =
     (pick (ltb i 304) (timer_at q (i - 48)).who
     (pick (ltb i 560) (timer_at q (i - 304)).taken 0))))
 
--- r is the smaller of a and b
-pub record Least (a b r : ℕ) : Type 0 where
-  pub low : r ≤ a
-  pub high : r ≤ b
-  pub one : r < b → r ≡ a
-
 -- ys is xs with the first n values put in from cell a on
 pub record Put (xs : List ℕ) (a : ℕ) (values : List ℕ) (n : ℕ) (ys : List ℕ) : Type 0 where
   pub long : length ys ≡ length xs

@@ -4,7 +4,7 @@ ghost use Rattle.net.specs.Record.{labelled};
 ghost use Rattle.sde.specs.Call as Call;
 ghost use Rattle.c_face.specs.Diffused as Diffused;
 
-use net::Net;
+use net::LentNet;
 use sde::DiffusionAnswer;
 
 // The refusal's number, 0 for averaged, 100 for gated; the number of the path that was refused, or 1 where there are deviations; what gates a gated
@@ -13,7 +13,7 @@ fn diffusion_numbers(answer: DiffusionAnswer) -> [u64; 7]
     ensures { result ≡ Diffused.told_of (Call.outcome_of answer) }
 {
     match answer {
-        DiffusionAnswer::Averaged(deviations) => [0, crate::one_if(deviations), 0, 0, 0, 0, 0],
+        DiffusionAnswer::Averaged(deviations) => [0, u64::from(deviations), 0, 0, 0, 0, 0],
         DiffusionAnswer::Gated(g) => [
             100,
             0,
@@ -21,10 +21,10 @@ fn diffusion_numbers(answer: DiffusionAnswer) -> [u64; 7]
             g.inhibitors,
             g.nonkinetic,
             g.bounded,
-            crate::one_if(g.delayed),
+            u64::from(g.delayed),
         ],
-        DiffusionAnswer::TurnedDown(c) => [c, 0, 0, 0, 0, 0, 0],
-        DiffusionAnswer::Stopped(c, k) => [c, k, 0, 0, 0, 0, 0],
+        DiffusionAnswer::TurnedDown(c) => [c.number(), 0, 0, 0, 0, 0, 0],
+        DiffusionAnswer::Stopped(c, k) => [c.number(), k, 0, 0, 0, 0, 0],
     }
 }
 
@@ -58,22 +58,22 @@ pub extern "C" fn cild_diffusion(
         (record { mean = mean.old; deviation = deviation.old; path = path.old }))
         told.new mean.new deviation.new path.new }
 {
-    let net = Net {
-        places: places,
-        transitions: transitions,
-        initial: *initial,
-        capacity: *capacity,
-        label: *label,
-        lengths: *lengths,
-        rate: *rate,
-        delay: *delay,
-        arcs: *arcs,
-        kind: *kind,
-        place: *place,
-        weight: *weight,
+    let net = LentNet {
+        places,
+        transitions,
+        initial,
+        capacity,
+        label,
+        lengths,
+        rate,
+        delay,
+        arcs,
+        kind,
+        place,
+        weight,
     };
     let answer = sde::diffuse(
-        net,
+        &net,
         samples,
         realizations,
         seed,

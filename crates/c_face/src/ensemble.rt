@@ -4,7 +4,7 @@ ghost use Rattle.net.specs.Record.{labelled};
 ghost use Rattle.ssa.specs.Ensemble as Ensemble;
 ghost use Rattle.c_face.specs.Averaged as Averaged;
 
-use net::Net;
+use net::LentNet;
 use ssa::EnsembleAnswer;
 
 // The refusal's number, or 0; the number of the path that was refused, or how many were spent; 1 where there are deviations.
@@ -12,9 +12,9 @@ fn ensemble_numbers(answer: EnsembleAnswer) -> [u64; 3]
     ensures { result ≡ Averaged.told_of (Ensemble.outcome_of answer) }
 {
     match answer {
-        EnsembleAnswer::Averaged(spent, deviates) => [0, spent, crate::one_if(deviates)],
-        EnsembleAnswer::TurnedDown(c) => [c, 0, 0],
-        EnsembleAnswer::Stopped(c, k) => [c, k, 0],
+        EnsembleAnswer::Averaged(spent, deviates) => [0, spent, u64::from(deviates)],
+        EnsembleAnswer::TurnedDown(c) => [c.number(), 0, 0],
+        EnsembleAnswer::Stopped(c, k) => [c.number(), k, 0],
     }
 }
 
@@ -48,22 +48,22 @@ pub extern "C" fn cild_ensemble(
         (record { mean = mean.old; deviation = deviation.old; path = path.old }))
         told.new mean.new deviation.new path.new }
 {
-    let net = Net {
-        places: places,
-        transitions: transitions,
-        initial: *initial,
-        capacity: *capacity,
-        label: *label,
-        lengths: *lengths,
-        rate: *rate,
-        delay: *delay,
-        arcs: *arcs,
-        kind: *kind,
-        place: *place,
-        weight: *weight,
+    let net = LentNet {
+        places,
+        transitions,
+        initial,
+        capacity,
+        label,
+        lengths,
+        rate,
+        delay,
+        arcs,
+        kind,
+        place,
+        weight,
     };
     let answer = ssa::ensemble(
-        net,
+        &net,
         samples,
         realizations,
         seed,

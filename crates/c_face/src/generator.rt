@@ -51,13 +51,10 @@ pub extern "C" fn cild_outputs(state: &mut [u64; 4], out: &mut [u64])
     ensures state_after { words state.new ≡ after (length out.old) (words state.old) }
 {
     let mut rng = Xoshiro256::from_state(*state);
-    let mut i = 0;
-    while i < out.len() {
+    for x in out.iter_mut() {
         let drawn = rng.next_u64();
-        out[i] = drawn.value;
-        let next = drawn.rng;
-        rng = next;
-        i += 1;
+        *x = drawn.value;
+        rng = drawn.rng;
     }
     *state = rng.state();
 }
@@ -69,13 +66,10 @@ pub extern "C" fn cild_uniforms(state: &mut [u64; 4], out: &mut [f64])
     ensures state_after { words state.new ≡ after (length out.old) (words state.old) }
 {
     let mut rng = Xoshiro256::from_state(*state);
-    let mut i = 0;
-    while i < out.len() {
+    for x in out.iter_mut() {
         let drawn = rng.uniform();
-        out[i] = drawn.value;
-        let next = drawn.rng;
-        rng = next;
-        i += 1;
+        *x = drawn.value;
+        rng = drawn.rng;
     }
     *state = rng.state();
 }

@@ -10,6 +10,7 @@ ghost use Rattle.c_face.specs.Halted as Told;
 use crate::{halted_words, path};
 use rng::Xoshiro256;
 use ssa::{Halted, Onward, PathEnd};
+use net::LentNet;
 
 // The path that words and times hold.
 fn path_in<'a>(halted: &'a [u64; 816], times: &'a [f64; 257]) -> Halted
@@ -41,7 +42,7 @@ fn leave(
 {
     let end = r.end;
     if let PathEnd::Refused(c) = end {
-        *told = [c, 0, 0, 0, 0];
+        *told = [c.number(), 0, 0, 0, 0];
         return;
     }
     let s = r.state;
@@ -103,7 +104,7 @@ pub extern "C" fn cild_path_until<'a>(
         Told.Left call told.new halted.old times.old halted.new times.new table.new
         × (words state.new ≡ call.state.now.generator) }
 {
-    let r = ssa::fields_path_until(
+    let net = LentNet {
         places,
         transitions,
         initial,
@@ -116,12 +117,8 @@ pub extern "C" fn cild_path_until<'a>(
         kind,
         place,
         weight,
-        Xoshiro256::from_state(*state),
-        instants,
-        limit,
-        named,
-        table,
-    );
+    };
+    let r = ssa::path_until(&net, Xoshiro256::from_state(*state), instants, limit, named, table);
     let s = r.state;
     let generator = s.generator;
     *state = generator.state();
@@ -174,19 +171,21 @@ pub extern "C" fn cild_carry<'a>(
         told.new halted.old times.old halted.new times.new table.new }
 {
     let path = path_in(halted, times);
-    let r = ssa::fields_carry(
-        old_places,
-        old_transitions,
-        old_initial,
-        old_capacity,
-        old_label,
-        old_lengths,
-        old_rate,
-        old_delay,
-        old_arcs,
-        old_kind,
-        old_place,
-        old_weight,
+    let old = LentNet {
+        places: old_places,
+        transitions: old_transitions,
+        initial: old_initial,
+        capacity: old_capacity,
+        label: old_label,
+        lengths: old_lengths,
+        rate: old_rate,
+        delay: old_delay,
+        arcs: old_arcs,
+        kind: old_kind,
+        place: old_place,
+        weight: old_weight,
+    };
+    let net = LentNet {
         places,
         transitions,
         initial,
@@ -199,11 +198,7 @@ pub extern "C" fn cild_carry<'a>(
         kind,
         place,
         weight,
-        pairs,
-        path,
-        instants,
-        named,
-        table,
-    );
+    };
+    let r = ssa::carry(&old, &net, pairs, path, instants, named, table);
     leave(old_places, r, halted, times, told);
 }

@@ -1,7 +1,6 @@
 // A halted path in 816 words and 257 times (specs/Layout): words 0 to 31 are the counts, 32 to 35 the generator, 36 the steps, 37 their limit,
 // 38 the peak, 39 the rounded steps, 40 how many instants are recorded, 41 how many timers run, 48 + i the transition of timer i and 304 + i the
 // weight that it took; time 0 is the clock, and 1 + i when timer i completes. What a path does not use is not looked at, and is written as 0.
-// An array is seen as a slice where the proof wants its length, which costs nothing.
 ghost use Rattle.std.specs.Prelude.{◌≡◌, List, ℕ, ◌+◌, ◌≤◌, ◌<◌, Float, length, get_or, take, drop};
 ghost use Rattle.std.specs.Float.{nan};
 ghost use Rattle.engine.specs.Engine.{marking};
@@ -14,13 +13,8 @@ use timers::queue::Queue;
 pub fn counts_in(words: &[u64; 816]) -> [u64; 32]
     ensures { result ≡ take 32 words.now }
 {
-    let all: &[u64] = words;
     let mut counts = [0u64; 32];
-    let mut p: usize = 0;
-    while p < 32 {
-        counts[p] = all[p];
-        p += 1;
-    }
+    counts.copy_from_slice(&words[..32]);
     counts
 }
 
@@ -28,42 +22,27 @@ pub fn counts_in(words: &[u64; 816]) -> [u64; 32]
 pub fn generator_in(words: &[u64; 816]) -> [u64; 4]
     ensures { result ≡ take 4 (drop 32 words.now) }
 {
-    let all: &[u64] = words;
-    [all[32], all[33], all[34], all[35]]
+    [words[32], words[33], words[34], words[35]]
 }
 
 // The timers. All 256 are copied, whatever their number is.
 pub fn timers_in<'a>(words: &'a [u64; 816], times: &'a [f64; 257]) -> Queue
     ensures { timers_in result.ats result.whos result.takens result.len ≡ Layout.timers_of words.now times.now }
 {
-    let all: &[u64] = words;
-    let every: &[f64] = times;
     let mut ats = [0.0f64; 256];
     let mut whos = [0usize; 256];
     let mut takens = [0u64; 256];
-    let mut i: usize = 0;
-    while i < 256 {
-        ats[i] = every[1 + i];
-        whos[i] = all[48 + i] as usize;
-        takens[i] = all[304 + i];
-        i += 1;
+    ats.copy_from_slice(&times[1..]);
+    takens.copy_from_slice(&words[304..560]);
+    for i in 0..256 {
+        whos[i] = words[48 + i] as usize;
     }
     Queue {
-        ats: ats,
-        whos: whos,
-        takens: takens,
-        len: all[41] as usize,
+        ats,
+        whos,
+        takens,
+        len: words[41] as usize,
     }
-}
-
-// The smaller of two numbers.
-fn least(a: usize, b: usize) -> usize
-    ensures { Layout.Least a b result }
-{
-    if a < b {
-        return a;
-    }
-    b
 }
 
 // Puts the first n values into the words from word `at` on.
@@ -71,12 +50,7 @@ fn put(words: &mut [u64; 816], at: usize, values: &[u64], n: usize)
     requires { (n ≤ length values.now) × (at + n ≤ 816) }
     ensures { Layout.Put words.old at values.now n words.new }
 {
-    let all: &[u64] = words;
-    let mut k: usize = 0;
-    while k < n {
-        words[at + k] = values[k];
-        k += 1;
-    }
+    words[at..at + n].copy_from_slice(&values[..n]);
 }
 
 // Puts the transitions of the first n timers into the words from word 48 on.
@@ -84,11 +58,8 @@ fn put_whos(words: &mut [u64; 816], whos: &[usize; 256], n: usize)
     requires { n ≤ 256 }
     ensures { Layout.Put words.old 48 whos.now n words.new }
 {
-    let all: &[u64] = words;
-    let mut k: usize = 0;
-    while k < n {
+    for k in 0..n {
         words[48 + k] = whos[k] as u64;
-        k += 1;
     }
 }
 
@@ -107,8 +78,8 @@ pub fn write_words<'a>(
         (timers_in ats whos.now takens.now n) i }
 {
     *words = [0; 816];
-    let k = least(n, 256);
-    put(words, 0, counts, least(places, 32));
+    let k = n.min(256);
+    put(words, 0, counts, places.min(32));
     put(words, 32, numbers, 10);
     put_whos(words, whos, k);
     put(words, 304, takens, k);
@@ -118,16 +89,12 @@ pub fn write_words<'a>(
 pub fn write_times(times: &mut [f64; 257], clock: f64, ats: &[f64; 256], n: usize)
     ensures { (whos takens : List ℕ) (i : ℕ) → i < 257 → get_or times.new i nan ≡ Layout.time_in clock (timers_in ats.now whos takens n) i }
 {
-    let all: &[f64] = times;
     times[0] = clock;
-    let mut i: usize = 0;
-    while i < 256 {
-        let k = i + 1;
+    for i in 0..256 {
         if i < n {
-            times[k] = ats[i];
+            times[i + 1] = ats[i];
         } else {
-            times[k] = 0.0;
+            times[i + 1] = 0.0;
         }
-        i = k;
     }
 }

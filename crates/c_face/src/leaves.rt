@@ -8,8 +8,6 @@ ghost use Rattle.combinations.specs.Real as Real;
 ghost use Rattle.root.specs.Root.{root_of};
 ghost use Rattle.c_face.specs.Told.{is_value, or_zero, one_if_exact, is_real, real_or_zero};
 
-use combinations::{RealWays, Ways};
-
 #[unsafe(no_mangle)]
 pub extern "C" fn cild_wrapping_mul(a: u64, b: u64) -> u64
     ensures { result ≡ product a b }
@@ -57,29 +55,28 @@ pub extern "C" fn cild_sqrt(x: f64) -> f64
     root::sqrt(x)
 }
 
+// Whether there is an answer; it, or +0 where there is none, goes to value.
+fn told(answer: Option<f64>, value: &mut f64) -> bool
+    ensures { (result ≡ is_real (Real.meaning answer)) × (value.new ≡ real_or_zero (Real.meaning answer)) }
+{
+    *value = answer.unwrap_or(0.0);
+    answer.is_some()
+}
+
 // Whether it is answered; the float, or +0 for a refusal, goes to value. To exact goes 1 where the float is exact, and else 0, for a refusal too.
 #[unsafe(no_mangle)]
 pub extern "C" fn cild_combinations(m: i64, w: i64, value: &mut f64, exact: &mut u64) -> bool
     ensures { (result ≡ is_value (Combinations.combinations m w)) × (value.new ≡ or_zero (Combinations.combinations m w))
         × (exact.new ≡ one_if_exact (Combinations.combinations m w)) }
 {
-    told(combinations::combinations(m, w), value, exact)
-}
-
-fn told(ways: Ways, value: &mut f64, exact: &mut u64) -> bool
-    ensures { (result ≡ is_value (Combinations.meaning ways)) × (value.new ≡ or_zero (Combinations.meaning ways))
-        × (exact.new ≡ one_if_exact (Combinations.meaning ways)) }
-{
-    match ways {
-        Ways::Value(x, e) => {
-            *value = x;
-            *exact = crate::one_if(e);
-            true
+    match combinations::combinations(m, w) {
+        Some(x) => {
+            *exact = u64::from(x.exact);
+            told(Some(x.value), value)
         }
-        Ways::Refused => {
-            *value = 0.0;
+        None => {
             *exact = 0;
-            false
+            told(None, value)
         }
     }
 }
@@ -89,20 +86,5 @@ fn told(ways: Ways, value: &mut f64, exact: &mut u64) -> bool
 pub extern "C" fn cild_combinations_real(x: f64, w: i64, value: &mut f64) -> bool
     ensures { (result ≡ is_real (Real.combinations_real x w)) × (value.new ≡ real_or_zero (Real.combinations_real x w)) }
 {
-    told_real(combinations::combinations_real(x, w), value)
-}
-
-fn told_real(ways: RealWays, value: &mut f64) -> bool
-    ensures { (result ≡ is_real (Real.meaning ways)) × (value.new ≡ real_or_zero (Real.meaning ways)) }
-{
-    match ways {
-        RealWays::Value(x) => {
-            *value = x;
-            true
-        }
-        RealWays::Refused => {
-            *value = 0.0;
-            false
-        }
-    }
+    told(combinations::combinations_real(x, w), value)
 }

@@ -18,13 +18,3 @@ mod slices;
 mod soak_load;
 mod timer_list;
 mod weights;
-
-ghost use Rattle.std.specs.Prelude.{◌≡◌};
-ghost use Rattle.net.specs.Net.{pick};
-
-// A flag told as a number.
-fn one_if(b: bool) -> u64
-    ensures { result ≡ pick b 1 0 }
-{
-    if b { 1 } else { 0 }
-}

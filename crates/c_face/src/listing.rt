@@ -4,7 +4,7 @@ ghost use Rattle.net.specs.Readable as Record;
 ghost use Rattle.net.specs.Record.{labelled};
 ghost use Rattle.c_face.specs.Indexed as Indexed;
 
-use net::Net;
+use net::LentNet;
 use refusals::Refusal;
 
 // The refusal's number, or 0.
@@ -13,7 +13,7 @@ fn verdict_number(verdict: Result<(), Refusal>) -> u64
 {
     match verdict {
         Ok(()) => 0,
-        Err(c) => c,
+        Err(c) => c.number(),
     }
 }
 
@@ -39,20 +39,20 @@ pub extern "C" fn cild_index(
         rate.now delay.now arcs.now kind.now place.now weight.now in
         Indexed.Left (Record.fault net) (Record.readable net) masks.old masks.new result }
 {
-    let net = Net {
-        places: places,
-        transitions: transitions,
-        initial: *initial,
-        capacity: *capacity,
-        label: *label,
-        lengths: *lengths,
-        rate: *rate,
-        delay: *delay,
-        arcs: *arcs,
-        kind: *kind,
-        place: *place,
-        weight: *weight,
+    let net = LentNet {
+        places,
+        transitions,
+        initial,
+        capacity,
+        label,
+        lengths,
+        rate,
+        delay,
+        arcs,
+        kind,
+        place,
+        weight,
     };
-    let verdict = index::index_of(net, masks);
+    let verdict = index::index_of(&net, masks);
     verdict_number(verdict)
 }

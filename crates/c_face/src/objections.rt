@@ -4,16 +4,16 @@ ghost use Rattle.net.specs.Record.{labelled};
 ghost use Rattle.reason.specs.Call as Call;
 ghost use Rattle.c_face.specs.Reasoned as Reasoned;
 
-use net::Net;
-use reason::ReasonAnswer;
+use net::LentNet;
+use refusals::Refusal;
 
 // The refusal's number or 0, and the text's length.
-fn reason_numbers(answer: ReasonAnswer) -> [u64; 2]
-    ensures { result ≡ Reasoned.told_of answer }
+fn reason_numbers(answer: Result<usize, Refusal>) -> [u64; 2]
+    ensures { result ≡ Reasoned.told_of (Call.told answer) }
 {
     match answer {
-        ReasonAnswer::Length(n) => [0, n as u64],
-        ReasonAnswer::TurnedDown(c) => [c, 0],
+        Ok(n) => [0, n as u64],
+        Err(c) => [c.number(), 0],
     }
 }
 
@@ -39,20 +39,20 @@ pub extern "C" fn cild_reason(
         rate.now delay.now arcs.now kind.now place.now weight.now) out.old)
         told.new out.new }
 {
-    let net = Net {
-        places: places,
-        transitions: transitions,
-        initial: *initial,
-        capacity: *capacity,
-        label: *label,
-        lengths: *lengths,
-        rate: *rate,
-        delay: *delay,
-        arcs: *arcs,
-        kind: *kind,
-        place: *place,
-        weight: *weight,
+    let net = LentNet {
+        places,
+        transitions,
+        initial,
+        capacity,
+        label,
+        lengths,
+        rate,
+        delay,
+        arcs,
+        kind,
+        place,
+        weight,
     };
-    let answer = reason::reason(net, out);
+    let answer = reason::reason(&net, out);
     *told = reason_numbers(answer);
 }

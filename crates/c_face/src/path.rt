@@ -7,6 +7,7 @@ ghost use Rattle.c_face.specs.Played as Played;
 
 use rng::Xoshiro256;
 use ssa::PathEnd;
+use net::LentNet;
 
 // The number of an end: the refusal's own, or 100 for quiet, 101 for spent, 102 for reached, 103 for halted.
 pub fn end_number(end: PathEnd) -> u64
@@ -17,7 +18,7 @@ pub fn end_number(end: PathEnd) -> u64
         PathEnd::Spent => 101,
         PathEnd::Reached => 102,
         PathEnd::Halted => 103,
-        PathEnd::Refused(c) => c,
+        PathEnd::Refused(c) => c.number(),
     }
 }
 
@@ -47,7 +48,7 @@ pub extern "C" fn cild_path<'a>(
         rate.now delay.now arcs.now kind.now place.now weight.now) (words state.old) instants.now limit table.old)
         told.new (words state.new) table.new }
 {
-    let r = ssa::fields_path(
+    let net = LentNet {
         places,
         transitions,
         initial,
@@ -60,11 +61,8 @@ pub extern "C" fn cild_path<'a>(
         kind,
         place,
         weight,
-        Xoshiro256::from_state(*state),
-        instants,
-        limit,
-        table,
-    );
+    };
+    let r = ssa::path(&net, Xoshiro256::from_state(*state), instants, limit, table);
     let end = r.end;
     *told = [end_number(end), r.steps, r.settled, r.peak, r.rounded];
     let generator = r.generator;

@@ -3,7 +3,7 @@ ghost use Rattle.std.specs.Prelude.{◌≡◌};
 ghost use Rattle.normals.specs.Normal.{sampler_of};
 ghost use Rattle.c_face.specs.Normals as Normals;
 
-use normals::{Draw, GaussianSampler};
+use normals::GaussianSampler;
 use rng::Xoshiro256;
 
 // How many cells were filled, and the sampler after them.
@@ -18,23 +18,19 @@ fn fill(sampler: GaussianSampler, out: &mut [f64]) -> Filled
     ensures { Normals.filled_of result out.new ≡ Normals.filled (sampler_of sampler) out.old }
 {
     let mut s = sampler;
-    let mut i = 0;
-    while i < out.len() {
+    for i in 0..out.len() {
         let drawn = s.normal();
-        let draw = drawn.draw;
-        let next = drawn.sampler;
-        let Draw::Value(z) = draw else {
+        s = drawn.sampler;
+        let Ok(z) = drawn.draw else {
             return Filled {
                 count: i,
-                sampler: next,
+                sampler: s,
             };
         };
         out[i] = z;
-        s = next;
-        i += 1;
     }
     Filled {
-        count: i,
+        count: out.len(),
         sampler: s,
     }
 }

@@ -36,7 +36,7 @@ fn numbers(answer: GameAnswer) -> [u64; 3]
     ensures { result ≡ told_of (call_of answer) }
 {
     match answer {
-        GameAnswer::Refused(c) => [c, 0, 0],
+        GameAnswer::Refused(c) => [c.number(), 0, 0],
         GameAnswer::Answered(first, examined) => {
             [answer_number(first), fired_first(first), examined]
         }
@@ -68,20 +68,20 @@ pub extern "C" fn cild_game(
     ensures { told.new ≡ told_of (called (labelled places transitions initial.now capacity.now label.now lengths.now
         rate.now delay.now arcs.now kind.now place.now weight.now) sides.now wanted count turns) }
 {
-    let net = Net {
-        places: places,
-        transitions: transitions,
-        initial: *initial,
-        capacity: *capacity,
-        label: *label,
-        lengths: *lengths,
-        rate: *rate,
-        delay: *delay,
-        arcs: *arcs,
-        kind: *kind,
-        place: *place,
-        weight: *weight,
+    let net = LentNet {
+        places,
+        transitions,
+        initial,
+        capacity,
+        label,
+        lengths,
+        rate,
+        delay,
+        arcs,
+        kind,
+        place,
+        weight,
     };
-    let r = game::game(net, sides, wanted as usize, count, turns);
+    let r = game::game(&net, sides, wanted as usize, count, turns);
     *told = numbers(r);
 }

@@ -1,54 +1,48 @@
-// Leaf functions on each element of a slice, in place: in one call what a call for each element would do.
-ghost use Rattle.std.specs.Prelude.{◌≡◌, map};
+// The functions of leaves, on each element of a slice.
+ghost use Rattle.std.specs.Prelude.{◌≡◌, ℕ, ◌<◌, length, map, get_or};
 ghost use Rattle.words.specs.Product.{product};
 ghost use Rattle.words.specs.Rotation.{rotl};
 ghost use Rattle.portable_log.specs.Log as Log;
 ghost use Rattle.root.specs.Root.{root_of};
 
-// Each product with by, in place.
+// f of each element, in its place.
+fn each<T: Copy, F: Fn(T) -> T>(xs: &mut [T], f: F)
+    requires { F.IsAlwaysCallable f }
+    ensures { (g : T → T) → ((k : ℕ) (d y : T) → k < length xs.old → F.post f (get_or xs.old k d) y → y ≡ g (get_or xs.old k d)) → xs.new ≡ map g xs.old }
+{
+    for x in xs.iter_mut() {
+        *x = f(*x);
+    }
+}
+
+// The product of each x and `by`.
 #[unsafe(no_mangle)]
 pub extern "C" fn cild_products(xs: &mut [u64], by: u64)
     ensures { xs.new ≡ map (λ x. product x by) xs.old }
 {
-    let mut i = 0;
-    while i < xs.len() {
-        xs[i] = words::wrapping_mul(xs[i], by);
-        i += 1;
-    }
+    each(xs, |x| words::wrapping_mul(x, by));
 }
 
-// Each rotation by k, in place.
+// Each x rotated left by k.
 #[unsafe(no_mangle)]
 pub extern "C" fn cild_rotations(xs: &mut [u64], k: u32)
     ensures { xs.new ≡ map (λ x. rotl x k) xs.old }
 {
-    let mut i = 0;
-    while i < xs.len() {
-        xs[i] = words::rotate_left(xs[i], k);
-        i += 1;
-    }
+    each(xs, |x| words::rotate_left(x, k));
 }
 
-// Each logarithm, in place.
+// The logarithm of each x.
 #[unsafe(no_mangle)]
 pub extern "C" fn cild_plogs(xs: &mut [f64])
     ensures { xs.new ≡ map Log.plog xs.old }
 {
-    let mut i = 0;
-    while i < xs.len() {
-        xs[i] = portable_log::plog(xs[i]);
-        i += 1;
-    }
+    each(xs, |x| portable_log::plog(x));
 }
 
-// Each root, in place.
+// The root of each x.
 #[unsafe(no_mangle)]
 pub extern "C" fn cild_roots(xs: &mut [f64])
     ensures { xs.new ≡ map root_of xs.old }
 {
-    let mut i = 0;
-    while i < xs.len() {
-        xs[i] = root::sqrt(xs[i]);
-        i += 1;
-    }
+    each(xs, |x| root::sqrt(x));
 }

@@ -9,6 +9,15 @@ ghost use Rattle.c_face.specs.Listed as Listed;
 use timers::queue::Queue;
 use timers::{Ring, Timer, queue};
 
+// A ring, left in its three numbers.
+fn leave(ring: Ring, start: &mut usize, len: &mut usize, ordered: &mut u64)
+    ensures { Listed.ring start.new len.new ordered.new ≡ ring }
+{
+    *start = ring.start;
+    *len = ring.len;
+    *ordered = ring.ordered;
+}
+
 // Whether a timer was taken.
 #[unsafe(no_mangle)]
 pub extern "C" fn cild_timer_insert(
@@ -31,16 +40,10 @@ pub extern "C" fn cild_timer_insert(
         len: *len,
         ordered: *ordered,
     };
-    let x = Timer {
-        at: at,
-        who: who,
-        taken: taken,
-    };
+    let x = Timer { at, who, taken };
     let r = timers::insert(ats, owners, ring, room, x);
     let after = r.ring;
-    *start = after.start;
-    *len = after.len;
-    *ordered = after.ordered;
+    leave(after, start, len, ordered);
     r.taken
 }
 
@@ -55,9 +58,7 @@ pub extern "C" fn cild_timer_remove(start: &mut usize, len: &mut usize, ordered:
         len: *len,
         ordered: *ordered,
     });
-    *start = after.start;
-    *len = after.len;
-    *ordered = after.ordered;
+    leave(after, start, len, ordered);
 }
 
 // The completion time of the first timer; its transition and weight are left.
@@ -75,9 +76,9 @@ pub extern "C" fn cild_timer_first<'a>(
         ≡ Timers.first (Turning.timers_of ats.now owners.now (Listed.ring start len ordered)) }
 {
     let ring = Ring {
-        start: start,
-        len: len,
-        ordered: ordered,
+        start,
+        len,
+        ordered,
     };
     let x = timers::first(ats, owners, ring);
     *who = x.who;
@@ -101,9 +102,9 @@ pub extern "C" fn cild_timer_at<'a>(
         ≡ get_or (Turning.timers_of ats.now owners.now (Listed.ring start len ordered)) i Turning.idle }
 {
     let ring = Ring {
-        start: start,
-        len: len,
-        ordered: ordered,
+        start,
+        len,
+        ordered,
     };
     let x = timers::timer_at(ats, owners, ring, i);
     *who = x.who;
@@ -135,9 +136,7 @@ pub extern "C" fn cild_timers_in<'a>(
         len: many,
     };
     let after = queue::hand_in(ats, owners, list);
-    *start = after.start;
-    *len = after.len;
-    *ordered = after.ordered;
+    leave(after, start, len, ordered);
 }
 
 // A list handed out, the first timer first; how many timers it has.
@@ -156,9 +155,9 @@ pub extern "C" fn cild_timers_out<'a>(
         (Listed.queue times.new whos.new takens.new result) }
 {
     let ring = Ring {
-        start: start,
-        len: len,
-        ordered: ordered,
+        start,
+        len,
+        ordered,
     };
     let list = queue::hand_out(ats, owners, ring);
     let a = list.ats;

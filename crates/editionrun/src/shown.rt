@@ -34,7 +34,7 @@ pub fn write_path(rt: &HostRuntime, r: Onward) {
         PathEnd::Spent => write_told(rt, b"(path spent", r),
         PathEnd::Reached => write_told(rt, b"(path reached", r),
         PathEnd::Halted => write_told(rt, b"(halted", r),
-        PathEnd::Refused(c) => write_refused(rt, c, 0),
+        PathEnd::Refused(c) => write_refused(rt, c.number(), 0),
     }
 }
 

@@ -2,6 +2,7 @@
 -- transition, 24 an ownership list that doesn't give each transition one side with at most 8 on each, or a turn number out of range, 25 no such place; in
 -- this order."
 use Rattle.std.specs.Prelude.{ℕ, ◌-◌, ◌≤◌, ◌≡◌, Bool, true, false, ◌&&◌, ◌||◌, List, [], ◌∷◌, eqb, leb, ltb, length}
+use Rattle.refusals.specs.Number.{number_of}
 use Rattle.std.proofs.Math.Option.{Option, none, some}
 use Rattle.refusals.specs as Refusal
 use Rattle.net.specs.declared.Net.{Net as NetRecord}
@@ -56,7 +57,7 @@ called n sides p c turns = unless_fault (net_fault n) (after_net (readable n) si
 -- what the program answers
 abbrev pub call_of : GameAnswer → Called
 call_of (Answered a n) = found (counted (first_of a) n)
-call_of (Refused c) = refused c
+call_of (Refused c) = refused (number_of c)
 
 -- "each exactly when the game's definition says so": an answer that a call gives is right by the rules of the game, and no other is; and it examines at
 -- most the positions of a tree of 8 turns with 8 moves at each.

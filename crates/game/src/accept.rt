@@ -3,7 +3,7 @@ ghost use Rattle.std.specs.Prelude.{◌≡◌, ℕ, ◌^◌, ◌<◌, ◌≤◌,
 ghost use Rattle.std.proofs.Math.Option.{none};
 ghost use Rattle.net.specs.Net as Reader;
 ghost use Rattle.net.specs.Readable as Record;
-ghost use Rattle.net.specs.Record.{lent};
+ghost use Rattle.net.specs.Record.{lent, net_of};
 ghost use Rattle.net.specs.declared.Net.{Net as NetRecord};
 ghost use Rattle.rules.specs.Moves as Moves;
 ghost use Rattle.engine.specs.Engine as Engine;
@@ -15,7 +15,7 @@ ghost use Rattle.game.specs.Call as Call;
 use crate::search;
 use crate::search::FaultFound;
 use engine::slots;
-use net::Net;
+use net::{LentNet, Net};
 
 // The bounds of document 02, order 13.
 const MOST_OF_A_SIDE: usize = 8;
@@ -84,62 +84,17 @@ pub fn turns_fit(turns: u64) -> bool
 }
 
 // The game on the tidy net whose fields are lent: the table of limits, the first counts, and the search.
-fn lent_game<'a>(
-    places: usize,
-    transitions: usize,
-    initial: &'a [u64; 32],
-    capacity: &'a [u64; 32],
-    rate: &'a [f64; 64],
-    delay: &'a [f64; 64],
-    arcs: &'a [usize; 64],
-    kind: &'a [u64; 1024],
-    place: &'a [usize; 1024],
-    weight: &'a [u64; 1024],
-    sides: &[u64],
-    wanted: usize,
-    count: u64,
-    turns: u64,
-) -> FaultFound
-    requires { let net = lent places transitions initial.now capacity.now rate.now delay.now arcs.now kind.now place.now weight.now in Engine.Tidy net × ((p : ℕ) → p < places → get_or initial.now p 0 ≤ 2 ^ 53)
-        × Play.Sided transitions sides.now × (wanted < places) × (turns ≤ 8) }
-    ensures { let net = lent places transitions initial.now capacity.now rate.now delay.now arcs.now kind.now place.now weight.now in Play.fault_of result ≡ Search.fault_move turns (Play.game_of (Record.readable net) sides.now wanted count)
+fn lent_game(net: &LentNet, sides: &[u64], wanted: usize, count: u64, turns: u64) -> FaultFound
+    requires { let net = net_of net.now in Engine.Tidy net × ((p : ℕ) → p < net.places → get_or net.initial p 0 ≤ 2 ^ 53)
+        × Play.Sided net.transitions sides.now × (wanted < net.places) × (turns ≤ 8) }
+    ensures { let net = net_of net.now in Play.fault_of result ≡ Search.fault_move turns (Play.game_of (Record.readable net) sides.now wanted count)
         (Moves.initial_counts (Record.readable net)) }
 {
     let mut limit = [0u64; 1024];
-    slots::fill_limits(
-        places,
-        transitions,
-        initial,
-        capacity,
-        rate,
-        delay,
-        arcs,
-        kind,
-        place,
-        weight,
-        &mut limit,
-    );
+    slots::fill_limits(net, &mut limit);
     let guards = [0u64; 160];
-    let counts = slots::first_counts(places, initial);
-    search::fault_move(
-        places,
-        transitions,
-        initial,
-        capacity,
-        rate,
-        delay,
-        arcs,
-        kind,
-        place,
-        weight,
-        &limit,
-        &guards,
-        sides,
-        wanted,
-        count,
-        counts,
-        turns,
-    )
+    let counts = slots::first_counts(net.places, net.initial);
+    search::fault_move(net, &limit, &guards, sides, wanted, count, counts, turns)
 }
 
 // The game of a call that no test turns down.
@@ -148,20 +103,5 @@ pub fn accepted_game(net: Net, sides: &[u64], wanted: usize, count: u64, turns: 
     ensures { Play.fault_of result ≡ Search.fault_move turns (Play.game_of (Record.readable net) sides.now wanted count) (Moves.initial_counts (Record.readable net)) }
 {
     let n = slots::tidied(net);
-    lent_game(
-        n.places,
-        n.transitions,
-        &n.initial,
-        &n.capacity,
-        &n.rate,
-        &n.delay,
-        &n.arcs,
-        &n.kind,
-        &n.place,
-        &n.weight,
-        sides,
-        wanted,
-        count,
-        turns,
-    )
+    lent_game(&n.lent(), sides, wanted, count, turns)
 }

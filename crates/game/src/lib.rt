@@ -24,7 +24,7 @@ pub enum First {
 #[derive(Clone, Copy)]
 pub enum GameAnswer {
     Answered(First, u64),
-    Refused(u64),
+    Refused(Refusal),
 }
 
 // Can the fault side bring the place to exactly the count, within so many turns, however recovery plays? sides[j] is 0 where transition j is the fault

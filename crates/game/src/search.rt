@@ -2,7 +2,7 @@
 // from one position to the next, so the table of guards that a firing asks for is a blank one.
 ghost use Rattle.std.specs.Prelude.{◌≡◌, ◌<◌, ◌≤◌};
 ghost use Rattle.net.specs.Readable as Record;
-ghost use Rattle.net.specs.Record.{lent};
+ghost use Rattle.net.specs.Record.{net_of};
 ghost use Rattle.net.specs.declared.Net.{Net as NetRecord};
 ghost use Rattle.engine.specs.Engine as Engine;
 ghost use Rattle.engine.specs.Limits as Limits;
@@ -11,6 +11,7 @@ ghost use Rattle.game.specs.Play as Play;
 
 use crate::First;
 use engine::marking;
+use net::LentNet;
 
 // What a position gives where the fault side moves: how it wins, and the positions examined.
 #[derive(Clone, Copy)]
@@ -38,51 +39,25 @@ pub const FAULT: u64 = 0;
 
 // Fires transition j, if it may.
 fn fired<'a>(
-    places: usize,
-    transitions: usize,
-    initial: &'a [u64; 32],
-    capacity: &'a [u64; 32],
-    rate: &'a [f64; 64],
-    delay: &'a [f64; 64],
-    arcs: &'a [usize; 64],
-    kind: &'a [u64; 1024],
-    place: &'a [usize; 1024],
-    weight: &'a [u64; 1024],
+    net: &LentNet,
     limit: &'a [u64; 1024],
     guards: &'a [u64; 160],
     counts: [u64; 32],
     j: usize,
 ) -> Outcome
-    requires { let net = lent places transitions initial.now capacity.now rate.now delay.now arcs.now kind.now place.now weight.now in (j < transitions) × Engine.Tidy net × Limits.Limits net limit.now × Engine.Counts counts }
-    ensures { let net = lent places transitions initial.now capacity.now rate.now delay.now arcs.now kind.now place.now weight.now in Play.FiredBy (Record.readable net) (Engine.marking places counts) j result.may (Engine.marking places result.counts)
+    requires { let net = net_of net.now in (j < net.transitions) × Engine.Tidy net × Limits.Limits net limit.now × Engine.Counts counts }
+    ensures { let net = net_of net.now in Play.FiredBy (Record.readable net) (Engine.marking net.places counts) j result.may (Engine.marking net.places result.counts)
         × Engine.Counts result.counts }
 {
     let mut after = counts;
-    if !marking::enabled(
-        places,
-        transitions,
-        initial,
-        capacity,
-        rate,
-        delay,
-        arcs,
-        kind,
-        place,
-        weight,
-        limit,
-        &after,
-        j,
-    ) {
+    if !marking::enabled(net, limit, &after, j) {
         return Outcome {
             may: false,
             counts: after,
         };
     }
-    let f = marking::fire(places, arcs, kind, place, weight, guards, &mut after, j);
-    Outcome {
-        may: f.fits,
-        counts: after,
-    }
+    let may = marking::fire(net, guards, &mut after, j).is_some();
+    Outcome { may, counts: after }
 }
 
 // Does the fault side win by this?
@@ -100,16 +75,7 @@ fn wins(first: First) -> bool
 // The fault side moves, with so many turns left.
 #[cycle(fault_move_recovery_move)]
 pub fn fault_move<'a>(
-    places: usize,
-    transitions: usize,
-    initial: &'a [u64; 32],
-    capacity: &'a [u64; 32],
-    rate: &'a [f64; 64],
-    delay: &'a [f64; 64],
-    arcs: &'a [usize; 64],
-    kind: &'a [u64; 1024],
-    place: &'a [usize; 1024],
-    weight: &'a [u64; 1024],
+    net: &LentNet,
     limit: &'a [u64; 1024],
     guards: &'a [u64; 160],
     sides: &[u64],
@@ -118,8 +84,8 @@ pub fn fault_move<'a>(
     counts: [u64; 32],
     left: u64,
 ) -> FaultFound
-    requires left_bound { let net : NetRecord = lent places transitions initial.now capacity.now rate.now delay.now arcs.now kind.now place.now weight.now in (left ≤ 8) × Play.Table net limit.now sides.now wanted × Engine.Counts counts }
-    ensures { let net : NetRecord = lent places transitions initial.now capacity.now rate.now delay.now arcs.now kind.now place.now weight.now in Play.fault_of result ≡ Search.fault_move left (Play.game_of (Record.readable net) sides.now wanted count) (Engine.marking places counts) }
+    requires left_bound { let net = net_of net.now in (left ≤ 8) × Play.Table net limit.now sides.now wanted × Engine.Counts counts }
+    ensures { let net = net_of net.now in Play.fault_of result ≡ Search.fault_move left (Play.game_of (Record.readable net) sides.now wanted count) (Engine.marking net.places counts) }
 {
     if counts[wanted] == count {
         return FaultFound {
@@ -137,46 +103,13 @@ pub fn fault_move<'a>(
     let mut examined: u64 = 1;
     let mut moved = false;
     let mut j: usize = 0;
-    while j < transitions {
+    while j < net.transitions {
         let k = j + 1;
         if sides[j] == FAULT {
-            let f = fired(
-                places,
-                transitions,
-                initial,
-                capacity,
-                rate,
-                delay,
-                arcs,
-                kind,
-                place,
-                weight,
-                limit,
-                guards,
-                counts,
-                j,
-            );
+            let f = fired(net, limit, guards, counts, j);
             if f.may {
                 let after = f.counts;
-                let r = recovery_move(
-                    places,
-                    transitions,
-                    initial,
-                    capacity,
-                    rate,
-                    delay,
-                    arcs,
-                    kind,
-                    place,
-                    weight,
-                    limit,
-                    guards,
-                    sides,
-                    wanted,
-                    count,
-                    after,
-                    less,
-                );
+                let r = recovery_move(net, limit, guards, sides, wanted, count, after, less);
                 let e = examined + r.examined;
                 if r.won {
                     return FaultFound {
@@ -196,25 +129,7 @@ pub fn fault_move<'a>(
             examined: examined,
         };
     }
-    let r = recovery_move(
-        places,
-        transitions,
-        initial,
-        capacity,
-        rate,
-        delay,
-        arcs,
-        kind,
-        place,
-        weight,
-        limit,
-        guards,
-        sides,
-        wanted,
-        count,
-        counts,
-        less,
-    );
+    let r = recovery_move(net, limit, guards, sides, wanted, count, counts, less);
     let e = examined + r.examined;
     if r.won {
         return FaultFound {
@@ -231,16 +146,7 @@ pub fn fault_move<'a>(
 // The recovery side moves, with so many turns left.
 #[cycle(fault_move_recovery_move)]
 fn recovery_move<'a>(
-    places: usize,
-    transitions: usize,
-    initial: &'a [u64; 32],
-    capacity: &'a [u64; 32],
-    rate: &'a [f64; 64],
-    delay: &'a [f64; 64],
-    arcs: &'a [usize; 64],
-    kind: &'a [u64; 1024],
-    place: &'a [usize; 1024],
-    weight: &'a [u64; 1024],
+    net: &LentNet,
     limit: &'a [u64; 1024],
     guards: &'a [u64; 160],
     sides: &[u64],
@@ -249,8 +155,8 @@ fn recovery_move<'a>(
     counts: [u64; 32],
     left: u64,
 ) -> RecoveryFound
-    requires left_bound { let net : NetRecord = lent places transitions initial.now capacity.now rate.now delay.now arcs.now kind.now place.now weight.now in (left ≤ 8) × Play.Table net limit.now sides.now wanted × Engine.Counts counts }
-    ensures { let net : NetRecord = lent places transitions initial.now capacity.now rate.now delay.now arcs.now kind.now place.now weight.now in Play.recovery_of result ≡ Search.recovery_move left (Play.game_of (Record.readable net) sides.now wanted count) (Engine.marking places counts) }
+    requires left_bound { let net = net_of net.now in (left ≤ 8) × Play.Table net limit.now sides.now wanted × Engine.Counts counts }
+    ensures { let net = net_of net.now in Play.recovery_of result ≡ Search.recovery_move left (Play.game_of (Record.readable net) sides.now wanted count) (Engine.marking net.places counts) }
 {
     if counts[wanted] == count {
         return RecoveryFound {
@@ -268,46 +174,13 @@ fn recovery_move<'a>(
     let mut examined: u64 = 1;
     let mut replied = false;
     let mut j: usize = 0;
-    while j < transitions {
+    while j < net.transitions {
         let k = j + 1;
         if sides[j] != FAULT {
-            let f = fired(
-                places,
-                transitions,
-                initial,
-                capacity,
-                rate,
-                delay,
-                arcs,
-                kind,
-                place,
-                weight,
-                limit,
-                guards,
-                counts,
-                j,
-            );
+            let f = fired(net, limit, guards, counts, j);
             if f.may {
                 let after = f.counts;
-                let r = fault_move(
-                    places,
-                    transitions,
-                    initial,
-                    capacity,
-                    rate,
-                    delay,
-                    arcs,
-                    kind,
-                    place,
-                    weight,
-                    limit,
-                    guards,
-                    sides,
-                    wanted,
-                    count,
-                    after,
-                    less,
-                );
+                let r = fault_move(net, limit, guards, sides, wanted, count, after, less);
                 let first = r.first;
                 let e = examined + r.examined;
                 if !wins(first) {
@@ -328,25 +201,7 @@ fn recovery_move<'a>(
             examined: examined,
         };
     }
-    let r = fault_move(
-        places,
-        transitions,
-        initial,
-        capacity,
-        rate,
-        delay,
-        arcs,
-        kind,
-        place,
-        weight,
-        limit,
-        guards,
-        sides,
-        wanted,
-        count,
-        counts,
-        less,
-    );
+    let r = fault_move(net, limit, guards, sides, wanted, count, counts, less);
     let first = r.first;
     RecoveryFound {
         won: wins(first),

@@ -1,6 +1,6 @@
 // The table of the index as a path uses it: for each place the transitions that are listed for it, and what lets a change of its count pass most of them over.
 ghost use Rattle.std.specs.Prelude.{◌≡◌, true, ◌+◌, ◌*◌, ◌<◌, ◌≤◌, eqb, length};
-ghost use Rattle.net.specs.Record.{lent};
+ghost use Rattle.net.specs.Record.{net_of};
 ghost use Rattle.net.specs.declared.Net.{Net as NetRecord};
 ghost use Rattle.engine.specs.Engine as Engine;
 ghost use Rattle.engine.specs.Limits as Limits;
@@ -9,6 +9,7 @@ ghost use Rattle.index.specs.Guarding as Spec;
 
 use crate::listed;
 use engine::sets;
+use net::LentNet;
 
 // The count on one side of which a slot of that limit is open, and on the other shut.
 fn threshold(limit: u64) -> u64
@@ -72,34 +73,14 @@ fn guard_slot(kind: u64, limit: u64, p: usize, j: usize, guards: &mut [u64; 160]
 }
 
 // Tells it of all slots of transition j.
-fn guard_one<'a>(
-    places: usize,
-    transitions: usize,
-    initial: &'a [u64; 32],
-    capacity: &'a [u64; 32],
-    rate: &'a [f64; 64],
-    delay: &'a [f64; 64],
-    arcs: &'a [usize; 64],
-    kind: &'a [u64; 1024],
-    place: &'a [usize; 1024],
-    weight: &'a [u64; 1024],
-    limit: &'a [u64; 1024],
-    j: usize,
-    guards: &mut [u64; 160],
-)
-    requires { let net = lent places transitions initial.now capacity.now rate.now delay.now arcs.now kind.now place.now weight.now in (j < transitions) × Engine.Tidy net × Limits.Limits net limit.now × Spec.Guarding net guards.old (16 * j) }
-    ensures { let net = lent places transitions initial.now capacity.now rate.now delay.now arcs.now kind.now place.now weight.now in Spec.Guarding net guards.new (16 * (j + 1)) }
+fn guard_one<'a>(net: &LentNet, limit: &'a [u64; 1024], j: usize, guards: &mut [u64; 160])
+    requires { let net = net_of net.now in (j < net.transitions) × Engine.Tidy net × Limits.Limits net limit.now × Spec.Guarding net guards.old (16 * j) }
+    ensures { let net = net_of net.now in Spec.Guarding net guards.new (16 * (j + 1)) }
 {
     let from = 16 * j;
-    let end = from + arcs[j];
-    let mut a = from;
-    while a < end {
-        let b = a + 1;
-        let k = kind[a];
-        let l = limit[a];
-        let p = place[a];
-        guard_slot(k, l, p, j, guards);
-        a = b;
+    let end = from + net.arcs[j];
+    for a in from..end {
+        guard_slot(net.kind[a], limit[a], net.place[a], j, guards);
     }
 }
 
@@ -108,67 +89,23 @@ fn begun(words: &[u64; 32]) -> [u64; 160]
     ensures { Spec.Begun words.now result }
 {
     let mut guards = [0u64; 160];
-    let mut p: usize = 0;
-    while p < 32 {
-        let q = p + 1;
-        let w = words[p];
-        guards[64 + p] = w;
+    for (p, w) in words.iter().enumerate() {
+        guards[64 + p] = *w;
         guards[96 + p] = 0xFFFF_FFFF_FFFF_FFFF;
-        p = q;
     }
     guards
 }
 
 // For place p: at p the transitions with a kinetic input on it, at 32 + p those with a slot there whose threshold is 1, at 64 + p all that are listed for it, and
 // from 96 + p to 128 + p the numbers between which all other thresholds lie that a count can cross.
-pub fn guards_of<'a>(
-    places: usize,
-    transitions: usize,
-    initial: &'a [u64; 32],
-    capacity: &'a [u64; 32],
-    rate: &'a [f64; 64],
-    delay: &'a [f64; 64],
-    arcs: &'a [usize; 64],
-    kind: &'a [u64; 1024],
-    place: &'a [usize; 1024],
-    weight: &'a [u64; 1024],
-    limit: &'a [u64; 1024],
-) -> [u64; 160]
-    requires { let net = lent places transitions initial.now capacity.now rate.now delay.now arcs.now kind.now place.now weight.now in Engine.Tidy net × Limits.Limits net limit.now }
-    ensures { let net = lent places transitions initial.now capacity.now rate.now delay.now arcs.now kind.now place.now weight.now in Guards.Guards net result }
+pub fn guards_of<'a>(net: &LentNet, limit: &'a [u64; 1024]) -> [u64; 160]
+    requires { let net = net_of net.now in Engine.Tidy net × Limits.Limits net limit.now }
+    ensures { let net = net_of net.now in Guards.Guards net result }
 {
-    let words = listed::listed_words(
-        places,
-        transitions,
-        initial,
-        capacity,
-        rate,
-        delay,
-        arcs,
-        kind,
-        place,
-        weight,
-    );
+    let words = listed::listed_words(net);
     let mut guards = begun(&words);
-    let mut j: usize = 0;
-    while j < transitions {
-        let k = j + 1;
-        guard_one(
-            places,
-            transitions,
-            initial,
-            capacity,
-            rate,
-            delay,
-            arcs,
-            kind,
-            place,
-            weight,
-            limit,
-            j,
-            &mut guards,
-        );
-        j = k;
+    for j in 0..net.transitions {
+        guard_one(net, limit, j, &mut guards);
     }
     guards
 }

@@ -20,17 +20,6 @@ pub fn index_of(net: Net, masks: &mut [u64; 32]) -> Result<(), Refusal>
 {
     net::test_net(net)?;
     let n = slots::tidied(net);
-    *masks = listed::listed_words(
-        n.places,
-        n.transitions,
-        &n.initial,
-        &n.capacity,
-        &n.rate,
-        &n.delay,
-        &n.arcs,
-        &n.kind,
-        &n.place,
-        &n.weight,
-    );
+    *masks = listed::listed_words(&n.lent());
     Ok(())
 }

@@ -2,7 +2,7 @@
 ghost use Rattle.std.specs.Prelude.{◌≡◌, ◌&&◌, ◌≤◌, eqb, ltb};
 ghost use Rattle.net.specs.Net as Reader;
 ghost use Rattle.net.specs.Readable as Record;
-ghost use Rattle.net.specs.Record.{lent};
+ghost use Rattle.net.specs.Record.{net_of};
 ghost use Rattle.net.specs.Tests as Tests;
 ghost use Rattle.net.specs.declared.Net.{Net as NetRecord};
 ghost use Rattle.engine.specs.Engine as Engine;
@@ -10,30 +10,16 @@ ghost use Rattle.engine.specs.Traits as Traits;
 ghost use Rattle.index.specs.Slots as Slots;
 
 use engine::sets;
+use net::LentNet;
 
 // Those that run by a timer.
-pub fn timed_word<'a>(
-    places: usize,
-    transitions: usize,
-    initial: &'a [u64; 32],
-    capacity: &'a [u64; 32],
-    rate: &'a [f64; 64],
-    delay: &'a [f64; 64],
-    arcs: &'a [usize; 64],
-    kind: &'a [u64; 1024],
-    place: &'a [usize; 1024],
-    weight: &'a [u64; 1024],
-) -> u64
-    requires { let net = lent places transitions initial.now capacity.now rate.now delay.now arcs.now kind.now place.now weight.now in net.transitions ≤ 64 }
-    ensures { let net = lent places transitions initial.now capacity.now rate.now delay.now arcs.now kind.now place.now weight.now in Traits.Marks net Reader.timed result }
+pub fn timed_word(net: &LentNet) -> u64
+    requires { let net = net_of net.now in net.transitions ≤ 64 }
+    ensures { let net = net_of net.now in Traits.Marks net Reader.timed result }
 {
     let mut word: u64 = 0;
-    let mut j: usize = 0;
-    while j < transitions {
-        let k = j + 1;
-        let on = 0.0 < delay[j];
-        word = sets::joined(word, j, on);
-        j = k;
+    for j in 0..net.transitions {
+        word = sets::joined(word, j, 0.0 < net.delay[j]);
     }
     word
 }
@@ -49,51 +35,27 @@ fn heavy_slot(kind: u64, weight: u64) -> bool
 }
 
 // Is one of the slots from `from` to before `end`?
-fn heavy_slots<'a>(
-    kind: &'a [u64; 1024],
-    place: &'a [usize; 1024],
-    weight: &'a [u64; 1024],
-    from: usize,
-    end: usize,
-) -> bool
+fn heavy_slots(net: &LentNet, from: usize, end: usize) -> bool
     requires { end ≤ 1024 }
-    ensures { result ≡ Tests.any Traits.heavy (Record.takes_of (Slots.span kind.now place.now weight.now from end)) }
+    ensures { result ≡ Tests.any Traits.heavy (Record.takes_of (Slots.span net.now.kind.now net.now.place.now net.now.weight.now from end)) }
 {
-    let mut a = from;
-    while a < end {
-        if heavy_slot(kind[a], weight[a]) {
+    for a in from..end {
+        if heavy_slot(net.kind[a], net.weight[a]) {
             return true;
         }
-        a += 1;
     }
     false
 }
 
 // Those that take several tokens kinetically.
-pub fn heavy_word<'a>(
-    places: usize,
-    transitions: usize,
-    initial: &'a [u64; 32],
-    capacity: &'a [u64; 32],
-    rate: &'a [f64; 64],
-    delay: &'a [f64; 64],
-    arcs: &'a [usize; 64],
-    kind: &'a [u64; 1024],
-    place: &'a [usize; 1024],
-    weight: &'a [u64; 1024],
-) -> u64
-    requires { let net = lent places transitions initial.now capacity.now rate.now delay.now arcs.now kind.now place.now weight.now in Engine.Tidy net }
-    ensures { let net = lent places transitions initial.now capacity.now rate.now delay.now arcs.now kind.now place.now weight.now in Traits.Marks net Traits.takes_several result }
+pub fn heavy_word(net: &LentNet) -> u64
+    requires { let net = net_of net.now in Engine.Tidy net }
+    ensures { let net = net_of net.now in Traits.Marks net Traits.takes_several result }
 {
     let mut word: u64 = 0;
-    let mut j: usize = 0;
-    while j < transitions {
-        let k = j + 1;
+    for j in 0..net.transitions {
         let from = 16 * j;
-        let end = from + arcs[j];
-        let on = heavy_slots(kind, place, weight, from, end);
-        word = sets::joined(word, j, on);
-        j = k;
+        word = sets::joined(word, j, heavy_slots(net, from, from + net.arcs[j]));
     }
     word
 }

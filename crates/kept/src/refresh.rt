@@ -5,7 +5,7 @@ ghost use Rattle.std.specs.Float.{nan};
 ghost use Rattle.words.specs.Bits.{bit};
 ghost use Rattle.net.specs.Net.{timed as delayed};
 ghost use Rattle.net.specs.Readable as Record;
-ghost use Rattle.net.specs.Record.{lent};
+ghost use Rattle.net.specs.Record.{net_of};
 ghost use Rattle.net.specs.declared.Net.{Net as NetRecord};
 ghost use Rattle.rules.specs.Exact as Exact;
 ghost use Rattle.rules.specs.Propensity as Propensity;
@@ -15,9 +15,11 @@ ghost use Rattle.engine.specs.Limits as Limits;
 ghost use Rattle.engine.specs.Traits as Traits;
 ghost use Rattle.kept.specs.Kept as Kept;
 
+use crate::tables::Tables;
 use crate::{marks, openness, values};
 use engine::sets;
 use jump::sums;
+use net::LentNet;
 
 // Which transitions are enabled, which propensities are rounded, and which of them may have changed.
 #[derive(Clone, Copy)]
@@ -29,22 +31,9 @@ struct Settled {
 
 // All but the sums. A delayed transition does not race, and is not tested: none is enabled. Whatever was crossed or is worked out again loses its mark, and only
 // one that takes several tokens kinetically can get it back.
-fn settle<'a>(
-    places: usize,
-    transitions: usize,
-    initial: &'a [u64; 32],
-    capacity: &'a [u64; 32],
-    rate: &'a [f64; 64],
-    delay: &'a [f64; 64],
-    arcs: &'a [usize; 64],
-    kind: &'a [u64; 1024],
-    place: &'a [usize; 1024],
-    weight: &'a [u64; 1024],
-    limit: &'a [u64; 1024],
-    rates: &'a [f64; 64],
-    ends: &'a [usize; 64],
-    timed: u64,
-    heavy: u64,
+fn settle(
+    net: &LentNet,
+    tables: &Tables,
     counts: &[u64; 32],
     moved: u64,
     crossed: u64,
@@ -52,71 +41,23 @@ fn settle<'a>(
     marks: u64,
     props: &mut [f64; 64],
 ) -> Settled
-    requires { let net = lent places transitions initial.now capacity.now rate.now delay.now arcs.now kind.now place.now weight.now in Engine.Tidy net × Limits.Limits net limit.now × Engine.Counts counts.now × Kept.Rates net rates.now × Kept.Ends net ends.now
-        × Traits.Marks net delayed timed × Traits.Marks net Traits.takes_several heavy
-        × Kept.Kept (Record.readable net) (Engine.marking places counts.now) moved crossed able props.old
-        × Kept.Marked (Record.readable net) (Engine.marking places counts.now) moved crossed able marks
-        × Kept.AllShut (Record.readable net) (Engine.marking places counts.now) × (length props.old ≡ 64) }
-    ensures { let net = lent places transitions initial.now capacity.now rate.now delay.now arcs.now kind.now place.now weight.now in Kept.Kept (Record.readable net) (Engine.marking places counts.now) 0 0 result.able props.new
-        × Kept.Marked (Record.readable net) (Engine.marking places counts.now) 0 0 result.able result.marks
+    requires { let net = net_of net.now in Engine.Tidy net × Limits.Limits net tables.now.limit × Engine.Counts counts.now × Kept.Rates net tables.now.rates × Kept.Ends net tables.now.ends
+        × Traits.Marks net delayed tables.now.timed × Traits.Marks net Traits.takes_several tables.now.heavy
+        × Kept.Kept (Record.readable net) (Engine.marking net.places counts.now) moved crossed able props.old
+        × Kept.Marked (Record.readable net) (Engine.marking net.places counts.now) moved crossed able marks
+        × Kept.AllShut (Record.readable net) (Engine.marking net.places counts.now) × (length props.old ≡ 64) }
+    ensures { let net = net_of net.now in Kept.Kept (Record.readable net) (Engine.marking net.places counts.now) 0 0 result.able props.new
+        × Kept.Marked (Record.readable net) (Engine.marking net.places counts.now) 0 0 result.able result.marks
         × (length props.new ≡ 64)
         × ((j : ℕ) → bit result.changed j ≡ false → get_or props.new j nan ≡ get_or props.old j nan)
-        × ((j : ℕ) → bit result.changed j ≡ true → j < transitions) }
+        × ((j : ℕ) → bit result.changed j ≡ true → j < net.transitions) }
 {
-    let tested = sets::without(crossed, timed);
-    let found = openness::retest(
-        places,
-        transitions,
-        initial,
-        capacity,
-        rate,
-        delay,
-        arcs,
-        kind,
-        place,
-        weight,
-        limit,
-        counts,
-        tested,
-        able,
-        props,
-    );
+    let tested = sets::without(crossed, tables.timed);
+    let found = openness::retest(net, &tables.limit, counts, tested, able, props);
     let work = (moved | tested) & found;
-    values::revalue(
-        places,
-        transitions,
-        initial,
-        capacity,
-        rate,
-        delay,
-        arcs,
-        kind,
-        place,
-        weight,
-        limit,
-        rates,
-        ends,
-        counts,
-        work,
-        props,
-    );
+    values::revalue(net, tables, counts, work, props);
     let old = sets::without(marks, crossed | work);
-    let fresh = marks::remark(
-        places,
-        transitions,
-        initial,
-        capacity,
-        rate,
-        delay,
-        arcs,
-        kind,
-        place,
-        weight,
-        counts,
-        work & heavy,
-        old,
-        props,
-    );
+    let fresh = marks::remark(net, counts, work & tables.heavy, old, props);
     Settled {
         able: found,
         marks: fresh,
@@ -133,22 +74,9 @@ pub struct Fresh {
 }
 
 // Brings all that is kept up to date, so that it is a full working.
-pub fn refresh<'a>(
-    places: usize,
-    transitions: usize,
-    initial: &'a [u64; 32],
-    capacity: &'a [u64; 32],
-    rate: &'a [f64; 64],
-    delay: &'a [f64; 64],
-    arcs: &'a [usize; 64],
-    kind: &'a [u64; 1024],
-    place: &'a [usize; 1024],
-    weight: &'a [u64; 1024],
-    limit: &'a [u64; 1024],
-    rates: &'a [f64; 64],
-    ends: &'a [usize; 64],
-    timed: u64,
-    heavy: u64,
+pub fn refresh(
+    net: &LentNet,
+    tables: &Tables,
     counts: &[u64; 32],
     moved: u64,
     crossed: u64,
@@ -158,42 +86,20 @@ pub fn refresh<'a>(
     props: &mut [f64; 64],
     sums: &mut [f64; 64],
 ) -> Fresh
-    requires { let net = lent places transitions initial.now capacity.now rate.now delay.now arcs.now kind.now place.now weight.now in Engine.Tidy net × Limits.Limits net limit.now × Engine.Counts counts.now × Kept.Rates net rates.now × Kept.Ends net ends.now
-        × Traits.Marks net delayed timed × Traits.Marks net Traits.takes_several heavy
-        × Kept.Kept (Record.readable net) (Engine.marking places counts.now) moved crossed able props.old
-        × Kept.Marked (Record.readable net) (Engine.marking places counts.now) moved crossed able marks
-        × Kept.AllShut (Record.readable net) (Engine.marking places counts.now) × Summing.Summed transitions props.old sums.old a0
+    requires { let net = net_of net.now in Engine.Tidy net × Limits.Limits net tables.now.limit × Engine.Counts counts.now × Kept.Rates net tables.now.rates × Kept.Ends net tables.now.ends
+        × Traits.Marks net delayed tables.now.timed × Traits.Marks net Traits.takes_several tables.now.heavy
+        × Kept.Kept (Record.readable net) (Engine.marking net.places counts.now) moved crossed able props.old
+        × Kept.Marked (Record.readable net) (Engine.marking net.places counts.now) moved crossed able marks
+        × Kept.AllShut (Record.readable net) (Engine.marking net.places counts.now) × Summing.Summed net.transitions props.old sums.old a0
         × (length props.old ≡ 64) × (length sums.old ≡ 64) }
-    ensures { let net = lent places transitions initial.now capacity.now rate.now delay.now arcs.now kind.now place.now weight.now in (take transitions props.new ≡ Propensity.propensities (Record.readable net) (Engine.marking places counts.now))
-        × Kept.Kept (Record.readable net) (Engine.marking places counts.now) 0 0 result.able props.new
-        × Kept.Marked (Record.readable net) (Engine.marking places counts.now) 0 0 result.able result.marks
-        × Summing.Summed transitions props.new sums.new result.a0
-        × (not (eqb result.marks 0) ≡ Exact.adds_rounded (Record.readable net) (Engine.marking places counts.now))
+    ensures { let net = net_of net.now in (take net.transitions props.new ≡ Propensity.propensities (Record.readable net) (Engine.marking net.places counts.now))
+        × Kept.Kept (Record.readable net) (Engine.marking net.places counts.now) 0 0 result.able props.new
+        × Kept.Marked (Record.readable net) (Engine.marking net.places counts.now) 0 0 result.able result.marks
+        × Summing.Summed net.transitions props.new sums.new result.a0
+        × (not (eqb result.marks 0) ≡ Exact.adds_rounded (Record.readable net) (Engine.marking net.places counts.now))
         × (length props.new ≡ 64) × (length sums.new ≡ 64) }
 {
-    let settled = settle(
-        places,
-        transitions,
-        initial,
-        capacity,
-        rate,
-        delay,
-        arcs,
-        kind,
-        place,
-        weight,
-        limit,
-        rates,
-        ends,
-        timed,
-        heavy,
-        counts,
-        moved,
-        crossed,
-        able,
-        marks,
-        props,
-    );
+    let settled = settle(net, tables, counts, moved, crossed, able, marks, props);
     let changed = settled.changed;
     if changed == 0 {
         return Fresh {
@@ -203,7 +109,7 @@ pub fn refresh<'a>(
         };
     }
     let from = u64::trailing_zeros(changed) as usize;
-    let total = sums::resum(transitions, from, props, sums);
+    let total = sums::resum(net.transitions, from, props, sums);
     Fresh {
         a0: total,
         able: settled.able,

@@ -5,7 +5,7 @@ ghost use Rattle.std.specs.Float.Ieee.{mul};
 ghost use Rattle.words.specs.Bits.{bit};
 ghost use Rattle.net.specs.Net as Reader;
 ghost use Rattle.net.specs.Readable as Record;
-ghost use Rattle.net.specs.Record.{lent};
+ghost use Rattle.net.specs.Record.{net_of};
 ghost use Rattle.net.specs.declared.Net.{Net as NetRecord};
 ghost use Rattle.rules.specs.Index.{Reworked};
 ghost use Rattle.rules.specs.Moves as Moves;
@@ -15,37 +15,21 @@ ghost use Rattle.engine.specs.Limits as Limits;
 ghost use Rattle.kept.specs.Kept as Kept;
 
 use crate::tables;
+use crate::tables::Tables;
 use engine::marking;
+use net::LentNet;
 
 // That of transition j, enabled or not. Behind the last kinetic take nothing multiplies.
-fn walked<'a>(
-    places: usize,
-    transitions: usize,
-    initial: &'a [u64; 32],
-    capacity: &'a [u64; 32],
-    rate: &'a [f64; 64],
-    delay: &'a [f64; 64],
-    arcs: &'a [usize; 64],
-    kind: &'a [u64; 1024],
-    place: &'a [usize; 1024],
-    weight: &'a [u64; 1024],
-    limit: &'a [u64; 1024],
-    rates: &'a [f64; 64],
-    counts: &[u64; 32],
-    j: usize,
-    end: usize,
-) -> f64
-    requires { let net = lent places transitions initial.now capacity.now rate.now delay.now arcs.now kind.now place.now weight.now in (j < transitions) × Engine.Tidy net × Limits.Limits net limit.now × Engine.Counts counts.now × Kept.Rates net rates.now
-        × (end ≤ 16 * j + get_or arcs.now j 0) × ((a : ℕ) → end ≤ a → 16 * j ≤ a → a < 16 * j + get_or arcs.now j 0 → get_or kind.now a 0 ≡ 0 → ⊥) }
-    ensures { let net = lent places transitions initial.now capacity.now rate.now delay.now arcs.now kind.now place.now weight.now in result ≡ Propensity.factored (Engine.marking places counts.now) (Reader.rate_of (Moves.transition (Record.readable net) j))
+fn walked(net: &LentNet, tables: &Tables, counts: &[u64; 32], j: usize, end: usize) -> f64
+    requires { let net = net_of net.now in (j < net.transitions) × Engine.Tidy net × Limits.Limits net tables.now.limit × Engine.Counts counts.now × Kept.Rates net tables.now.rates
+        × (end ≤ 16 * j + get_or net.arcs j 0) × ((a : ℕ) → end ≤ a → 16 * j ≤ a → a < 16 * j + get_or net.arcs j 0 → get_or net.kind a 0 ≡ 0 → ⊥) }
+    ensures { let net = net_of net.now in result ≡ Propensity.factored (Engine.marking net.places counts.now) (Reader.rate_of (Moves.transition (Record.readable net) j))
         (Moves.transition (Record.readable net) j).takes }
 {
-    let mut x = rates[j];
-    let mut a = 16 * j;
-    while a < end {
-        let p = place[a];
-        x = marking::times(x, kind[a], limit[a], counts[p]);
-        a += 1;
+    let mut x = tables.rates[j];
+    for a in 16 * j..end {
+        let p = net.place[a];
+        x = marking::times(x, net.kind[a], tables.limit[a], counts[p]);
     }
     x
 }
@@ -66,100 +50,35 @@ fn times_two(x: f64, place: &[usize; 1024], counts: &[u64; 32], a: usize) -> f64
 }
 
 // The same, where the table says that they are the counts of one place or two without a walk.
-fn value<'a>(
-    places: usize,
-    transitions: usize,
-    initial: &'a [u64; 32],
-    capacity: &'a [u64; 32],
-    rate: &'a [f64; 64],
-    delay: &'a [f64; 64],
-    arcs: &'a [usize; 64],
-    kind: &'a [u64; 1024],
-    place: &'a [usize; 1024],
-    weight: &'a [u64; 1024],
-    limit: &'a [u64; 1024],
-    rates: &'a [f64; 64],
-    ends: &'a [usize; 64],
-    counts: &[u64; 32],
-    j: usize,
-) -> f64
-    requires { let net = lent places transitions initial.now capacity.now rate.now delay.now arcs.now kind.now place.now weight.now in (j < transitions) × Engine.Tidy net × Limits.Limits net limit.now × Engine.Counts counts.now × Kept.Rates net rates.now × Kept.Ends net ends.now }
-    ensures { let net = lent places transitions initial.now capacity.now rate.now delay.now arcs.now kind.now place.now weight.now in result ≡ Propensity.factored (Engine.marking places counts.now) (Reader.rate_of (Moves.transition (Record.readable net) j))
+fn value(net: &LentNet, tables: &Tables, counts: &[u64; 32], j: usize) -> f64
+    requires { let net = net_of net.now in (j < net.transitions) × Engine.Tidy net × Limits.Limits net tables.now.limit × Engine.Counts counts.now × Kept.Rates net tables.now.rates × Kept.Ends net tables.now.ends }
+    ensures { let net = net_of net.now in result ≡ Propensity.factored (Engine.marking net.places counts.now) (Reader.rate_of (Moves.transition (Record.readable net) j))
         (Moves.transition (Record.readable net) j).takes }
 {
-    let end = ends[j];
-    let x = rates[j];
+    let end = tables.ends[j];
+    let x = tables.rates[j];
     if tables::ALONE <= end {
         if tables::TWO <= end {
-            return times_two(x, place, counts, 16 * j);
+            return times_two(x, net.place, counts, 16 * j);
         }
         let p = end - tables::ALONE;
         return marking::times(x, 0, ONE_TOKEN, counts[p]);
     }
-    walked(
-        places,
-        transitions,
-        initial,
-        capacity,
-        rate,
-        delay,
-        arcs,
-        kind,
-        place,
-        weight,
-        limit,
-        rates,
-        counts,
-        j,
-        end,
-    )
+    walked(net, tables, counts, j, end)
 }
 
 // Works it out again for the transitions in a word, the lowest first. Every other one is as handed in, whatever it holds.
-pub fn revalue<'a>(
-    places: usize,
-    transitions: usize,
-    initial: &'a [u64; 32],
-    capacity: &'a [u64; 32],
-    rate: &'a [f64; 64],
-    delay: &'a [f64; 64],
-    arcs: &'a [usize; 64],
-    kind: &'a [u64; 1024],
-    place: &'a [usize; 1024],
-    weight: &'a [u64; 1024],
-    limit: &'a [u64; 1024],
-    rates: &'a [f64; 64],
-    ends: &'a [usize; 64],
-    counts: &[u64; 32],
-    word: u64,
-    props: &mut [f64; 64],
-)
-    requires { let net = lent places transitions initial.now capacity.now rate.now delay.now arcs.now kind.now place.now weight.now in Engine.Tidy net × Limits.Limits net limit.now × Engine.Counts counts.now × Kept.Rates net rates.now × Kept.Ends net ends.now
-        × ((j : ℕ) → bit word j ≡ true → j < transitions) × (length props.old ≡ 64) }
-    ensures { let net = lent places transitions initial.now capacity.now rate.now delay.now arcs.now kind.now place.now weight.now in Reworked (bit word)
-        (λ (j : ℕ). Propensity.factored (Engine.marking places counts.now) (Reader.rate_of (Moves.transition (Record.readable net) j)) (Moves.transition (Record.readable net) j).takes)
+pub fn revalue(net: &LentNet, tables: &Tables, counts: &[u64; 32], word: u64, props: &mut [f64; 64])
+    requires { let net = net_of net.now in Engine.Tidy net × Limits.Limits net tables.now.limit × Engine.Counts counts.now × Kept.Rates net tables.now.rates × Kept.Ends net tables.now.ends
+        × ((j : ℕ) → bit word j ≡ true → j < net.transitions) × (length props.old ≡ 64) }
+    ensures { let net = net_of net.now in Reworked (bit word)
+        (λ (j : ℕ). Propensity.factored (Engine.marking net.places counts.now) (Reader.rate_of (Moves.transition (Record.readable net) j)) (Moves.transition (Record.readable net) j).takes)
         props.old props.new }
 {
     let mut left = word;
     while left != 0 {
         let j = u64::trailing_zeros(left) as usize;
-        let x = value(
-            places,
-            transitions,
-            initial,
-            capacity,
-            rate,
-            delay,
-            arcs,
-            kind,
-            place,
-            weight,
-            limit,
-            rates,
-            ends,
-            counts,
-            j,
-        );
+        let x = value(net, tables, counts, j);
         props[j] = x;
         left = left & (left - 1);
     }

@@ -4,13 +4,13 @@
 ghost use Rattle.std.specs.Prelude.{◌<◌};
 
 use net::Net;
-use std::io;
 use refusals::Refusal;
+use std::io;
 
 fn number(v: Result<(), Refusal>) -> u64 {
     match v {
         Ok(()) => 0,
-        Err(c) => c,
+        Err(c) => c.number(),
     }
 }
 

@@ -1,5 +1,6 @@
 -- How a path ends, as the program's answer has it. Document 01, "000"; document 02, order 8.
 use Rattle.rules.specs.Step.{Answer, refused, given}
+use Rattle.refusals.specs.Number.{number_of}
 use Rattle.rules.specs.Run.{End, quiet, spent, reached, halted}
 use Rattle.playing.specs.declared.PathEnd.{PathEnd}
 use Rattle.playing.specs.declared.PathEnd.TheVariants.{Quiet, Spent, Reached, Halted, Refused}
@@ -10,4 +11,4 @@ end_of Quiet = given quiet
 end_of Spent = given spent
 end_of Reached = given reached
 end_of Halted = given halted
-end_of (Refused c) = refused c
+end_of (Refused c) = refused (number_of c)

@@ -1,5 +1,7 @@
 -- What a step of the program is, in the rules' words. The rules of a step are in the crate rules (Step, Run); nothing here adds to them.
-use Rattle.std.specs.Prelude.{ℕ, ◌≤◌, ◌<◌, max, ◌≡◌, Bool, true, false, not, List, [], ◌∷◌, ◌⊎◌, take, Float}
+use Rattle.std.specs.Prelude.{ℕ, ◌≤◌, ◌<◌, max, ◌≡◌, Bool, true, false, not, List, [], ◌∷◌, ◌⊎◌, take, Float, Option, Some, None}
+use Rattle.refusals.specs.declared.Refusal.{Refusal as RefusalEnum}
+use Rattle.refusals.specs.declared.Refusal.TheVariants.{TooManyTimers, CountTooLarge}
 use Rattle.std.specs.Float.Ieee.{lt}
 use Rattle.refusals.specs as Refusal
 use Rattle.net.specs.declared.Net.{Net as NetRecord}
@@ -16,6 +18,7 @@ use Rattle.engine.specs.Engine.{Tidy, Counts, marking}
 use Rattle.engine.specs.Limits.{Limits}
 use Rattle.timers.specs.declared.Ring.{Ring}
 use Rattle.timers.specs.Turning.{running, timers_of, Sound}
+use Rattle.playing.specs.declared.firing.Change.{Change}
 use Rattle.playing.specs.declared.step.Ending.{Ending}
 use Rattle.playing.specs.declared.step.Ending.TheVariants.{GoesOn, Quiet, Reached, Refused}
 use Rattle.playing.specs.declared.step.Due.{Due}
@@ -81,6 +84,11 @@ pub data EventBy (spec : Answer Event) (u : State) (many : ℕ) : Bool → Type 
   happens : (e : Event) → spec ≡ given e → e.leaves ≡ u → many ≡ tokens_of u → EventBy spec u many true
   too_large : spec ≡ refused Refusal.count_too_large → EventBy spec u many false
 
+-- and the change that the program answers with: none where a count would pass 2^53
+abbrev pub ChangedBy : Answer Event → State → Option Change → Type 0
+ChangedBy spec u None = EventBy spec u 0 false
+ChangedBy spec u (Some x) = EventBy spec u x.tokens true
+
 -- A whole step from the state `before`, with the peak `most` so far. u is the state at its clock reading, whose counts are shown; s is the state that it
 -- leaves, with so many tokens and the peak most': where nothing is left, the state before, and nothing was shown. `rounded` says whether its a0 adds a
 -- rounded propensity.
@@ -91,6 +99,6 @@ pub data StepBy (spec : Answer Step) (before : State) (last : Float) (shows : St
   quiet : spec ≡ given (still rounded) → s ≡ before → same → most' ≡ most → StepBy spec before last shows same most most' many s rounded Quiet
   reached : (js : List ℕ) (e : Answer Event) → spec ≡ given (sets rounded js s e) → lt last s.clock ≡ true → shows s → most' ≡ most
       → StepBy spec before last shows same most most' many s rounded Reached
-  starting : spec ≡ refused Refusal.too_many_timers → StepBy spec before last shows same most most' many s rounded (Refused Refusal.too_many_timers)
+  starting : spec ≡ refused Refusal.too_many_timers → StepBy spec before last shows same most most' many s rounded (Refused TooManyTimers)
   putting : (js : List ℕ) (u : State) → spec ≡ given (sets rounded js u (refused Refusal.count_too_large)) → lt last u.clock ≡ false
-      → StepBy spec before last shows same most most' many s rounded (Refused Refusal.count_too_large)
+      → StepBy spec before last shows same most most' many s rounded (Refused CountTooLarge)

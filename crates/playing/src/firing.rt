@@ -1,8 +1,8 @@
 // The event that ends a step: a completion, or the firing of a race.
-ghost use Rattle.std.specs.Prelude.{◌≡◌, true, ◌≤◌, length};
+ghost use Rattle.std.specs.Prelude.{◌≡◌, ◌≤◌, length, IfSome};
 ghost use Rattle.std.proofs.Math.ListN as ListN;
 ghost use Rattle.net.specs.Readable as Record;
-ghost use Rattle.net.specs.Record.{lent};
+ghost use Rattle.net.specs.Record.{net_of};
 ghost use Rattle.net.specs.declared.Net.{Net as NetRecord};
 ghost use Rattle.net.specs.Net.{pick};
 ghost use Rattle.rng.specs.State as Random;
@@ -15,34 +15,30 @@ ghost use Rattle.engine.specs.Guards as Guards;
 ghost use Rattle.playing.specs.Stepping as Stepping;
 
 use engine::marking;
-use jump::{Choice, sums};
+use jump::sums;
+use net::LentNet;
 use rng::Xoshiro256;
 use timers::Ring;
 
-// The timers' ring after the event, the generator after it, whether the counts fit, and where they do the tokens and what the event has changed, as two words of
-// transitions (engine, specs/Guards).
+// What an event has changed: the tokens that it leaves, and the transitions that it may have changed, as two words (engine, specs/Guards).
 #[derive(Clone, Copy)]
-pub struct Ended {
-    pub timers: Ring,
-    pub rng: Xoshiro256,
-    pub fits: bool,
+pub struct Change {
     pub tokens: u64,
     pub moved: u64,
     pub crossed: u64,
 }
 
+// The timers' ring and the generator after the event, and what it has changed, or None where a count would pass 2^53.
+#[derive(Clone, Copy)]
+pub struct Ended {
+    pub timers: Ring,
+    pub rng: Xoshiro256,
+    pub change: Option<Change>,
+}
+
 // A completion puts the outputs of the first timer's transition and ends the timer: the tokens are those put more, and those that the timer had taken less.
 fn complete<'a>(
-    places: usize,
-    transitions: usize,
-    initial: &'a [u64; 32],
-    capacity: &'a [u64; 32],
-    rate: &'a [f64; 64],
-    delay: &'a [f64; 64],
-    arcs: &'a [usize; 64],
-    kind: &'a [u64; 1024],
-    place: &'a [usize; 1024],
-    weight: &'a [u64; 1024],
+    net: &LentNet,
     limit: &'a [u64; 1024],
     guards: &'a [u64; 160],
     counts: &mut [u64; 32],
@@ -53,65 +49,53 @@ fn complete<'a>(
     rng: Xoshiro256,
     tokens: u64,
 ) -> Ended
-    requires { let net = lent places transitions initial.now capacity.now rate.now delay.now arcs.now kind.now place.now weight.now in Stepping.Ready net limit.now counts.old ats.now owners.now ring
+    requires { let net = net_of net.now in Stepping.Ready net limit.now counts.old ats.now owners.now ring
         × (tokens ≡ Stepping.tokens_of (Stepping.state_of net counts.old ats.now owners.now ring clock rng.s))
         × Guards.Guards net guards.now }
-    ensures is { let net = lent places transitions initial.now capacity.now rate.now delay.now arcs.now kind.now place.now weight.now in Stepping.EventBy
+    ensures is { let net = net_of net.now in Stepping.ChangedBy
         (Rule.complete (Record.readable net) (Stepping.state_of net counts.old ats.now owners.now ring clock rng.s))
-        (Stepping.state_of net counts.new ats.now owners.now result.timers clock result.rng.s) result.tokens result.fits }
-    ensures ready { let net = lent places transitions initial.now capacity.now rate.now delay.now arcs.now kind.now place.now weight.now in Stepping.Ready net limit.now counts.new ats.now owners.now result.timers
+        (Stepping.state_of net counts.new ats.now owners.now result.timers clock result.rng.s) result.change }
+    ensures ready { let net = net_of net.now in Stepping.Ready net limit.now counts.new ats.now owners.now result.timers
         × (Turning.running result.timers ≤ Turning.running ring) }
-    ensures quiet { let net = lent places transitions initial.now capacity.now rate.now delay.now arcs.now kind.now place.now weight.now in result.fits ≡ true → Guards.Quiet (Record.readable net) (Engine.marking places counts.old) (Engine.marking places counts.new)
-        result.moved result.crossed }
+    ensures quiet { let net = net_of net.now in IfSome result.change (λ x. Guards.Quiet (Record.readable net) (Engine.marking net.places counts.old) (Engine.marking net.places counts.new)
+        x.moved x.crossed) }
 {
     let x = timers::first(ats, owners, ring);
     let left = timers::remove_first(ring);
     let fewer = tokens - x.taken;
     let j = x.who;
-    if j < transitions {
-        let p = marking::put(places, arcs, kind, place, weight, guards, counts, j);
-        if p.fits {
-            let many = fewer + p.more;
-            return Ended {
+    if j < net.transitions {
+        return match marking::put(net, guards, counts, j) {
+            Some(p) => Ended {
                 timers: left,
-                rng: rng,
-                fits: true,
-                tokens: many,
-                moved: p.moved,
-                crossed: p.crossed,
-            };
-        }
-        return Ended {
-            timers: left,
-            rng: rng,
-            fits: false,
-            tokens: 0,
-            moved: 0,
-            crossed: 0,
+                rng,
+                change: Some(Change {
+                    tokens: fewer + p.more,
+                    moved: p.moved,
+                    crossed: p.crossed,
+                }),
+            },
+            None => Ended {
+                timers: left,
+                rng,
+                change: None,
+            },
         };
     }
     Ended {
         timers: left,
-        rng: rng,
-        fits: true,
-        tokens: fewer,
-        moved: 0,
-        crossed: 0,
+        rng,
+        change: Some(Change {
+            tokens: fewer,
+            moved: 0,
+            crossed: 0,
+        }),
     }
 }
 
 // A race draws, chooses and fires: the tokens are those put more, and those taken less.
 fn race<'a>(
-    places: usize,
-    transitions: usize,
-    initial: &'a [u64; 32],
-    capacity: &'a [u64; 32],
-    rate: &'a [f64; 64],
-    delay: &'a [f64; 64],
-    arcs: &'a [usize; 64],
-    kind: &'a [u64; 1024],
-    place: &'a [usize; 1024],
-    weight: &'a [u64; 1024],
+    net: &LentNet,
     limit: &'a [u64; 1024],
     guards: &'a [u64; 160],
     counts: &mut [u64; 32],
@@ -125,61 +109,58 @@ fn race<'a>(
     rng: Xoshiro256,
     tokens: u64,
 ) -> Ended
-    requires { let net = lent places transitions initial.now capacity.now rate.now delay.now arcs.now kind.now place.now weight.now in Stepping.Ready net limit.now counts.old ats.now owners.now ring × (length props.now ≡ 64) × Sums.SumsKept transitions (ListN.take transitions props.now) sums.now
+    requires { let net = net_of net.now in Stepping.Ready net limit.now counts.old ats.now owners.now ring × (length props.now ≡ 64) × Sums.SumsKept net.transitions (ListN.take net.transitions props.now) sums.now
         × (tokens ≡ Stepping.tokens_of (Stepping.state_of net counts.old ats.now owners.now ring clock rng.s))
         × Guards.Guards net guards.now }
-    ensures is { let net = lent places transitions initial.now capacity.now rate.now delay.now arcs.now kind.now place.now weight.now in Stepping.EventBy
+    ensures is { let net = net_of net.now in Stepping.ChangedBy
         (Rule.raced (Record.readable net) (Stepping.state_of net counts.old ats.now owners.now ring clock rng.s) a0
-        (ListN.take transitions props.now))
-        (Stepping.state_of net counts.new ats.now owners.now result.timers clock result.rng.s) result.tokens result.fits }
-    ensures ready { let net = lent places transitions initial.now capacity.now rate.now delay.now arcs.now kind.now place.now weight.now in Stepping.Ready net limit.now counts.new ats.now owners.now result.timers
+        (ListN.take net.transitions props.now))
+        (Stepping.state_of net counts.new ats.now owners.now result.timers clock result.rng.s) result.change }
+    ensures ready { let net = net_of net.now in Stepping.Ready net limit.now counts.new ats.now owners.now result.timers
         × (Turning.running result.timers ≤ Turning.running ring) }
-    ensures quiet { let net = lent places transitions initial.now capacity.now rate.now delay.now arcs.now kind.now place.now weight.now in result.fits ≡ true → Guards.Quiet (Record.readable net) (Engine.marking places counts.old) (Engine.marking places counts.new)
-        result.moved result.crossed }
+    ensures quiet { let net = net_of net.now in IfSome result.change (λ x. Guards.Quiet (Record.readable net) (Engine.marking net.places counts.old) (Engine.marking net.places counts.new)
+        x.moved x.crossed) }
 {
     let d = rng.uniform();
     let g = d.rng;
-    let chosen = sums::choose_by_sums(transitions, d.value * a0, props, sums);
+    let chosen = sums::choose_by_sums(net.transitions, d.value * a0, props, sums);
     match chosen {
-        Choice::Nobody => Ended {
+        None => Ended {
             timers: ring,
             rng: g,
-            fits: true,
-            tokens: tokens,
-            moved: 0,
-            crossed: 0,
+            change: Some(Change {
+                tokens,
+                moved: 0,
+                crossed: 0,
+            }),
         },
-        Choice::Chosen(j) => {
-            if j < transitions {
-                let f = marking::fire(places, arcs, kind, place, weight, guards, counts, j);
-                if f.fits {
-                    let more = tokens + f.more;
-                    let many = more - f.less;
-                    return Ended {
+        Some(j) => {
+            if j < net.transitions {
+                return match marking::fire(net, guards, counts, j) {
+                    Some(f) => Ended {
                         timers: ring,
                         rng: g,
-                        fits: true,
-                        tokens: many,
-                        moved: f.moved,
-                        crossed: f.crossed,
-                    };
-                }
-                return Ended {
-                    timers: ring,
-                    rng: g,
-                    fits: false,
-                    tokens: 0,
-                    moved: 0,
-                    crossed: 0,
+                        change: Some(Change {
+                            tokens: tokens + f.more - f.less,
+                            moved: f.moved,
+                            crossed: f.crossed,
+                        }),
+                    },
+                    None => Ended {
+                        timers: ring,
+                        rng: g,
+                        change: None,
+                    },
                 };
             }
             Ended {
                 timers: ring,
                 rng: g,
-                fits: true,
-                tokens: tokens,
-                moved: 0,
-                crossed: 0,
+                change: Some(Change {
+                    tokens,
+                    moved: 0,
+                    crossed: 0,
+                }),
             }
         }
     }
@@ -198,16 +179,7 @@ pub fn after_event(rng: Xoshiro256, completes: bool) -> Xoshiro256
 
 // The event: the completion where one is due, else the race.
 pub fn happen<'a>(
-    places: usize,
-    transitions: usize,
-    initial: &'a [u64; 32],
-    capacity: &'a [u64; 32],
-    rate: &'a [f64; 64],
-    delay: &'a [f64; 64],
-    arcs: &'a [usize; 64],
-    kind: &'a [u64; 1024],
-    place: &'a [usize; 1024],
-    weight: &'a [u64; 1024],
+    net: &LentNet,
     limit: &'a [u64; 1024],
     guards: &'a [u64; 160],
     counts: &mut [u64; 32],
@@ -222,63 +194,24 @@ pub fn happen<'a>(
     tokens: u64,
     completes: bool,
 ) -> Ended
-    requires { let net = lent places transitions initial.now capacity.now rate.now delay.now arcs.now kind.now place.now weight.now in Stepping.Ready net limit.now counts.old ats.now owners.now ring × (length props.now ≡ 64) × Sums.SumsKept transitions (ListN.take transitions props.now) sums.now
+    requires { let net = net_of net.now in Stepping.Ready net limit.now counts.old ats.now owners.now ring × (length props.now ≡ 64) × Sums.SumsKept net.transitions (ListN.take net.transitions props.now) sums.now
         × (tokens ≡ Stepping.tokens_of (Stepping.state_of net counts.old ats.now owners.now ring clock rng.s))
         × Guards.Guards net guards.now }
-    ensures is { let net = lent places transitions initial.now capacity.now rate.now delay.now arcs.now kind.now place.now weight.now in Stepping.EventBy
+    ensures is { let net = net_of net.now in Stepping.ChangedBy
         (Stepping.event_of net (Stepping.state_of net counts.old ats.now owners.now ring clock rng.s) a0
         props.now completes)
-        (Stepping.state_of net counts.new ats.now owners.now result.timers clock result.rng.s) result.tokens result.fits }
-    ensures ready { let net = lent places transitions initial.now capacity.now rate.now delay.now arcs.now kind.now place.now weight.now in Stepping.Ready net limit.now counts.new ats.now owners.now result.timers
+        (Stepping.state_of net counts.new ats.now owners.now result.timers clock result.rng.s) result.change }
+    ensures ready { let net = net_of net.now in Stepping.Ready net limit.now counts.new ats.now owners.now result.timers
         × (Turning.running result.timers ≤ Turning.running ring) }
-    ensures quiet { let net = lent places transitions initial.now capacity.now rate.now delay.now arcs.now kind.now place.now weight.now in result.fits ≡ true → Guards.Quiet (Record.readable net) (Engine.marking places counts.old) (Engine.marking places counts.new)
-        result.moved result.crossed }
+    ensures quiet { let net = net_of net.now in IfSome result.change (λ x. Guards.Quiet (Record.readable net) (Engine.marking net.places counts.old) (Engine.marking net.places counts.new)
+        x.moved x.crossed) }
 {
     if completes {
         return complete(
-            places,
-            transitions,
-            initial,
-            capacity,
-            rate,
-            delay,
-            arcs,
-            kind,
-            place,
-            weight,
-            limit,
-            guards,
-            counts,
-            ats,
-            owners,
-            ring,
-            clock,
-            rng,
-            tokens,
+            net, limit, guards, counts, ats, owners, ring, clock, rng, tokens,
         );
     }
     race(
-        places,
-        transitions,
-        initial,
-        capacity,
-        rate,
-        delay,
-        arcs,
-        kind,
-        place,
-        weight,
-        limit,
-        guards,
-        counts,
-        ats,
-        owners,
-        props,
-        sums,
-        ring,
-        clock,
-        a0,
-        rng,
-        tokens,
+        net, limit, guards, counts, ats, owners, props, sums, ring, clock, a0, rng, tokens,
     )
 }

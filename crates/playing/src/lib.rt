@@ -11,6 +11,8 @@ mod starts;
 mod step;
 pub mod tables;
 
+use refusals::Refusal;
+
 // How a path ends, or the number by which it was turned down. Only a path that names a number of steps is halted.
 #[derive(Clone, Copy)]
 pub enum PathEnd {
@@ -18,5 +20,5 @@ pub enum PathEnd {
     Spent,
     Reached,
     Halted,
-    Refused(u64),
+    Refused(Refusal),
 }

@@ -2,7 +2,7 @@
 ghost use Rattle.std.specs.Prelude.{◌≡◌, ◌&&◌, List, Float};
 ghost use Rattle.net.specs.Net as Net;
 ghost use Rattle.net.specs.Readable as Record;
-ghost use Rattle.net.specs.Record.{lent};
+ghost use Rattle.net.specs.Record.{net_of};
 ghost use Rattle.net.specs.Tests as Tests;
 ghost use Rattle.net.specs.declared.Net.{Net as NetRecord};
 ghost use Rattle.rules.specs.Enabled as Enabled;
@@ -15,49 +15,18 @@ ghost use Rattle.playing.specs.Stepping as Stepping;
 
 use crate::run::Standing;
 use engine::marking;
+use net::LentNet;
 
 // Is a delayed transition enabled?
-fn some_ready<'a>(
-    places: usize,
-    transitions: usize,
-    initial: &'a [u64; 32],
-    capacity: &'a [u64; 32],
-    rate: &'a [f64; 64],
-    delay: &'a [f64; 64],
-    arcs: &'a [usize; 64],
-    kind: &'a [u64; 1024],
-    place: &'a [usize; 1024],
-    weight: &'a [u64; 1024],
-    limit: &'a [u64; 1024],
-    counts: &[u64; 32],
-) -> bool
-    requires { let net = lent places transitions initial.now capacity.now rate.now delay.now arcs.now kind.now place.now weight.now in Engine.Tidy net × Limits.Limits net limit.now × Engine.Counts counts.now }
-    ensures { let net = lent places transitions initial.now capacity.now rate.now delay.now arcs.now kind.now place.now weight.now in result ≡ Tests.any (λ (t : Net.Transition). Net.timed t && Enabled.enabled (Record.readable net) (Engine.marking places counts.now) t)
+fn some_ready<'a>(net: &LentNet, limit: &'a [u64; 1024], counts: &[u64; 32]) -> bool
+    requires { let net = net_of net.now in Engine.Tidy net × Limits.Limits net limit.now × Engine.Counts counts.now }
+    ensures { let net = net_of net.now in result ≡ Tests.any (λ (t : Net.Transition). Net.timed t && Enabled.enabled (Record.readable net) (Engine.marking net.places counts.now) t)
         (Record.readable net).transitions }
 {
-    let mut j: usize = 0;
-    while j < transitions {
-        let k = j + 1;
-        if 0.0 < delay[j] {
-            if marking::enabled(
-                places,
-                transitions,
-                initial,
-                capacity,
-                rate,
-                delay,
-                arcs,
-                kind,
-                place,
-                weight,
-                limit,
-                counts,
-                j,
-            ) {
-                return true;
-            }
+    for j in 0..net.transitions {
+        if 0.0 < net.delay[j] && marking::enabled(net, limit, counts, j) {
+            return true;
         }
-        j = k;
     }
     false
 }
@@ -65,16 +34,7 @@ fn some_ready<'a>(
 // The peak to go on with. Where it has the tokens already, or no step is to come, it is the peak that is carried. Else, if a timer will start, the tokens of
 // now come in with that start; and if none will, they do not.
 pub fn first_peak<'a>(
-    places: usize,
-    transitions: usize,
-    initial: &'a [u64; 32],
-    capacity: &'a [u64; 32],
-    rate: &'a [f64; 64],
-    delay: &'a [f64; 64],
-    arcs: &'a [usize; 64],
-    kind: &'a [u64; 1024],
-    place: &'a [usize; 1024],
-    weight: &'a [u64; 1024],
+    net: &LentNet,
     limit: &'a [u64; 1024],
     counts: &'a [u64; 32],
     ats: &'a [f64; 256],
@@ -84,10 +44,10 @@ pub fn first_peak<'a>(
     steps: u64,
     s: Standing,
 ) -> u64
-    requires { let net = lent places transitions initial.now capacity.now rate.now delay.now arcs.now kind.now place.now weight.now in Engine.Tidy net × Accepted (Record.readable net) × Limits.Limits net limit.now
+    requires { let net = net_of net.now in Engine.Tidy net × Accepted (Record.readable net) × Limits.Limits net limit.now
         × Stepping.Resumes counts.now ats.now owners.now s.timers s.clock
         × (s.tokens ≡ Stepping.tokens_of (Stepping.state_of net counts.now ats.now owners.now s.timers s.clock s.rng.s)) }
-    ensures { let net = lent places transitions initial.now capacity.now rate.now delay.now arcs.now kind.now place.now weight.now in let from = (Stepping.state_of net counts.now ats.now owners.now s.timers s.clock s.rng.s) in
+    ensures { let net = net_of net.now in let from = (Stepping.state_of net counts.now ats.now owners.now s.timers s.clock s.rng.s) in
         Stepping.Topped room (Record.readable net) last steps from result
         × ((out : End) (xs : List Float) → Play.higher result (Play.play_within out room (Record.readable net) last steps xs from)
         ≡ Play.higher s.peak (Play.play_within out room (Record.readable net) last steps xs from)) }
@@ -101,20 +61,7 @@ pub fn first_peak<'a>(
         return most;
     }
     if s.clock < last {
-        if some_ready(
-            places,
-            transitions,
-            initial,
-            capacity,
-            rate,
-            delay,
-            arcs,
-            kind,
-            place,
-            weight,
-            limit,
-            counts,
-        ) {
+        if some_ready(net, limit, counts) {
             return many;
         }
     }

@@ -4,7 +4,7 @@ ghost use Rattle.std.proofs.Math.ListN as ListN;
 ghost use Rattle.words.specs.Bits.{bit};
 ghost use Rattle.net.specs.Net as Net;
 ghost use Rattle.net.specs.Readable as Record;
-ghost use Rattle.net.specs.Record.{lent};
+ghost use Rattle.net.specs.Record.{net_of};
 ghost use Rattle.net.specs.declared.Net.{Net as NetRecord};
 ghost use Rattle.rng.specs.State as Random;
 ghost use Rattle.rules.specs.Shown as Shown;
@@ -20,6 +20,8 @@ ghost use Rattle.playing.specs.Ends as Ends;
 
 use crate::step::{Ending, Keeping, Now};
 use crate::{PathEnd, shown, step};
+use kept::tables::Tables;
+use net::LentNet;
 use rng::Xoshiro256;
 use timers::Ring;
 
@@ -93,23 +95,9 @@ fn stopped(end: PathEnd, steps: u64, rounded: u64, at: Now) -> Walked
 }
 
 // The steps of a path, at most so many; where another would follow, the path is halted or spent.
-fn take_steps<'a>(
-    places: usize,
-    transitions: usize,
-    initial: &'a [u64; 32],
-    capacity: &'a [u64; 32],
-    rate: &'a [f64; 64],
-    delay: &'a [f64; 64],
-    arcs: &'a [usize; 64],
-    kind: &'a [u64; 1024],
-    place: &'a [usize; 1024],
-    weight: &'a [u64; 1024],
-    limit: &'a [u64; 1024],
-    rates: &'a [f64; 64],
-    ends: &'a [usize; 64],
-    guards: &'a [u64; 160],
-    timed: u64,
-    heavy: u64,
+fn take_steps(
+    net: &LentNet,
+    tables: &Tables,
     counts: &mut [u64; 32],
     ats: &mut [f64; 256],
     owners: &mut [u64; 512],
@@ -123,22 +111,22 @@ fn take_steps<'a>(
     steps: u64,
     s: Now,
 ) -> Walked
-    requires { let net = lent places transitions initial.now capacity.now rate.now delay.now arcs.now kind.now place.now weight.now in Stepping.Ready net limit.now counts.old ats.old owners.old s.timers × Stepping.Roomy room s.timers
-        × Keeps.Tables net rates.now ends.now guards.now timed heavy × Keeps.Carried net (Engine.marking places counts.old) s.kept props.old sums.old
-        × (s.next ≤ length instants.now) × (length instants.now ≤ 1024) × (places * length instants.now ≤ length table.old)
+    requires { let net = net_of net.now in Stepping.Ready net tables.now.limit counts.old ats.old owners.old s.timers × Stepping.Roomy room s.timers
+        × Keeps.Tables net tables.now.rates tables.now.ends tables.now.guards tables.now.timed tables.now.heavy × Keeps.Carried net (Engine.marking net.places counts.old) s.kept props.old sums.old
+        × (s.next ≤ length instants.now) × (length instants.now ≤ 1024) × (net.places * length instants.now ≤ length table.old)
         × Stepping.Topped room (Record.readable net) last steps
         (Stepping.state_of net counts.old ats.old owners.old s.timers s.clock s.rng.s) s.peak
         × (s.tokens ≡ Stepping.tokens_of (Stepping.state_of net counts.old ats.old owners.old s.timers s.clock s.rng.s))
         × (s.unit ≡ unit_wait (Random.words s.rng.s)) }
-    ensures is { let net = lent places transitions initial.now capacity.now rate.now delay.now arcs.now kind.now place.now weight.now in Playing.WalkBy
+    ensures is { let net = net_of net.now in Playing.WalkBy
         (Play.higher s.peak (Play.play_within (Playing.out_of halts) room (Record.readable net) last steps (ListN.drop s.next instants.now)
         (Stepping.state_of net counts.old ats.old owners.old s.timers s.clock s.rng.s)))
         instants.now
         (Stepping.state_of net counts.new ats.new owners.new result.timers result.clock result.rng.s)
-        (λ sh. Playing.Listed places (length instants.now) s.next result.next sh table.old table.new)
+        (λ sh. Playing.Listed net.places (length instants.now) s.next result.next sh table.old table.new)
         result result.end }
     ensures kept { Engine.Counts counts.new × (length table.new ≡ length table.old)
-        × Cells.Stay places (length instants.now) table.old table.new }
+        × Cells.Stay net.now.places (length instants.now) table.old table.new }
 {
     let mut at = s;
     let mut done: u64 = 0;
@@ -151,32 +139,7 @@ fn take_steps<'a>(
         if clock < last {
             if done < steps {
                 let r = step::one_step(
-                    places,
-                    transitions,
-                    initial,
-                    capacity,
-                    rate,
-                    delay,
-                    arcs,
-                    kind,
-                    place,
-                    weight,
-                    limit,
-                    rates,
-                    ends,
-                    guards,
-                    timed,
-                    heavy,
-                    counts,
-                    ats,
-                    owners,
-                    props,
-                    sums,
-                    room,
-                    instants,
-                    last,
-                    table,
-                    at,
+                    net, tables, counts, ats, owners, props, sums, room, instants, last, table, at,
                 );
                 let ending = r.ending;
                 at = r.now;
@@ -220,23 +183,9 @@ fn all_of(transitions: usize) -> u64
 
 // Plays a path on from where it stands, at most so many steps. Its cells: what is shown on the way, and at the end the instants that are left, unless it is
 // halted; +0 in every cell of the answer where the run is refused.
-pub fn play_on<'a>(
-    places: usize,
-    transitions: usize,
-    initial: &'a [u64; 32],
-    capacity: &'a [u64; 32],
-    rate: &'a [f64; 64],
-    delay: &'a [f64; 64],
-    arcs: &'a [usize; 64],
-    kind: &'a [u64; 1024],
-    place: &'a [usize; 1024],
-    weight: &'a [u64; 1024],
-    limit: &'a [u64; 1024],
-    rates: &'a [f64; 64],
-    ends: &'a [usize; 64],
-    guards: &'a [u64; 160],
-    timed: u64,
-    heavy: u64,
+pub fn play_on(
+    net: &LentNet,
+    tables: &Tables,
     counts: &mut [u64; 32],
     ats: &mut [f64; 256],
     owners: &mut [u64; 512],
@@ -247,17 +196,17 @@ pub fn play_on<'a>(
     s: Standing,
     table: &mut [f64],
 ) -> Walked
-    requires { let net = lent places transitions initial.now capacity.now rate.now delay.now arcs.now kind.now place.now weight.now in Stepping.Ready net limit.now counts.old ats.old owners.old s.timers × Stepping.Roomy room s.timers
-        × Keeps.Tables net rates.now ends.now guards.now timed heavy
-        × (0 < length instants.now) × (s.next ≤ length instants.now) × (length instants.now ≤ 1024) × (places * length instants.now ≤ length table.old)
+    requires { let net = net_of net.now in Stepping.Ready net tables.now.limit counts.old ats.old owners.old s.timers × Stepping.Roomy room s.timers
+        × Keeps.Tables net tables.now.rates tables.now.ends tables.now.guards tables.now.timed tables.now.heavy
+        × (0 < length instants.now) × (s.next ≤ length instants.now) × (length instants.now ≤ 1024) × (net.places * length instants.now ≤ length table.old)
         × Stepping.Topped room (Record.readable net) (Shown.last_of instants.now) steps
         (Stepping.state_of net counts.old ats.old owners.old s.timers s.clock s.rng.s) s.peak
         × (s.tokens ≡ Stepping.tokens_of (Stepping.state_of net counts.old ats.old owners.old s.timers s.clock s.rng.s)) }
-    ensures { let net = lent places transitions initial.now capacity.now rate.now delay.now arcs.now kind.now place.now weight.now in Playing.PlayedBy
+    ensures { let net = net_of net.now in Playing.PlayedBy
         (Play.higher s.peak (Play.play_within (Playing.out_of halts) room (Record.readable net) (Shown.last_of instants.now) steps
         (ListN.drop s.next instants.now)
         (Stepping.state_of net counts.old ats.old owners.old s.timers s.clock s.rng.s)))
-        places instants.now s.next table.old table.new
+        net.places instants.now s.next table.old table.new
         (Stepping.state_of net counts.new ats.new owners.new result.timers result.clock result.rng.s) result result.end }
 {
     let mut props = [0.0; 64];
@@ -268,7 +217,7 @@ pub fn play_on<'a>(
     let rng = s.rng;
     let kept = Keeping {
         moved: 0,
-        crossed: all_of(transitions),
+        crossed: all_of(net.transitions),
         able: 0,
         marks: 0,
         a0: 0.0,
@@ -284,36 +233,10 @@ pub fn play_on<'a>(
         unit: jump::unit_wait(rng),
     };
     let w = take_steps(
-        places,
-        transitions,
-        initial,
-        capacity,
-        rate,
-        delay,
-        arcs,
-        kind,
-        place,
-        weight,
-        limit,
-        rates,
-        ends,
-        guards,
-        timed,
-        heavy,
-        counts,
-        ats,
-        owners,
-        &mut props,
-        &mut sums,
-        room,
-        instants,
-        last,
-        table,
-        halts,
-        steps,
-        at,
+        net, tables, counts, ats, owners, &mut props, &mut sums, room, instants, last, table,
+        halts, steps, at,
     );
     let end = w.end;
-    shown::finish(table, counts, places, n, w.next, end);
+    shown::finish(table, counts, net.places, n, w.next, end);
     w
 }

@@ -2,7 +2,7 @@
 ghost use Rattle.std.specs.Prelude.{◌≡◌, true, false, [], ◌∷◌, ℕ, suc, ◌+◌, ◌^◌, ◌<◌, ◌≤◌, leb, ◌&&◌};
 ghost use Rattle.net.specs.Net.{timed as delayed};
 ghost use Rattle.net.specs.Readable as Record;
-ghost use Rattle.net.specs.Record.{lent};
+ghost use Rattle.net.specs.Record.{net_of};
 ghost use Rattle.net.specs.declared.Net.{Net as NetRecord};
 ghost use Rattle.rules.specs.Step as Rule;
 ghost use Rattle.words.specs.Bits.{bit};
@@ -15,6 +15,8 @@ ghost use Rattle.timers.specs.Turning as Turning;
 ghost use Rattle.playing.specs.Stepping as Stepping;
 
 use engine::marking;
+use kept::tables::Tables;
+use net::LentNet;
 use timers::{Ring, Timer};
 
 // The timers' ring now, whether a timer has started, and whether one could not since there was no room for it; and what the starts have changed, as two words
@@ -31,16 +33,7 @@ pub struct Started {
 // Starts transition j if it is delayed and enabled. Its tokens are taken first, since its timer holds how many they were; where there is no room for the
 // timer the run is refused, and its counts matter no more.
 fn try_start<'a>(
-    places: usize,
-    transitions: usize,
-    initial: &'a [u64; 32],
-    capacity: &'a [u64; 32],
-    rate: &'a [f64; 64],
-    delay: &'a [f64; 64],
-    arcs: &'a [usize; 64],
-    kind: &'a [u64; 1024],
-    place: &'a [usize; 1024],
-    weight: &'a [u64; 1024],
+    net: &LentNet,
     limit: &'a [u64; 1024],
     guards: &'a [u64; 160],
     counts: &mut [u64; 32],
@@ -51,34 +44,20 @@ fn try_start<'a>(
     t: f64,
     j: usize,
 ) -> Started
-    requires { let net = lent places transitions initial.now capacity.now rate.now delay.now arcs.now kind.now place.now weight.now in (j < transitions) × Stepping.Ready net limit.now counts.old ats.old owners.old ring × Stepping.Roomy room ring
+    requires { let net = net_of net.now in (j < net.transitions) × Stepping.Ready net limit.now counts.old ats.old owners.old ring × Stepping.Roomy room ring
         × Guards.Guards net guards.now }
-    ensures is { let net = lent places transitions initial.now capacity.now rate.now delay.now arcs.now kind.now place.now weight.now in Starts.StartsAre
+    ensures is { let net = net_of net.now in Starts.StartsAre
         (Rule.pass room (Record.readable net) t j (Record.transition net j ∷ [])
-        (Engine.marking places counts.old) (Turning.timers_of ats.old owners.old ring))
-        (Engine.marking places counts.new) (Turning.timers_of ats.new owners.new result.timers) result }
-    ensures ready { let net = lent places transitions initial.now capacity.now rate.now delay.now arcs.now kind.now place.now weight.now in Stepping.Ready net limit.now counts.new ats.new owners.new result.timers × Stepping.Roomy room result.timers }
-    ensures quiet { let net = lent places transitions initial.now capacity.now rate.now delay.now arcs.now kind.now place.now weight.now in result.full ≡ false → Guards.Quiet (Record.readable net) (Engine.marking places counts.old) (Engine.marking places counts.new)
+        (Engine.marking net.places counts.old) (Turning.timers_of ats.old owners.old ring))
+        (Engine.marking net.places counts.new) (Turning.timers_of ats.new owners.new result.timers) result }
+    ensures ready { let net = net_of net.now in Stepping.Ready net limit.now counts.new ats.new owners.new result.timers × Stepping.Roomy room result.timers }
+    ensures quiet { let net = net_of net.now in result.full ≡ false → Guards.Quiet (Record.readable net) (Engine.marking net.places counts.old) (Engine.marking net.places counts.new)
         result.moved result.crossed }
 {
-    let d = delay[j];
+    let d = net.delay[j];
     if 0.0 < d {
-        if marking::enabled(
-            places,
-            transitions,
-            initial,
-            capacity,
-            rate,
-            delay,
-            arcs,
-            kind,
-            place,
-            weight,
-            limit,
-            counts,
-            j,
-        ) {
-            let took = marking::take(places, arcs, kind, place, weight, guards, counts, j);
+        if marking::enabled(net, limit, counts, j) {
+            let took = marking::take(net, guards, counts, j);
             let x = Timer {
                 at: t + d,
                 who: j,
@@ -117,20 +96,9 @@ fn from_bit(word: u64, k: usize) -> u64
 
 // One pass through the transitions. Only those in the word `asked` are looked at, and those that a start of this pass may have opened: every other delayed one is
 // not enabled.
-fn pass<'a>(
-    places: usize,
-    transitions: usize,
-    initial: &'a [u64; 32],
-    capacity: &'a [u64; 32],
-    rate: &'a [f64; 64],
-    delay: &'a [f64; 64],
-    arcs: &'a [usize; 64],
-    kind: &'a [u64; 1024],
-    place: &'a [usize; 1024],
-    weight: &'a [u64; 1024],
-    limit: &'a [u64; 1024],
-    guards: &'a [u64; 160],
-    timed: u64,
+fn pass(
+    net: &LentNet,
+    tables: &Tables,
     counts: &mut [u64; 32],
     ats: &mut [f64; 256],
     owners: &mut [u64; 512],
@@ -139,14 +107,14 @@ fn pass<'a>(
     t: f64,
     asked: u64,
 ) -> Started
-    requires { let net = lent places transitions initial.now capacity.now rate.now delay.now arcs.now kind.now place.now weight.now in Stepping.Ready net limit.now counts.old ats.old owners.old ring × Stepping.Roomy room ring × Guards.Guards net guards.now
-        × Traits.Marks net delayed timed × ((j : ℕ) → bit asked j ≡ true → bit timed j ≡ true) × Keeping.ShutBut asked (Record.readable net) (Engine.marking places counts.old) }
-    ensures is { let net = lent places transitions initial.now capacity.now rate.now delay.now arcs.now kind.now place.now weight.now in Starts.StartsAre
+    requires { let net = net_of net.now in Stepping.Ready net tables.now.limit counts.old ats.old owners.old ring × Stepping.Roomy room ring × Guards.Guards net tables.now.guards
+        × Traits.Marks net delayed tables.now.timed × ((j : ℕ) → bit asked j ≡ true → bit tables.now.timed j ≡ true) × Keeping.ShutBut asked (Record.readable net) (Engine.marking net.places counts.old) }
+    ensures is { let net = net_of net.now in Starts.StartsAre
         (Rule.pass room (Record.readable net) t 0 (Record.readable net).transitions
-        (Engine.marking places counts.old) (Turning.timers_of ats.old owners.old ring))
-        (Engine.marking places counts.new) (Turning.timers_of ats.new owners.new result.timers) result }
-    ensures ready { let net = lent places transitions initial.now capacity.now rate.now delay.now arcs.now kind.now place.now weight.now in Stepping.Ready net limit.now counts.new ats.new owners.new result.timers × Stepping.Roomy room result.timers }
-    ensures quiet { let net = lent places transitions initial.now capacity.now rate.now delay.now arcs.now kind.now place.now weight.now in result.full ≡ false → Guards.Quiet (Record.readable net) (Engine.marking places counts.old) (Engine.marking places counts.new)
+        (Engine.marking net.places counts.old) (Turning.timers_of ats.old owners.old ring))
+        (Engine.marking net.places counts.new) (Turning.timers_of ats.new owners.new result.timers) result }
+    ensures ready { let net = net_of net.now in Stepping.Ready net tables.now.limit counts.new ats.new owners.new result.timers × Stepping.Roomy room result.timers }
+    ensures quiet { let net = net_of net.now in result.full ≡ false → Guards.Quiet (Record.readable net) (Engine.marking net.places counts.old) (Engine.marking net.places counts.new)
         result.moved result.crossed }
 {
     let mut k = ring;
@@ -159,18 +127,9 @@ fn pass<'a>(
     while ahead != 0 {
         let j = u64::trailing_zeros(ahead) as usize;
         let s = try_start(
-            places,
-            transitions,
-            initial,
-            capacity,
-            rate,
-            delay,
-            arcs,
-            kind,
-            place,
-            weight,
-            limit,
-            guards,
+            net,
+            &tables.limit,
+            &tables.guards,
             counts,
             ats,
             owners,
@@ -186,7 +145,7 @@ fn pass<'a>(
         any = any | s.any;
         moved = moved | s.moved;
         crossed = crossed | s.crossed;
-        tried = tried | (s.crossed & timed);
+        tried = tried | (s.crossed & tables.timed);
         from = j + 1;
         ahead = from_bit(tried, from);
     }
@@ -200,20 +159,9 @@ fn pass<'a>(
 }
 
 // Passes until none starts. A delayed transition outside the word `before` is not enabled.
-pub fn start_all<'a>(
-    places: usize,
-    transitions: usize,
-    initial: &'a [u64; 32],
-    capacity: &'a [u64; 32],
-    rate: &'a [f64; 64],
-    delay: &'a [f64; 64],
-    arcs: &'a [usize; 64],
-    kind: &'a [u64; 1024],
-    place: &'a [usize; 1024],
-    weight: &'a [u64; 1024],
-    limit: &'a [u64; 1024],
-    guards: &'a [u64; 160],
-    timed: u64,
+pub fn start_all(
+    net: &LentNet,
+    tables: &Tables,
     counts: &mut [u64; 32],
     ats: &mut [f64; 256],
     owners: &mut [u64; 512],
@@ -222,16 +170,16 @@ pub fn start_all<'a>(
     t: f64,
     before: u64,
 ) -> Started
-    requires { let net = lent places transitions initial.now capacity.now rate.now delay.now arcs.now kind.now place.now weight.now in Stepping.Ready net limit.now counts.old ats.old owners.old ring × Stepping.Roomy room ring × Guards.Guards net guards.now
-        × Traits.Marks net delayed timed × Keeping.ShutBut before (Record.readable net) (Engine.marking places counts.old) }
-    ensures is { let net = lent places transitions initial.now capacity.now rate.now delay.now arcs.now kind.now place.now weight.now in Starts.StartsAre
-        (Rule.passes (suc room) room (Record.readable net) t (Engine.marking places counts.old) (Turning.timers_of ats.old owners.old ring))
-        (Engine.marking places counts.new) (Turning.timers_of ats.new owners.new result.timers) result }
-    ensures ready { let net = lent places transitions initial.now capacity.now rate.now delay.now arcs.now kind.now place.now weight.now in Stepping.Ready net limit.now counts.new ats.new owners.new result.timers × Stepping.Roomy room result.timers }
-    ensures quiet { let net = lent places transitions initial.now capacity.now rate.now delay.now arcs.now kind.now place.now weight.now in result.full ≡ false → Guards.Quiet (Record.readable net) (Engine.marking places counts.old) (Engine.marking places counts.new)
+    requires { let net = net_of net.now in Stepping.Ready net tables.now.limit counts.old ats.old owners.old ring × Stepping.Roomy room ring × Guards.Guards net tables.now.guards
+        × Traits.Marks net delayed tables.now.timed × Keeping.ShutBut before (Record.readable net) (Engine.marking net.places counts.old) }
+    ensures is { let net = net_of net.now in Starts.StartsAre
+        (Rule.passes (suc room) room (Record.readable net) t (Engine.marking net.places counts.old) (Turning.timers_of ats.old owners.old ring))
+        (Engine.marking net.places counts.new) (Turning.timers_of ats.new owners.new result.timers) result }
+    ensures ready { let net = net_of net.now in Stepping.Ready net tables.now.limit counts.new ats.new owners.new result.timers × Stepping.Roomy room result.timers }
+    ensures quiet { let net = net_of net.now in result.full ≡ false → Guards.Quiet (Record.readable net) (Engine.marking net.places counts.old) (Engine.marking net.places counts.new)
         result.moved result.crossed }
 {
-    let mut asked = before & timed;
+    let mut asked = before & tables.timed;
     if asked == 0 {
         return Started {
             timers: ring,
@@ -245,30 +193,8 @@ pub fn start_all<'a>(
     let mut any = false;
     let mut moved: u64 = 0;
     let mut crossed: u64 = 0;
-    let mut i: usize = 0;
-    while i <= room {
-        let s = pass(
-            places,
-            transitions,
-            initial,
-            capacity,
-            rate,
-            delay,
-            arcs,
-            kind,
-            place,
-            weight,
-            limit,
-            guards,
-            timed,
-            counts,
-            ats,
-            owners,
-            room,
-            k,
-            t,
-            asked,
-        );
+    for _i in 0..room + 1 {
+        let s = pass(net, tables, counts, ats, owners, room, k, t, asked);
         if s.full {
             return s;
         }
@@ -284,9 +210,8 @@ pub fn start_all<'a>(
                 crossed: crossed,
             };
         }
-        asked = asked | (s.crossed & timed);
+        asked = asked | (s.crossed & tables.timed);
         any = true;
-        i += 1;
     }
     Started {
         timers: k,

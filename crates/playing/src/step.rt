@@ -1,7 +1,7 @@
 // One step of a run: starts, the clock reading that it sets, and the completion or firing that ends it.
 ghost use Rattle.std.specs.Prelude.{◌≡◌, ◌*◌, ◌≤◌, max, length};
 ghost use Rattle.net.specs.Readable as Record;
-ghost use Rattle.net.specs.Record.{lent};
+ghost use Rattle.net.specs.Record.{net_of};
 ghost use Rattle.net.specs.declared.Net.{Net as NetRecord};
 ghost use Rattle.rng.specs.State as Random;
 ghost use Rattle.rules.specs.Step as Rule;
@@ -14,9 +14,11 @@ ghost use Rattle.playing.specs.Stepping as Stepping;
 use crate::{firing, shown, starts};
 use jump::Next;
 use kept::refresh;
+use kept::tables::Tables;
+use net::LentNet;
+use refusals::Refusal;
 use rng::Xoshiro256;
 use timers::Ring;
-use refusals::Refusal;
 
 // What is carried from step to step about propensities (kept, specs/Kept): the transitions whose ways may have changed since, those that may have been opened or
 // shut, those that are enabled, the rounded ones, and the total.
@@ -49,7 +51,7 @@ pub enum Ending {
     GoesOn,
     Quiet,
     Reached,
-    Refused(u64),
+    Refused(Refusal),
 }
 
 // What a step leaves, whether its a0 adds a rounded propensity, and whether the run goes on.
@@ -81,23 +83,9 @@ pub struct Advanced {
 }
 
 // The starts, the propensities, and the new clock reading.
-fn advance<'a>(
-    places: usize,
-    transitions: usize,
-    initial: &'a [u64; 32],
-    capacity: &'a [u64; 32],
-    rate: &'a [f64; 64],
-    delay: &'a [f64; 64],
-    arcs: &'a [usize; 64],
-    kind: &'a [u64; 1024],
-    place: &'a [usize; 1024],
-    weight: &'a [u64; 1024],
-    limit: &'a [u64; 1024],
-    rates: &'a [f64; 64],
-    ends: &'a [usize; 64],
-    guards: &'a [u64; 160],
-    timed: u64,
-    heavy: u64,
+fn advance(
+    net: &LentNet,
+    tables: &Tables,
     counts: &mut [u64; 32],
     ats: &mut [f64; 256],
     owners: &mut [u64; 512],
@@ -110,40 +98,19 @@ fn advance<'a>(
     kept: Keeping,
     unit: f64,
 ) -> Advanced
-    requires { let net = lent places transitions initial.now capacity.now rate.now delay.now arcs.now kind.now place.now weight.now in Stepping.Ready net limit.now counts.old ats.old owners.old ring × Stepping.Roomy room ring × Keeps.Tables net rates.now ends.now guards.now timed heavy
-        × Keeps.Carried net (Engine.marking places counts.old) kept props.old sums.old × (unit ≡ unit_wait (Random.words rng.s)) }
-    ensures is { let net = lent places transitions initial.now capacity.now rate.now delay.now arcs.now kind.now place.now weight.now in let before = Stepping.state_of net counts.old ats.old owners.old ring t rng.s in
+    requires { let net = net_of net.now in Stepping.Ready net tables.now.limit counts.old ats.old owners.old ring × Stepping.Roomy room ring × Keeps.Tables net tables.now.rates tables.now.ends tables.now.guards tables.now.timed tables.now.heavy
+        × Keeps.Carried net (Engine.marking net.places counts.old) kept props.old sums.old × (unit ≡ unit_wait (Random.words rng.s)) }
+    ensures is { let net = net_of net.now in let before = Stepping.state_of net counts.old ats.old owners.old ring t rng.s in
         Stepping.AdvancedBy net (Rule.step room (Record.readable net) before) before
         (Stepping.state_of net counts.new ats.new owners.new result.timers result.clock result.rng.s)
         props.new result.kept.a0 result.rounded result.completes result.due }
-    ensures ready { let net = lent places transitions initial.now capacity.now rate.now delay.now arcs.now kind.now place.now weight.now in Stepping.Ready net limit.now counts.new ats.new owners.new result.timers
+    ensures ready { let net = net_of net.now in Stepping.Ready net tables.now.limit counts.new ats.new owners.new result.timers
         × Stepping.Roomy room result.timers
-        × (result.due ≡ Due.Event → Keeps.Carried net (Engine.marking places counts.new) result.kept props.new sums.new
+        × (result.due ≡ Due.Event → Keeps.Carried net (Engine.marking net.places counts.new) result.kept props.new sums.new
         × (result.kept.moved ≡ 0) × (result.kept.crossed ≡ 0)) }
 {
     let before = kept.crossed;
-    let s = starts::start_all(
-        places,
-        transitions,
-        initial,
-        capacity,
-        rate,
-        delay,
-        arcs,
-        kind,
-        place,
-        weight,
-        limit,
-        guards,
-        timed,
-        counts,
-        ats,
-        owners,
-        room,
-        ring,
-        t,
-        before,
-    );
+    let s = starts::start_all(net, tables, counts, ats, owners, room, ring, t, before);
     let left = s.timers;
     if s.full {
         return Advanced {
@@ -159,29 +126,7 @@ fn advance<'a>(
     let moved = kept.moved | s.moved;
     let crossed = before | s.crossed;
     let fresh = refresh::refresh(
-        places,
-        transitions,
-        initial,
-        capacity,
-        rate,
-        delay,
-        arcs,
-        kind,
-        place,
-        weight,
-        limit,
-        rates,
-        ends,
-        timed,
-        heavy,
-        counts,
-        moved,
-        crossed,
-        kept.able,
-        kept.marks,
-        kept.a0,
-        props,
-        sums,
+        net, tables, counts, moved, crossed, kept.able, kept.marks, kept.a0, props, sums,
     );
     let a0 = fresh.a0;
     let rounded = fresh.marks != 0;
@@ -239,23 +184,9 @@ fn higher(peak: u64, tokens: u64) -> u64
 }
 
 // One step.
-pub fn one_step<'a>(
-    places: usize,
-    transitions: usize,
-    initial: &'a [u64; 32],
-    capacity: &'a [u64; 32],
-    rate: &'a [f64; 64],
-    delay: &'a [f64; 64],
-    arcs: &'a [usize; 64],
-    kind: &'a [u64; 1024],
-    place: &'a [usize; 1024],
-    weight: &'a [u64; 1024],
-    limit: &'a [u64; 1024],
-    rates: &'a [f64; 64],
-    ends: &'a [usize; 64],
-    guards: &'a [u64; 160],
-    timed: u64,
-    heavy: u64,
+pub fn one_step(
+    net: &LentNet,
+    tables: &Tables,
     counts: &mut [u64; 32],
     ats: &mut [f64; 256],
     owners: &mut [u64; 512],
@@ -267,175 +198,120 @@ pub fn one_step<'a>(
     table: &mut [f64],
     s: Now,
 ) -> Stepped
-    requires { let net = lent places transitions initial.now capacity.now rate.now delay.now arcs.now kind.now place.now weight.now in Stepping.Ready net limit.now counts.old ats.old owners.old s.timers × Stepping.Roomy room s.timers
-        × Keeps.Tables net rates.now ends.now guards.now timed heavy × Keeps.Carried net (Engine.marking places counts.old) s.kept props.old sums.old
+    requires { let net = net_of net.now in Stepping.Ready net tables.now.limit counts.old ats.old owners.old s.timers × Stepping.Roomy room s.timers
+        × Keeps.Tables net tables.now.rates tables.now.ends tables.now.guards tables.now.timed tables.now.heavy × Keeps.Carried net (Engine.marking net.places counts.old) s.kept props.old sums.old
         × (s.next ≤ length instants.now) × (length instants.now ≤ 1024)
-        × (places * length instants.now ≤ length table.old)
+        × (net.places * length instants.now ≤ length table.old)
         × (s.tokens ≡ Stepping.tokens_of (Stepping.state_of net counts.old ats.old owners.old s.timers s.clock s.rng.s))
         × (s.unit ≡ unit_wait (Random.words s.rng.s)) }
-    ensures is { let net = lent places transitions initial.now capacity.now rate.now delay.now arcs.now kind.now place.now weight.now in let before = Stepping.state_of net counts.old ats.old owners.old s.timers s.clock s.rng.s in
+    ensures is { let net = net_of net.now in let before = Stepping.state_of net counts.old ats.old owners.old s.timers s.clock s.rng.s in
         Stepping.StepBy (Rule.step room (Record.readable net) before) before last
-        (λ u. Cells.ShownBy places instants.now u.clock u.counts s.next result.now.next table.old table.new)
+        (λ u. Cells.ShownBy net.places instants.now u.clock u.counts s.next result.now.next table.old table.new)
         (Cells.NotShown s.next result.now.next table.old table.new)
         s.peak result.now.peak result.now.tokens
         (Stepping.state_of net counts.new ats.new owners.new result.now.timers result.now.clock result.now.rng.s)
         result.rounded result.ending }
-    ensures ready { let net = lent places transitions initial.now capacity.now rate.now delay.now arcs.now kind.now place.now weight.now in Stepping.Ready net limit.now counts.new ats.new owners.new result.now.timers
+    ensures ready { let net = net_of net.now in Stepping.Ready net tables.now.limit counts.new ats.new owners.new result.now.timers
         × Stepping.Roomy room result.now.timers
-        × (result.ending ≡ Ending.GoesOn → Keeps.Carried net (Engine.marking places counts.new) result.now.kept props.new sums.new
+        × (result.ending ≡ Ending.GoesOn → Keeps.Carried net (Engine.marking net.places counts.new) result.now.kept props.new sums.new
         × (result.now.unit ≡ unit_wait (Random.words result.now.rng.s)))
         × (length table.new ≡ length table.old)
-        × Cells.Stay places (length instants.now) table.old table.new }
+        × Cells.Stay net.places (length instants.now) table.old table.new }
 {
-    let t = s.clock;
-    let rng = s.rng;
-    let ring = s.timers;
-    let kept = s.kept;
     let d = advance(
-        places,
-        transitions,
-        initial,
-        capacity,
-        rate,
-        delay,
-        arcs,
-        kind,
-        place,
-        weight,
-        limit,
-        rates,
-        ends,
-        guards,
-        timed,
-        heavy,
-        counts,
-        ats,
-        owners,
-        props,
-        sums,
-        room,
-        ring,
-        t,
-        rng,
-        kept,
+        net, tables, counts, ats, owners, props, sums, room, s.timers, s.clock, s.rng, s.kept,
         s.unit,
     );
-    let left = d.timers;
     let rounded = d.rounded;
     let clock = d.clock;
-    let g = d.rng;
-    let due = d.due;
     let fresh = d.kept;
-    match due {
-        Due::Full => {
-            let now = Now {
-                clock: clock,
-                timers: left,
-                next: s.next,
-                tokens: s.tokens,
-                peak: s.peak,
-                rng: g,
+    match d.due {
+        Due::Full => Stepped {
+            now: Now {
+                clock,
+                timers: d.timers,
+                rng: d.rng,
                 kept: fresh,
-                unit: s.unit,
-            };
-            Stepped {
-                now: now,
-                rounded: rounded,
-                ending: Ending::Refused(Refusal::TooManyTimers),
-            }
-        }
-        Due::Nothing => {
-            let now = Now {
-                clock: clock,
-                timers: left,
-                next: s.next,
-                tokens: s.tokens,
-                peak: s.peak,
-                rng: g,
+                ..s
+            },
+            rounded,
+            ending: Ending::Refused(Refusal::TooManyTimers),
+        },
+        Due::Nothing => Stepped {
+            now: Now {
+                clock,
+                timers: d.timers,
+                rng: d.rng,
                 kept: fresh,
-                unit: s.unit,
-            };
-            Stepped {
-                now: now,
-                rounded: rounded,
-                ending: Ending::Quiet,
-            }
-        }
+                ..s
+            },
+            rounded,
+            ending: Ending::Quiet,
+        },
         Due::Event => {
-            let next = shown::show(instants, table, counts, places, clock, s.next);
+            let next = shown::show(instants, table, counts, net.places, clock, s.next);
             if last < clock {
-                let now = Now {
-                    clock: clock,
-                    timers: left,
-                    next: next,
-                    tokens: s.tokens,
-                    peak: s.peak,
-                    rng: g,
-                    kept: fresh,
-                    unit: s.unit,
-                };
                 return Stepped {
-                    now: now,
-                    rounded: rounded,
+                    now: Now {
+                        clock,
+                        timers: d.timers,
+                        next,
+                        rng: d.rng,
+                        kept: fresh,
+                        ..s
+                    },
+                    rounded,
                     ending: Ending::Reached,
                 };
             }
-            let unit = jump::unit_wait(firing::after_event(g, d.completes));
+            let unit = jump::unit_wait(firing::after_event(d.rng, d.completes));
             let e = firing::happen(
-                places,
-                transitions,
-                initial,
-                capacity,
-                rate,
-                delay,
-                arcs,
-                kind,
-                place,
-                weight,
-                limit,
-                guards,
+                net,
+                &tables.limit,
+                &tables.guards,
                 counts,
                 ats,
                 owners,
                 props,
                 sums,
-                left,
+                d.timers,
                 clock,
                 fresh.a0,
-                g,
+                d.rng,
                 s.tokens,
                 d.completes,
             );
-            let h = e.rng;
-            let after = e.timers;
-            let later = Keeping {
-                moved: e.moved,
-                crossed: e.crossed,
-                able: fresh.able,
-                marks: fresh.marks,
-                a0: fresh.a0,
-            };
-            let now = Now {
-                clock: clock,
-                timers: after,
-                next: next,
-                tokens: e.tokens,
-                peak: higher(s.peak, e.tokens),
-                rng: h,
-                kept: later,
-                unit: unit,
-            };
-            if e.fits {
-                return Stepped {
-                    now: now,
-                    rounded: rounded,
+            match e.change {
+                Some(x) => Stepped {
+                    now: Now {
+                        clock,
+                        timers: e.timers,
+                        next,
+                        tokens: x.tokens,
+                        peak: higher(s.peak, x.tokens),
+                        rng: e.rng,
+                        kept: Keeping {
+                            moved: x.moved,
+                            crossed: x.crossed,
+                            ..fresh
+                        },
+                        unit,
+                    },
+                    rounded,
                     ending: Ending::GoesOn,
-                };
-            }
-            Stepped {
-                now: now,
-                rounded: rounded,
-                ending: Ending::Refused(Refusal::CountTooLarge),
+                },
+                None => Stepped {
+                    now: Now {
+                        clock,
+                        timers: e.timers,
+                        next,
+                        rng: e.rng,
+                        kept: fresh,
+                        ..s
+                    },
+                    rounded,
+                    ending: Ending::Refused(Refusal::CountTooLarge),
+                },
             }
         }
     }

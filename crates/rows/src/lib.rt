@@ -7,7 +7,6 @@ ghost use Rattle.rows.specs.Row as Row;
 
 use refusals::Refusal;
 
-
 // Which of the two lent tables.
 #[derive(Clone, Copy)]
 pub enum Table {

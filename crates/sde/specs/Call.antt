@@ -1,6 +1,7 @@
 -- The diffusion call: paths from consecutive seeds, their means and deviations, and what it leaves in its three tables. Document 01, "Ensemble", "001" and
 -- "Each operation's turn-downs: Ensemble, diffusion".
 use Rattle.std.specs.Prelude.{ℕ, ◌*◌, Bool, true, false, not, List, ◌++◌, eqb, length, drop, Float}
+use Rattle.refusals.specs.Number.{number_of}
 use Rattle.std.proofs.Math.Option.{Option, none, some}
 use Rattle.net.specs.declared.Net.{Net as NetRecord}
 use Rattle.net.specs.Net.{Net}
@@ -64,8 +65,8 @@ called n q t =
 abbrev pub outcome_of : DiffusionAnswer → Outcome
 outcome_of (Averaged deviates) = averaged deviates
 outcome_of (Gated g) = gated_by (gates_of g)
-outcome_of (TurnedDown c) = turned_down c
-outcome_of (Stopped c k) = stopped c k
+outcome_of (TurnedDown c) = turned_down (number_of c)
+outcome_of (Stopped c k) = stopped (number_of c) k
 
 abbrev pub call_of : DiffusionAnswer → List Float → List Float → List Float → Call
 call_of r mean deviation path = record { outcome = outcome_of r; tables = record { mean = mean; deviation = deviation; path = path } }

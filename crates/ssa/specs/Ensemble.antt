@@ -1,6 +1,7 @@
 -- The ensemble call: paths from consecutive seeds over a grid of instants, their means and deviations, and what it leaves in its three tables.
 -- Document 01, "Ensemble", "Added" and "Each operation's turn-downs: Ensemble, diffusion".
 use Rattle.std.specs.Prelude.{ℕ, ◌+◌, ◌*◌, Bool, not, List, [], ◌∷◌, map, eqb, length, Float}
+use Rattle.refusals.specs.Number.{number_of}
 use Rattle.std.proofs.Math.Option.{Option, none, some}
 use Rattle.net.specs.declared.Net.{Net as NetRecord}
 use Rattle.net.specs.Net.{Net, Marking}
@@ -77,8 +78,8 @@ called n q t = unless_fault (call_fault n q t) t (tabulated n.places q.samples t
 -- what the program's answer and tables say
 abbrev pub outcome_of : EnsembleAnswer → Outcome
 outcome_of (Averaged k deviates) = averaged k deviates
-outcome_of (TurnedDown c) = turned_down c
-outcome_of (Stopped c k) = stopped c k
+outcome_of (TurnedDown c) = turned_down (number_of c)
+outcome_of (Stopped c k) = stopped (number_of c) k
 
 abbrev pub call_of : EnsembleAnswer → List Float → List Float → List Float → Call
 call_of r mean deviation path = record { outcome = outcome_of r; tables = record { mean = mean; deviation = deviation; path = path } }

@@ -1,5 +1,7 @@
 -- What the loop over an ensemble's paths leaves, in the words of Ensemble. Nothing here adds to the rules.
 use Rattle.std.specs.Prelude.{ℕ, ◌+◌, ◌*◌, ◌^◌, ◌≤◌, ◌<◌, ◌≡◌, true, List, map, length, get_or, drop, Float}
+use Rattle.refusals.specs.Number.{number_of}
+use Rattle.refusals.specs.declared.Refusal.{Refusal as RefusalEnum}
 use Rattle.net.specs.declared.Net.{Net as NetRecord}
 use Rattle.net.specs.Net.{Net, zero64}
 use Rattle.rng.specs.Splitmix.{seeded}
@@ -41,7 +43,7 @@ one_by_spent (Refused c) = 0
 
 -- the path w: refused, with its cells cleared and the sums as they were; or shown, and added to the sums, with s spent paths from then on
 pub data TurnBy (w : Answer Path) (places n spent : ℕ) (mean mean' deviation deviation' path path' : List Float) : Turn → Type 0 where
-  stops : (c : ℕ) → w ≡ refused c → mean' ≡ mean → deviation' ≡ deviation → path' ≡ cleared (places * n) path
+  stops : (c : RefusalEnum) → w ≡ refused (number_of c) → mean' ≡ mean → deviation' ≡ deviation → path' ≡ cleared (places * n) path
       → TurnBy w places n spent mean mean' deviation deviation' path path' (Turn.Stopped c)
   goes : (a : Path) (s : ℕ) → w ≡ given a → s ≡ spent + one_if_spent a.end → mean' ≡ with_front plus (places * n) path' mean
       → deviation' ≡ with_front plus_square (places * n) path' deviation → path' ≡ table_of places a.shown path
@@ -60,7 +62,7 @@ pub record Sums (places n : ℕ) (ps : List Path) (mean mean' deviation deviatio
 
 -- all r paths: one was refused, and only the answer's cells differ; or these were added
 pub data SummedBy (whole : Members Path) (places n r : ℕ) (mean mean' deviation deviation' path path' : List Float) : Summed → Type 0 where
-  stops : (c k : ℕ) → whole ≡ refused_at c k → drop (places * n) mean' ≡ drop (places * n) mean → drop (places * n) deviation' ≡ drop (places * n) deviation
+  stops : (c : RefusalEnum) (k : ℕ) → whole ≡ refused_at (number_of c) k → drop (places * n) mean' ≡ drop (places * n) mean → drop (places * n) deviation' ≡ drop (places * n) deviation
       → path' ≡ cleared (places * n) path → SummedBy whole places n r mean mean' deviation deviation' path path' (Summed.Stopped c k)
   done : (ps : List Path) (s : ℕ) → whole ≡ members ps → length ps ≡ r → s ≡ spent_of ps → Sums places n ps mean mean' deviation deviation' path path'
       → SummedBy whole places n r mean mean' deviation deviation' path path' (Summed.Done s)

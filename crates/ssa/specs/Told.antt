@@ -1,5 +1,6 @@
 -- What a path call answers of a run that its loop has played. Document 01, "000"; document 02, order 8.
 use Rattle.std.specs.Prelude.{ℕ, List, Float}
+use Rattle.refusals.specs.Number.{number_of}
 use Rattle.rng.specs.State.{State as Generator, words}
 use Rattle.playing.specs.Ends.{end_of}
 use Rattle.playing.specs.declared.PathEnd.{PathEnd}
@@ -34,4 +35,4 @@ answer_of w n g table Quiet = told_of w n table Quiet
 answer_of w n g table Spent = told_of w n table Spent
 answer_of w n g table Reached = told_of w n table Reached
 answer_of w n g table Halted = told_of w n table Halted
-answer_of w n g table (Refused c) = turned_down c g table
+answer_of w n g table (Refused c) = turned_down (number_of c) g table

@@ -4,16 +4,19 @@ ghost use Rattle.std.proofs.Math.Option.{none};
 ghost use Rattle.std.specs.Float.{binary64};
 ghost use Rattle.std.specs.Float.Ieee.{of_bits, le};
 ghost use Rattle.net.specs.Readable as Record;
-ghost use Rattle.net.specs.Record.{lent, labelled};
+ghost use Rattle.net.specs.Record.{lent, net_of};
 ghost use Rattle.net.specs.declared.Net.{Net as NetRecord};
 ghost use Rattle.rng.specs.State as Random;
 ghost use Rattle.rules.specs.Shown as Shown;
 ghost use Rattle.engine.specs.Engine as Engine;
 ghost use Rattle.ssa.specs.Path as Path;
+ghost use Rattle.refusals.specs.Number.{number_of};
 
 use crate::{PathAnswer, start};
-use engine::slots;
+use engine::slots::{self, Slots};
+use net::LentNet;
 use playing::{PathEnd, tables};
+use refusals::Refusal;
 use rng::Xoshiro256;
 
 // The bounds of document 01, "Path".
@@ -69,8 +72,8 @@ pub fn limit_fits(limit: u64) -> bool
 }
 
 // The answer of a call that is turned down by c.
-pub fn turned_down(c: u64, generator: Xoshiro256) -> PathAnswer
-    ensures { (table : List Float) → Path.call_of result table ≡ Path.turned_down c (Random.words generator.s) table }
+pub fn turned_down(c: Refusal, generator: Xoshiro256) -> PathAnswer
+    ensures { (table : List Float) → Path.call_of result table ≡ Path.turned_down (number_of c) (Random.words generator.s) table }
 {
     PathAnswer {
         end: PathEnd::Refused(c),
@@ -83,132 +86,39 @@ pub fn turned_down(c: u64, generator: Xoshiro256) -> PathAnswer
 }
 
 // A path of the tidy net whose fields are lent: the tables that a call makes once, and the run.
-fn lent_path<'a>(
-    places: usize,
-    transitions: usize,
-    initial: &'a [u64; 32],
-    capacity: &'a [u64; 32],
-    rate: &'a [f64; 64],
-    delay: &'a [f64; 64],
-    arcs: &'a [usize; 64],
-    kind: &'a [u64; 1024],
-    place: &'a [usize; 1024],
-    weight: &'a [u64; 1024],
+fn lent_path(
+    net: &LentNet,
     instants: &[f64],
     steps: u64,
     generator: Xoshiro256,
     table: &mut [f64],
 ) -> PathAnswer
-    requires { let net = lent places transitions initial.now capacity.now rate.now delay.now arcs.now kind.now place.now weight.now in Engine.Tidy net × ((p : ℕ) → p < places → get_or initial.now p 0 ≤ 2 ^ 53) × (Shown.instants_fit instants.now ≡ true)
-        × (places * length instants.now ≤ length table.old) }
-    ensures { let net = lent places transitions initial.now capacity.now rate.now delay.now arcs.now kind.now place.now weight.now in Path.call_of result table.new ≡ Path.played places (length instants.now) (Random.words generator.s)
+    requires { let net = net_of net.now in Engine.Tidy net × ((p : ℕ) → p < net.places → get_or net.initial p 0 ≤ 2 ^ 53) × (Shown.instants_fit instants.now ≡ true)
+        × (net.places * length instants.now ≤ length table.old) }
+    ensures { let net = net_of net.now in Path.call_of result table.new ≡ Path.played net.places (length instants.now) (Random.words generator.s)
         table.old (Shown.worked (Record.readable net) (Random.words generator.s) instants.now steps) }
 {
-    let mut limit = [0u64; 1024];
-    let mut rates = [0.0; 64];
-    let mut ends = [0usize; 64];
-    let mut guards = [0u64; 160];
-    let kinds = tables::fill_tables(
-        places,
-        transitions,
-        initial,
-        capacity,
-        rate,
-        delay,
-        arcs,
-        kind,
-        place,
-        weight,
-        &mut limit,
-        &mut rates,
-        &mut ends,
-        &mut guards,
-    );
-    let mut counts = slots::first_counts(places, initial);
-    start::play(
-        places,
-        transitions,
-        initial,
-        capacity,
-        rate,
-        delay,
-        arcs,
-        kind,
-        place,
-        weight,
-        &limit,
-        &rates,
-        &ends,
-        &guards,
-        kinds.timed,
-        kinds.heavy,
-        &mut counts,
-        instants,
-        steps,
-        generator,
-        table,
-    )
+    let mut tables = kept::tables::empty();
+    tables::fill_tables(net, &mut tables);
+    let mut counts = slots::first_counts(net.places, net.initial);
+    start::play(net, &tables, &mut counts, instants, steps, generator, table)
 }
 
 // The path of a call that no test turns down, over the net whose fields are lent. Of these only the slots in use are copied.
-pub fn accepted_path<'a>(
-    places: usize,
-    transitions: usize,
-    initial: &'a [u64; 32],
-    capacity: &'a [u64; 32],
-    label: &'a [u8; 512],
-    lengths: &'a [usize; 32],
-    rate: &'a [f64; 64],
-    delay: &'a [f64; 64],
-    arcs: &'a [usize; 64],
-    kind: &'a [u64; 1024],
-    place: &'a [usize; 1024],
-    weight: &'a [u64; 1024],
+pub fn accepted_path(
+    net: &LentNet,
     generator: Xoshiro256,
     instants: &[f64],
     limit: u64,
     table: &mut [f64],
 ) -> PathAnswer
-    requires { let net = labelled places transitions initial.now capacity.now label.now lengths.now rate.now delay.now arcs.now kind.now place.now weight.now in (Record.fault net ≡ none) × (Shown.instants_fit instants.now ≡ true) × (places * length instants.now ≤ length table.old) }
-    ensures { let net = labelled places transitions initial.now capacity.now label.now lengths.now rate.now delay.now arcs.now kind.now place.now weight.now in Path.call_of result table.new ≡ Path.played places (length instants.now) (Random.words generator.s) table.old
+    requires { let net = net_of net.now in (Record.fault net ≡ none) × (Shown.instants_fit instants.now ≡ true) × (net.places * length instants.now ≤ length table.old) }
+    ensures { let net = net_of net.now in Path.call_of result table.new ≡ Path.played net.places (length instants.now) (Random.words generator.s) table.old
         (Shown.worked (Record.readable net) (Random.words generator.s) instants.now limit) }
 {
-    let mut count = [0usize; 64];
-    let mut kinds = [0u64; 1024];
-    let mut at = [0usize; 1024];
-    let mut weights = [0u64; 1024];
-    slots::tidy(
-        places,
-        transitions,
-        initial,
-        capacity,
-        label,
-        lengths,
-        rate,
-        delay,
-        arcs,
-        kind,
-        place,
-        weight,
-        &mut count,
-        &mut kinds,
-        &mut at,
-        &mut weights,
-    );
-    lent_path(
-        places,
-        transitions,
-        initial,
-        capacity,
-        rate,
-        delay,
-        &count,
-        &kinds,
-        &at,
-        &weights,
-        instants,
-        limit,
-        generator,
-        table,
-    )
+    let mut slots = Slots::blank();
+    slots.fill(net);
+    // Lent anew, for no longer than the slots.
+    let fields = *net;
+    lent_path(&slots.of(&fields), instants, limit, generator, table)
 }

@@ -3,7 +3,7 @@ ghost use Rattle.std.specs.Prelude.{◌≡◌, not, ℕ, ◌*◌, ◌^◌, ◌<�
 ghost use Rattle.std.proofs.Math.Option.{none};
 ghost use Rattle.net.specs.Net.{pick};
 ghost use Rattle.net.specs.Readable as Record;
-ghost use Rattle.net.specs.Record.{lent};
+ghost use Rattle.net.specs.Record.{lent, net_of};
 ghost use Rattle.net.specs.declared.Net.{Net as NetRecord};
 ghost use Rattle.rules.specs.Propensity.{float};
 ghost use Rattle.averages.specs.Front as Front;
@@ -19,7 +19,8 @@ use crate::members::Summed;
 use crate::{EnsembleAnswer, members};
 use averages::{moments, request};
 use engine::slots;
-use net::Net;
+use kept::tables::Tables;
+use net::{LentNet, Net};
 use playing::{shown, tables};
 
 // The step limit of an ensemble's paths.
@@ -44,23 +45,9 @@ fn finish(cells: usize, realizations: u64, mean: &mut [f64], deviation: &mut [f6
 
 // The paths of the tidy net whose fields are lent, at instants that fit, and what is made of their sums. A refused path leaves +0 in the answer's
 // cells of the path table; the others are cleared here.
-fn averaged<'a>(
-    places: usize,
-    transitions: usize,
-    initial: &'a [u64; 32],
-    capacity: &'a [u64; 32],
-    rate: &'a [f64; 64],
-    delay: &'a [f64; 64],
-    arcs: &'a [usize; 64],
-    kind: &'a [u64; 1024],
-    place: &'a [usize; 1024],
-    weight: &'a [u64; 1024],
-    limit: &'a [u64; 1024],
-    rates: &'a [f64; 64],
-    ends: &'a [usize; 64],
-    guards: &'a [u64; 160],
-    timed: u64,
-    heavy: u64,
+fn averaged(
+    net: &LentNet,
+    tables: &Tables,
     instants: &[f64],
     steps: u64,
     seed: u64,
@@ -69,33 +56,19 @@ fn averaged<'a>(
     deviation: &mut [f64],
     path: &mut [f64],
 ) -> EnsembleAnswer
-    requires { let net = lent places transitions initial.now capacity.now rate.now delay.now arcs.now kind.now place.now weight.now in Summing.Lent net limit.now rates.now ends.now guards.now timed heavy instants.now × (realizations ≤ 65_535) × (places * length instants.now ≤ length mean.old)
-        × (places * length instants.now ≤ length deviation.old) × (places * length instants.now ≤ length path.old) }
-    ensures { let net = lent places transitions initial.now capacity.now rate.now delay.now arcs.now kind.now place.now weight.now in Ensemble.call_of result mean.new deviation.new path.new
-        ≡ Ensemble.tabulated places (length instants.now)
+    requires { let net = net_of net.now in Summing.Lent net tables.now.limit tables.now.rates tables.now.ends tables.now.guards tables.now.timed tables.now.heavy instants.now × (realizations ≤ 65_535) × (net.places * length instants.now ≤ length mean.old)
+        × (net.places * length instants.now ≤ length deviation.old) × (net.places * length instants.now ≤ length path.old) }
+    ensures { let net = net_of net.now in Ensemble.call_of result mean.new deviation.new path.new
+        ≡ Ensemble.tabulated net.places (length instants.now)
         (record { mean = mean.old; deviation = deviation.old; path = path.old })
         (Summing.paths_from (Summing.drawn (Record.readable net) seed instants.now steps) 0 realizations) }
 {
-    let cells = places * instants.len();
+    let cells = net.places * instants.len();
     shown::clear(mean, cells);
     shown::clear(deviation, cells);
     let s = members::sum_paths(
-        places,
-        transitions,
-        initial,
-        capacity,
-        rate,
-        delay,
-        arcs,
-        kind,
-        place,
-        weight,
-        limit,
-        rates,
-        ends,
-        guards,
-        timed,
-        heavy,
+        net,
+        tables,
         instants,
         steps,
         seed,
@@ -118,17 +91,8 @@ fn averaged<'a>(
 }
 
 // The ensemble over the tidy net whose fields are lent: the tables that a call makes once, then its paths.
-fn lent_ensemble<'a>(
-    places: usize,
-    transitions: usize,
-    initial: &'a [u64; 32],
-    capacity: &'a [u64; 32],
-    rate: &'a [f64; 64],
-    delay: &'a [f64; 64],
-    arcs: &'a [usize; 64],
-    kind: &'a [u64; 1024],
-    place: &'a [usize; 1024],
-    weight: &'a [u64; 1024],
+fn lent_ensemble(
+    net: &LentNet,
     samples: u64,
     realizations: u64,
     seed: u64,
@@ -137,54 +101,22 @@ fn lent_ensemble<'a>(
     deviation: &mut [f64],
     path: &mut [f64],
 ) -> EnsembleAnswer
-    requires { let net = lent places transitions initial.now capacity.now rate.now delay.now arcs.now kind.now place.now weight.now in Engine.Tidy net × ((p : ℕ) → p < places → get_or initial.now p 0 ≤ 2 ^ 53)
+    requires { let net = net_of net.now in Engine.Tidy net × ((p : ℕ) → p < net.places → get_or net.initial p 0 ≤ 2 ^ 53)
         × (Request.request_fault (record { samples = samples; realizations = realizations; seed = seed; horizon = horizon }) ≡ none)
-        × (places * samples ≤ length mean.old) × (places * samples ≤ length deviation.old) × (places * samples ≤ length path.old) }
-    ensures { let net = lent places transitions initial.now capacity.now rate.now delay.now arcs.now kind.now place.now weight.now in Ensemble.call_of result mean.new deviation.new path.new
-        ≡ Ensemble.tabulated places samples (record { mean = mean.old; deviation = deviation.old; path = path.old })
+        × (net.places * samples ≤ length mean.old) × (net.places * samples ≤ length deviation.old) × (net.places * samples ≤ length path.old) }
+    ensures { let net = net_of net.now in Ensemble.call_of result mean.new deviation.new path.new
+        ≡ Ensemble.tabulated net.places samples (record { mean = mean.old; deviation = deviation.old; path = path.old })
         (Ensemble.members_from (Record.readable net) (record { samples = samples; realizations = realizations; seed = seed; horizon = horizon }) 0 realizations) }
 {
-    let mut limit = [0u64; 1024];
-    let mut rates = [0.0; 64];
-    let mut ends = [0usize; 64];
-    let mut guards = [0u64; 160];
-    let kinds = tables::fill_tables(
-        places,
-        transitions,
-        initial,
-        capacity,
-        rate,
-        delay,
-        arcs,
-        kind,
-        place,
-        weight,
-        &mut limit,
-        &mut rates,
-        &mut ends,
-        &mut guards,
-    );
+    let mut tables = kept::tables::empty();
+    tables::fill_tables(net, &mut tables);
     let mut grid = [0.0; 1024];
     let few = samples as u32;
     request::fill_grid(few, request::interval(few, horizon), &mut grid);
     let n = samples as usize;
     averaged(
-        places,
-        transitions,
-        initial,
-        capacity,
-        rate,
-        delay,
-        arcs,
-        kind,
-        place,
-        weight,
-        &limit,
-        &rates,
-        &ends,
-        &guards,
-        kinds.timed,
-        kinds.heavy,
+        net,
+        &tables,
         &grid[..n],
         MOST_STEPS,
         seed,
@@ -214,16 +146,7 @@ pub fn accepted(
 {
     let n = slots::tidied(net);
     lent_ensemble(
-        n.places,
-        n.transitions,
-        &n.initial,
-        &n.capacity,
-        &n.rate,
-        &n.delay,
-        &n.arcs,
-        &n.kind,
-        &n.place,
-        &n.weight,
+        &n.lent(),
         samples,
         realizations,
         seed,

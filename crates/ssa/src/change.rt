@@ -3,7 +3,7 @@ ghost use Rattle.std.specs.Prelude.{◌≡◌, false, not, List, ℕ, ◌*◌, �
 ghost use Rattle.std.proofs.Math.Option.{none};
 ghost use Rattle.net.specs.Net as Net;
 ghost use Rattle.net.specs.Readable as Record;
-ghost use Rattle.net.specs.Record.{labelled};
+ghost use Rattle.net.specs.Record.{net_of};
 ghost use Rattle.net.specs.Tests as Tests;
 ghost use Rattle.net.specs.declared.Net.{Net as NetRecord};
 ghost use Rattle.rng.specs.State as Random;
@@ -25,11 +25,12 @@ use crate::{Halted, Onward, accept, until};
 use carried::{records, renaming, state};
 use engine::slots;
 use index::marks;
+use net::LentNet;
 use playing::run::Standing;
 use playing::{PathEnd, begin};
+use refusals::Refusal;
 use timers::queue;
 use timers::queue::Queue;
-use refusals::Refusal;
 
 // The first of 4, 12, 13, 11 and, for the recorded cells, 4 that a carried path meets, over a net of so many places. No test looks at its generator, its peak or
 // the transitions of its timers; what is looked at is lent, since the path itself is 7 KB.
@@ -85,40 +86,13 @@ pub fn state_fault<'a>(
 }
 
 // Are the timers listed, and sent to delayed transitions of the accepted net whose fields are lent?
-fn timers_fit<'a>(
-    places: usize,
-    transitions: usize,
-    initial: &'a [u64; 32],
-    capacity: &'a [u64; 32],
-    label: &'a [u8; 512],
-    lengths: &'a [usize; 32],
-    rate: &'a [f64; 64],
-    delay: &'a [f64; 64],
-    arcs: &'a [usize; 64],
-    kind: &'a [u64; 1024],
-    place: &'a [usize; 1024],
-    weight: &'a [u64; 1024],
-    names: &'a [u64; 64],
-    whos: &'a [usize; 256],
-    n: usize,
-) -> bool
-    requires { let net = labelled places transitions initial.now capacity.now label.now lengths.now rate.now delay.now arcs.now kind.now place.now weight.now in (Record.fault net ≡ none) × (n ≤ 256) }
-    ensures { let net = labelled places transitions initial.now capacity.now label.now lengths.now rate.now delay.now arcs.now kind.now place.now weight.now in (old : Net.Net) (ps : List Change.Pair) (ats : List Float) (takens : List ℕ) → length old.transitions ≤ 64
+fn timers_fit<'a>(net: &LentNet, names: &'a [u64; 64], whos: &'a [usize; 256], n: usize) -> bool
+    requires { let net = net_of net.now in (Record.fault net ≡ none) × (n ≤ 256) }
+    ensures { let net = net_of net.now in (old : Net.Net) (ps : List Change.Pair) (ats : List Float) (takens : List ℕ) → length old.transitions ≤ 64
         → Change.list_strange old (Record.readable net) ps ≡ false → Pairs.Names ps names.now
         → result ≡ not (Tests.any (λ (x : Timer). Change.sent_wrong (Record.readable net) (Change.new_number ps x.who)) (Timers.timers_in ats whos.now takens n)) }
 {
-    let delayed = marks::timed_word(
-        places,
-        transitions,
-        initial,
-        capacity,
-        rate,
-        delay,
-        arcs,
-        kind,
-        place,
-        weight,
-    );
+    let delayed = marks::timed_word(net);
     renaming::timers_fit(whos, n, names, delayed)
 }
 
@@ -127,51 +101,24 @@ fn timers_fit<'a>(
 pub fn list_fault<'a>(
     old_places: usize,
     old_transitions: usize,
-    places: usize,
-    transitions: usize,
-    initial: &'a [u64; 32],
-    capacity: &'a [u64; 32],
-    label: &'a [u8; 512],
-    lengths: &'a [usize; 32],
-    rate: &'a [f64; 64],
-    delay: &'a [f64; 64],
-    arcs: &'a [usize; 64],
-    kind: &'a [u64; 1024],
-    place: &'a [usize; 1024],
-    weight: &'a [u64; 1024],
+    net: &LentNet,
     pairs: &[u64],
     whos: &'a [usize; 256],
     len: usize,
 ) -> Result<(), Refusal>
-    requires { let net = labelled places transitions initial.now capacity.now label.now lengths.now rate.now delay.now arcs.now kind.now place.now weight.now in (Record.fault net ≡ none) × (old_transitions ≤ 64) × (len ≤ 256) }
-    ensures { let net = labelled places transitions initial.now capacity.now label.now lengths.now rate.now delay.now arcs.now kind.now place.now weight.now in (old : Net.Net) (path : Rule.Carried) (ats : List Float) (takens : List ℕ) → length old.places ≡ old_places
+    requires { let net = net_of net.now in (Record.fault net ≡ none) × (old_transitions ≤ 64) × (len ≤ 256) }
+    ensures { let net = net_of net.now in (old : Net.Net) (path : Rule.Carried) (ats : List Float) (takens : List ℕ) → length old.places ≡ old_places
         → length old.transitions ≡ old_transitions → path.now.timers ≡ Timers.timers_in ats whos.now takens len
         → Record.meaning result ≡ Tests.first_of (Change.renaming_tests old (Record.readable net) path (pairs_of pairs.now)) }
 {
-    if old_places != places {
+    if old_places != net.places {
         return Err(Refusal::UnequalPlaces);
     }
-    if !renaming::list_fits(pairs, old_transitions, transitions) {
+    if !renaming::list_fits(pairs, old_transitions, net.transitions) {
         return Err(Refusal::BadRenaming);
     }
     let names = renaming::names_of(pairs);
-    if timers_fit(
-        places,
-        transitions,
-        initial,
-        capacity,
-        label,
-        lengths,
-        rate,
-        delay,
-        arcs,
-        kind,
-        place,
-        weight,
-        &names,
-        whos,
-        len,
-    ) {
+    if timers_fit(net, &names, whos, len) {
         return Ok(());
     }
     Err(Refusal::BadTimer)
@@ -192,30 +139,19 @@ fn taken(takens: &[u64; 256], n: usize) -> u64
 }
 
 // The path of a carrying call that no test turns down, over the new net, whose fields are lent.
-pub fn accepted_carry<'a>(
-    places: usize,
-    transitions: usize,
-    initial: &'a [u64; 32],
-    capacity: &'a [u64; 32],
-    label: &'a [u8; 512],
-    lengths: &'a [usize; 32],
-    rate: &'a [f64; 64],
-    delay: &'a [f64; 64],
-    arcs: &'a [usize; 64],
-    kind: &'a [u64; 1024],
-    place: &'a [usize; 1024],
-    weight: &'a [u64; 1024],
+pub fn accepted_carry(
+    net: &LentNet,
     pairs: &[u64],
     path: Halted,
     instants: &[f64],
     named: u64,
     table: &mut [f64],
 ) -> Onward
-    requires { let net = labelled places transitions initial.now capacity.now label.now lengths.now rate.now delay.now arcs.now kind.now place.now weight.now in (Record.fault net ≡ none)
-        × Spec.Passes places (Record.readable net) (pairs_of pairs.now) path instants.now table.old }
-    ensures { let net = labelled places transitions initial.now capacity.now label.now lengths.now rate.now delay.now arcs.now kind.now place.now weight.now in Spec.call_of places result table.new ≡ Spec.played places (length instants.now) path.recorded (Spec.standing_of places path)
+    requires { let net = net_of net.now in (Record.fault net ≡ none)
+        × Spec.Passes net.places (Record.readable net) (pairs_of pairs.now) path instants.now table.old }
+    ensures { let net = net_of net.now in Spec.call_of net.places result table.new ≡ Spec.played net.places (length instants.now) path.recorded (Spec.standing_of net.places path)
         table.old (Rule.play_on 256 (Record.readable net) (Change.renamed (pairs_of pairs.now)
-        (Spec.carried_from places (Spec.standing_of places path) instants.now table.old)) named) }
+        (Spec.carried_from net.places (Spec.standing_of net.places path) instants.now table.old)) named) }
 {
     let names = renaming::names_of(pairs);
     let q = path.timers;
@@ -228,30 +164,19 @@ pub fn accepted_carry<'a>(
     let mut ats = [0.0; 256];
     let mut owners = [0u64; 512];
     let ring = queue::hand_in(&mut ats, &mut owners, renamed);
-    let mut counts = slots::first_counts(places, &path.counts);
+    let mut counts = slots::first_counts(net.places, &path.counts);
     let rng = path.generator;
     let s = Standing {
         clock: path.clock,
         timers: ring,
         next: path.recorded,
-        tokens: begin::sum(&counts, places) + taken(&q.takens, q.len),
+        tokens: begin::sum(&counts, net.places) + taken(&q.takens, q.len),
         peak: path.peak,
         rng: rng,
     };
     let left = path.limit - path.steps;
     let w = until::resume(
-        places,
-        transitions,
-        initial,
-        capacity,
-        label,
-        lengths,
-        rate,
-        delay,
-        arcs,
-        kind,
-        place,
-        weight,
+        net,
         &mut counts,
         &mut ats,
         &mut owners,

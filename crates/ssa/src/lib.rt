@@ -9,7 +9,7 @@ mod start;
 mod until;
 
 ghost use Rattle.std.specs.Prelude.{◌≡◌};
-ghost use Rattle.net.specs.Record.{labelled};
+ghost use Rattle.net.specs.Record.{labelled, net_of};
 ghost use Rattle.rng.specs.State as Random;
 ghost use Rattle.ssa.specs.Ensemble as Ensemble;
 ghost use Rattle.carried.specs.Pairs.{pairs_of};
@@ -17,11 +17,11 @@ ghost use Rattle.ssa.specs.Halted as Halting;
 ghost use Rattle.ssa.specs.Path as Path;
 
 use averages::request;
-use net::Net;
+use net::{LentNet, Net};
 pub use playing::PathEnd;
+use refusals::Refusal;
 use rng::Xoshiro256;
 use timers::queue::Queue;
-use refusals::Refusal;
 
 // The end of a path, its steps, how many instants are settled, the peak, how many steps have an a0 that adds a rounded propensity, and the generator after
 // it; of a path that is turned down the number, four times 0, and the generator as it came.
@@ -63,50 +63,24 @@ pub struct Onward {
 #[derive(Clone, Copy)]
 pub enum EnsembleAnswer {
     Averaged(u64, bool),
-    TurnedDown(u64),
-    Stopped(u64, u64),
+    TurnedDown(Refusal),
+    Stopped(Refusal, u64),
 }
 
 // A path of the net whose fields are lent, from the generator's state: place p at instant i is cell p * n + i of the table, n instants. The end, the steps,
 // how many instants are settled, the peak, how many steps add a rounded propensity and the generator after it are the answer. A net, instants, a limit or a
 // table that does not fit is turned down with nothing touched; a run in which a count would pass 2^53 or a 257th timer would start leaves +0 in the answer's
 // cells. A caller that holds the fields already is spared the copy that `path` takes.
-pub fn fields_path<'a>(
-    places: usize,
-    transitions: usize,
-    initial: &'a [u64; 32],
-    capacity: &'a [u64; 32],
-    label: &'a [u8; 512],
-    lengths: &'a [usize; 32],
-    rate: &'a [f64; 64],
-    delay: &'a [f64; 64],
-    arcs: &'a [usize; 64],
-    kind: &'a [u64; 1024],
-    place: &'a [usize; 1024],
-    weight: &'a [u64; 1024],
+pub fn fields_path(
+    net: &LentNet,
     generator: Xoshiro256,
     instants: &[f64],
     limit: u64,
     table: &mut [f64],
 ) -> PathAnswer
-    ensures { Path.call_of result table.new ≡ Path.called (labelled places transitions initial.now capacity.now
-        label.now lengths.now rate.now delay.now arcs.now
-        kind.now place.now weight.now) (Random.words generator.s) instants.now limit table.old }
+    ensures { Path.call_of result table.new ≡ Path.called (net_of net.now) (Random.words generator.s) instants.now limit table.old }
 {
-    if let Err(c) = net::fields_fault(
-        places,
-        transitions,
-        initial,
-        capacity,
-        label,
-        lengths,
-        rate,
-        delay,
-        arcs,
-        kind,
-        place,
-        weight,
-    ) {
+    if let Err(c) = net::fields_fault(net) {
         return accept::turned_down(c, generator);
     }
     if !accept::instants_fit(instants) {
@@ -116,27 +90,10 @@ pub fn fields_path<'a>(
         return accept::turned_down(Refusal::BadLimit, generator);
     }
     let n = instants.len();
-    if table.len() < places * n {
+    if table.len() < net.places * n {
         return accept::turned_down(Refusal::ShortTable, generator);
     }
-    accept::accepted_path(
-        places,
-        transitions,
-        initial,
-        capacity,
-        label,
-        lengths,
-        rate,
-        delay,
-        arcs,
-        kind,
-        place,
-        weight,
-        generator,
-        instants,
-        limit,
-        table,
-    )
+    accept::accepted_path(net, generator, instants, limit, table)
 }
 
 // The same of a net that is given whole.
@@ -149,66 +106,23 @@ pub fn path(
 ) -> PathAnswer
     ensures { Path.call_of result table.new ≡ Path.called net (Random.words generator.s) instants.now limit table.old }
 {
-    fields_path(
-        net.places,
-        net.transitions,
-        &net.initial,
-        &net.capacity,
-        &net.label,
-        &net.lengths,
-        &net.rate,
-        &net.delay,
-        &net.arcs,
-        &net.kind,
-        &net.place,
-        &net.weight,
-        generator,
-        instants,
-        limit,
-        table,
-    )
+    fields_path(&net.lent(), generator, instants, limit, table)
 }
 
 // A path of the net whose fields are lent that names a number of steps: once it has done that many and another would follow, it is halted, with the cells of the
 // instants that it has not recorded left as they were. The end, how many instants are settled and where the path stands are the answer; of a path that is turned
 // down the number, 0, and the state of a path that has not begun. What is turned down, and what is then touched, is as of `path`.
-pub fn fields_path_until<'a>(
-    places: usize,
-    transitions: usize,
-    initial: &'a [u64; 32],
-    capacity: &'a [u64; 32],
-    label: &'a [u8; 512],
-    lengths: &'a [usize; 32],
-    rate: &'a [f64; 64],
-    delay: &'a [f64; 64],
-    arcs: &'a [usize; 64],
-    kind: &'a [u64; 1024],
-    place: &'a [usize; 1024],
-    weight: &'a [u64; 1024],
+pub fn fields_path_until(
+    net: &LentNet,
     generator: Xoshiro256,
     instants: &[f64],
     limit: u64,
     named: u64,
     table: &mut [f64],
 ) -> Onward
-    ensures { Halting.call_of places result table.new ≡ Halting.naming (labelled places transitions initial.now capacity.now
-        label.now lengths.now rate.now delay.now arcs.now
-        kind.now place.now weight.now) (Random.words generator.s) instants.now limit named table.old }
+    ensures { Halting.call_of net.now.places result table.new ≡ Halting.naming (net_of net.now) (Random.words generator.s) instants.now limit named table.old }
 {
-    if let Err(c) = net::fields_fault(
-        places,
-        transitions,
-        initial,
-        capacity,
-        label,
-        lengths,
-        rate,
-        delay,
-        arcs,
-        kind,
-        place,
-        weight,
-    ) {
+    if let Err(c) = net::fields_fault(net) {
         return until::refused(c, generator);
     }
     if !accept::instants_fit(instants) {
@@ -218,28 +132,10 @@ pub fn fields_path_until<'a>(
         return until::refused(Refusal::BadLimit, generator);
     }
     let n = instants.len();
-    if table.len() < places * n {
+    if table.len() < net.places * n {
         return until::refused(Refusal::ShortTable, generator);
     }
-    until::accepted_until(
-        places,
-        transitions,
-        initial,
-        capacity,
-        label,
-        lengths,
-        rate,
-        delay,
-        arcs,
-        kind,
-        place,
-        weight,
-        generator,
-        instants,
-        limit,
-        named,
-        table,
-    )
+    until::accepted_until(net, generator, instants, limit, named, table)
 }
 
 // The same of a net that is given whole.
@@ -253,104 +149,34 @@ pub fn path_until(
 ) -> Onward
     ensures { Halting.call_of net.places result table.new ≡ Halting.naming net (Random.words generator.s) instants.now limit named table.old }
 {
-    fields_path_until(
-        net.places,
-        net.transitions,
-        &net.initial,
-        &net.capacity,
-        &net.label,
-        &net.lengths,
-        &net.rate,
-        &net.delay,
-        &net.arcs,
-        &net.kind,
-        &net.place,
-        &net.weight,
-        generator,
-        instants,
-        limit,
-        named,
-        table,
-    )
+    fields_path_until(&net.lent(), generator, instants, limit, named, table)
 }
 
 // A path that was halted over the old net, carried to the new one by a renaming list, two words a pair, and played on there, for at most so many steps of this
 // call's own. The answer is as of `path_until`. A net, a state, instants, a limit, a table, a recorded cell or a list that does not fit is turned down with the
 // state given back and nothing touched; a run in which a count would pass 2^53 or a 257th timer would start gives the state back as it was carried and leaves
 // +0 in every cell of the answer.
-pub fn fields_carry<'a>(
-    old_places: usize,
-    old_transitions: usize,
-    old_initial: &'a [u64; 32],
-    old_capacity: &'a [u64; 32],
-    old_label: &'a [u8; 512],
-    old_lengths: &'a [usize; 32],
-    old_rate: &'a [f64; 64],
-    old_delay: &'a [f64; 64],
-    old_arcs: &'a [usize; 64],
-    old_kind: &'a [u64; 1024],
-    old_place: &'a [usize; 1024],
-    old_weight: &'a [u64; 1024],
-    places: usize,
-    transitions: usize,
-    initial: &'a [u64; 32],
-    capacity: &'a [u64; 32],
-    label: &'a [u8; 512],
-    lengths: &'a [usize; 32],
-    rate: &'a [f64; 64],
-    delay: &'a [f64; 64],
-    arcs: &'a [usize; 64],
-    kind: &'a [u64; 1024],
-    place: &'a [usize; 1024],
-    weight: &'a [u64; 1024],
+pub fn fields_carry(
+    old: &LentNet,
+    net: &LentNet,
     pairs: &[u64],
     path: Halted,
     instants: &[f64],
     named: u64,
     table: &mut [f64],
 ) -> Onward
-    ensures { Halting.call_of old_places result table.new ≡ Halting.carrying (labelled old_places old_transitions old_initial.now old_capacity.now
-        old_label.now old_lengths.now old_rate.now old_delay.now old_arcs.now
-        old_kind.now old_place.now old_weight.now) (labelled places transitions initial.now capacity.now
-        label.now lengths.now rate.now delay.now arcs.now
-        kind.now place.now weight.now)
-        (pairs_of pairs.now) (Halting.standing_of old_places path) instants.now named table.old }
+    ensures { Halting.call_of old.now.places result table.new ≡ Halting.carrying (net_of old.now) (net_of net.now)
+        (pairs_of pairs.now) (Halting.standing_of old.now.places path) instants.now named table.old }
 {
-    if let Err(c) = net::fields_fault(
-        old_places,
-        old_transitions,
-        old_initial,
-        old_capacity,
-        old_label,
-        old_lengths,
-        old_rate,
-        old_delay,
-        old_arcs,
-        old_kind,
-        old_place,
-        old_weight,
-    ) {
+    if let Err(c) = net::fields_fault(old) {
         return until::turned_down(c, path);
     }
-    if let Err(c) = net::fields_fault(
-        places,
-        transitions,
-        initial,
-        capacity,
-        label,
-        lengths,
-        rate,
-        delay,
-        arcs,
-        kind,
-        place,
-        weight,
-    ) {
+    if let Err(c) = net::fields_fault(net) {
         return until::turned_down(c, path);
     }
     let q = path.timers;
     if let Err(c) = change::state_fault(
-        old_places,
+        old.places,
         path.clock,
         &path.counts,
         path.steps,
@@ -365,46 +191,10 @@ pub fn fields_carry<'a>(
     ) {
         return until::turned_down(c, path);
     }
-    if let Err(c) = change::list_fault(
-        old_places,
-        old_transitions,
-        places,
-        transitions,
-        initial,
-        capacity,
-        label,
-        lengths,
-        rate,
-        delay,
-        arcs,
-        kind,
-        place,
-        weight,
-        pairs,
-        &q.whos,
-        q.len,
-    ) {
+    if let Err(c) = change::list_fault(old.places, old.transitions, net, pairs, &q.whos, q.len) {
         return until::turned_down(c, path);
     }
-    change::accepted_carry(
-        places,
-        transitions,
-        initial,
-        capacity,
-        label,
-        lengths,
-        rate,
-        delay,
-        arcs,
-        kind,
-        place,
-        weight,
-        pairs,
-        path,
-        instants,
-        named,
-        table,
-    )
+    change::accepted_carry(net, pairs, path, instants, named, table)
 }
 
 // The same of nets that are given whole.
@@ -421,30 +211,8 @@ pub fn carry(
         instants.now named table.old }
 {
     fields_carry(
-        old.places,
-        old.transitions,
-        &old.initial,
-        &old.capacity,
-        &old.label,
-        &old.lengths,
-        &old.rate,
-        &old.delay,
-        &old.arcs,
-        &old.kind,
-        &old.place,
-        &old.weight,
-        new.places,
-        new.transitions,
-        &new.initial,
-        &new.capacity,
-        &new.label,
-        &new.lengths,
-        &new.rate,
-        &new.delay,
-        &new.arcs,
-        &new.kind,
-        &new.place,
-        &new.weight,
+        &old.lent(),
+        &new.lent(),
         pairs,
         path,
         instants,
@@ -479,12 +247,7 @@ pub fn ensemble(
     }
     let places = net.places;
     let cells = places * (samples as usize);
-    if let Err(c) = request::tables_fault(
-        cells,
-        mean.len(),
-        deviation.len(),
-        path.len(),
-    ) {
+    if let Err(c) = request::tables_fault(cells, mean.len(), deviation.len(), path.len()) {
         return EnsembleAnswer::TurnedDown(c);
     }
     averaging::accepted(

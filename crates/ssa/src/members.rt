@@ -1,7 +1,7 @@
 // The paths of an ensemble, one after the other on the lent path table, and the sums over them in the lent mean and deviation tables.
 ghost use Rattle.std.specs.Prelude.{◌≡◌, ◌*◌, ◌<◌, ◌≤◌, length};
 ghost use Rattle.net.specs.Readable as Record;
-ghost use Rattle.net.specs.Record.{lent};
+ghost use Rattle.net.specs.Record.{lent, net_of};
 ghost use Rattle.net.specs.declared.Net.{Net as NetRecord};
 ghost use Rattle.rng.specs.Splitmix as Seeding;
 ghost use Rattle.averages.specs.Request as Request;
@@ -12,76 +12,43 @@ ghost use Rattle.ssa.specs.Summing as Summing;
 use crate::{PathAnswer, start};
 use averages::{moments, request};
 use engine::slots;
+use kept::tables::Tables;
+use net::LentNet;
 use playing::PathEnd;
+use refusals::Refusal;
 use rng::Xoshiro256;
 
 // A path was refused by that number, or it was added, and so many are spent so far.
 #[derive(Clone, Copy)]
 pub enum Turn {
-    Stopped(u64),
+    Stopped(Refusal),
     Went(u64),
 }
 
 // A path was refused by a number, and its own number; or all were added, and so many are spent.
 #[derive(Clone, Copy)]
 pub enum Summed {
-    Stopped(u64, u64),
+    Stopped(Refusal, u64),
     Done(u64),
 }
 
 // Path k: from its own seed, with at most so many steps, on the path table.
-fn one_path<'a>(
-    places: usize,
-    transitions: usize,
-    initial: &'a [u64; 32],
-    capacity: &'a [u64; 32],
-    rate: &'a [f64; 64],
-    delay: &'a [f64; 64],
-    arcs: &'a [usize; 64],
-    kind: &'a [u64; 1024],
-    place: &'a [usize; 1024],
-    weight: &'a [u64; 1024],
-    limit: &'a [u64; 1024],
-    rates: &'a [f64; 64],
-    ends: &'a [usize; 64],
-    guards: &'a [u64; 160],
-    timed: u64,
-    heavy: u64,
+fn one_path(
+    net: &LentNet,
+    tables: &Tables,
     instants: &[f64],
     steps: u64,
     seed: u64,
     k: u64,
     path: &mut [f64],
 ) -> PathAnswer
-    requires { let net = lent places transitions initial.now capacity.now rate.now delay.now arcs.now kind.now place.now weight.now in Summing.Lent net limit.now rates.now ends.now guards.now timed heavy instants.now × (places * length instants.now ≤ length path.old) }
-    ensures { let net = lent places transitions initial.now capacity.now rate.now delay.now arcs.now kind.now place.now weight.now in Path.call_of result path.new ≡ Path.played places (length instants.now) (Seeding.seeded (Request.seed_of seed k))
+    requires { let net = net_of net.now in Summing.Lent net tables.now.limit tables.now.rates tables.now.ends tables.now.guards tables.now.timed tables.now.heavy instants.now × (net.places * length instants.now ≤ length path.old) }
+    ensures { let net = net_of net.now in Path.call_of result path.new ≡ Path.played net.places (length instants.now) (Seeding.seeded (Request.seed_of seed k))
         path.old (Summing.drawn (Record.readable net) seed instants.now steps k) }
 {
-    let mut counts = slots::first_counts(places, initial);
+    let mut counts = slots::first_counts(net.places, net.initial);
     let rng = Xoshiro256::new(request::seed_of(seed, k));
-    start::play(
-        places,
-        transitions,
-        initial,
-        capacity,
-        rate,
-        delay,
-        arcs,
-        kind,
-        place,
-        weight,
-        limit,
-        rates,
-        ends,
-        guards,
-        timed,
-        heavy,
-        &mut counts,
-        instants,
-        steps,
-        rng,
-        path,
-    )
+    start::play(net, tables, &mut counts, instants, steps, rng, path)
 }
 
 // 1 for a spent path.
@@ -98,23 +65,9 @@ fn one_if_spent(end: PathEnd) -> u64
 }
 
 // Path k, and its cells added to the sums.
-fn member_turn<'a>(
-    places: usize,
-    transitions: usize,
-    initial: &'a [u64; 32],
-    capacity: &'a [u64; 32],
-    rate: &'a [f64; 64],
-    delay: &'a [f64; 64],
-    arcs: &'a [usize; 64],
-    kind: &'a [u64; 1024],
-    place: &'a [usize; 1024],
-    weight: &'a [u64; 1024],
-    limit: &'a [u64; 1024],
-    rates: &'a [f64; 64],
-    ends: &'a [usize; 64],
-    guards: &'a [u64; 160],
-    timed: u64,
-    heavy: u64,
+fn member_turn(
+    net: &LentNet,
+    tables: &Tables,
     instants: &[f64],
     steps: u64,
     seed: u64,
@@ -124,38 +77,16 @@ fn member_turn<'a>(
     deviation: &mut [f64],
     path: &mut [f64],
 ) -> Turn
-    requires { let net = lent places transitions initial.now capacity.now rate.now delay.now arcs.now kind.now place.now weight.now in Summing.Lent net limit.now rates.now ends.now guards.now timed heavy instants.now × (places * length instants.now ≤ length path.old) × (spent < 65_535) }
-    ensures { let net = lent places transitions initial.now capacity.now rate.now delay.now arcs.now kind.now place.now weight.now in Summing.TurnBy (Summing.drawn (Record.readable net) seed instants.now steps k) places (length instants.now) spent
+    requires { let net = net_of net.now in Summing.Lent net tables.now.limit tables.now.rates tables.now.ends tables.now.guards tables.now.timed tables.now.heavy instants.now × (net.places * length instants.now ≤ length path.old) × (spent < 65_535) }
+    ensures { let net = net_of net.now in Summing.TurnBy (Summing.drawn (Record.readable net) seed instants.now steps k) net.places (length instants.now) spent
         mean.old mean.new deviation.old deviation.new path.old path.new result }
 {
-    let r = one_path(
-        places,
-        transitions,
-        initial,
-        capacity,
-        rate,
-        delay,
-        arcs,
-        kind,
-        place,
-        weight,
-        limit,
-        rates,
-        ends,
-        guards,
-        timed,
-        heavy,
-        instants,
-        steps,
-        seed,
-        k,
-        path,
-    );
+    let r = one_path(net, tables, instants, steps, seed, k, path);
     let end = r.end;
     if let PathEnd::Refused(c) = end {
         return Turn::Stopped(c);
     }
-    let cells = places * instants.len();
+    let cells = net.places * instants.len();
     moments::add(cells, path, mean);
     moments::add_squares(cells, path, deviation);
     let many = spent + one_if_spent(end);
@@ -163,23 +94,9 @@ fn member_turn<'a>(
 }
 
 // All paths, from number 0 on, until one is refused.
-pub fn sum_paths<'a>(
-    places: usize,
-    transitions: usize,
-    initial: &'a [u64; 32],
-    capacity: &'a [u64; 32],
-    rate: &'a [f64; 64],
-    delay: &'a [f64; 64],
-    arcs: &'a [usize; 64],
-    kind: &'a [u64; 1024],
-    place: &'a [usize; 1024],
-    weight: &'a [u64; 1024],
-    limit: &'a [u64; 1024],
-    rates: &'a [f64; 64],
-    ends: &'a [usize; 64],
-    guards: &'a [u64; 160],
-    timed: u64,
-    heavy: u64,
+pub fn sum_paths(
+    net: &LentNet,
+    tables: &Tables,
     instants: &[f64],
     steps: u64,
     seed: u64,
@@ -188,11 +105,11 @@ pub fn sum_paths<'a>(
     deviation: &mut [f64],
     path: &mut [f64],
 ) -> Summed
-    requires { let net = lent places transitions initial.now capacity.now rate.now delay.now arcs.now kind.now place.now weight.now in Summing.Lent net limit.now rates.now ends.now guards.now timed heavy instants.now × (realizations ≤ 65_535) × (places * length instants.now ≤ length path.old)
-        × (mean.old ≡ Cells.cleared (places * length instants.now) mean.old)
-        × (deviation.old ≡ Cells.cleared (places * length instants.now) deviation.old) }
-    ensures { let net = lent places transitions initial.now capacity.now rate.now delay.now arcs.now kind.now place.now weight.now in Summing.SummedBy (Summing.paths_from (Summing.drawn (Record.readable net) seed instants.now steps) 0 realizations)
-        places (length instants.now) realizations
+    requires { let net = net_of net.now in Summing.Lent net tables.now.limit tables.now.rates tables.now.ends tables.now.guards tables.now.timed tables.now.heavy instants.now × (realizations ≤ 65_535) × (net.places * length instants.now ≤ length path.old)
+        × (mean.old ≡ Cells.cleared (net.places * length instants.now) mean.old)
+        × (deviation.old ≡ Cells.cleared (net.places * length instants.now) deviation.old) }
+    ensures { let net = net_of net.now in Summing.SummedBy (Summing.paths_from (Summing.drawn (Record.readable net) seed instants.now steps) 0 realizations)
+        net.places (length instants.now) realizations
         mean.old mean.new deviation.old deviation.new path.old path.new result }
 {
     let mut spent: u64 = 0;
@@ -200,30 +117,7 @@ pub fn sum_paths<'a>(
     while k < realizations {
         let next = k + 1;
         let t = member_turn(
-            places,
-            transitions,
-            initial,
-            capacity,
-            rate,
-            delay,
-            arcs,
-            kind,
-            place,
-            weight,
-            limit,
-            rates,
-            ends,
-            guards,
-            timed,
-            heavy,
-            instants,
-            steps,
-            seed,
-            k,
-            spent,
-            mean,
-            deviation,
-            path,
+            net, tables, instants, steps, seed, k, spent, mean, deviation, path,
         );
         match t {
             Turn::Went(s) => spent = s,

@@ -2,7 +2,7 @@
 ghost use Rattle.std.specs.Prelude.{◌≡◌, true, List, ◌*◌, ◌<◌, ◌≤◌, Float, length};
 ghost use Rattle.net.specs.Net.{zero64};
 ghost use Rattle.net.specs.Readable as Record;
-ghost use Rattle.net.specs.Record.{lent};
+ghost use Rattle.net.specs.Record.{net_of};
 ghost use Rattle.net.specs.declared.Net.{Net as NetRecord};
 ghost use Rattle.rng.specs.State as Random;
 ghost use Rattle.rules.specs.Moves as Moves;
@@ -14,6 +14,8 @@ ghost use Rattle.ssa.specs.Path as Path;
 ghost use Rattle.ssa.specs.Told as Told;
 
 use crate::PathAnswer;
+use kept::tables::Tables;
+use net::LentNet;
 use playing::run::Walked;
 use playing::{PathEnd, begin, run};
 use rng::Xoshiro256;
@@ -58,57 +60,29 @@ fn answer(w: Walked, n: usize, rng: Xoshiro256) -> PathAnswer
 }
 
 // A path from the initial counts: its answer, and the table filled, or cleared where the run is refused.
-pub fn play<'a>(
-    places: usize,
-    transitions: usize,
-    initial: &'a [u64; 32],
-    capacity: &'a [u64; 32],
-    rate: &'a [f64; 64],
-    delay: &'a [f64; 64],
-    arcs: &'a [usize; 64],
-    kind: &'a [u64; 1024],
-    place: &'a [usize; 1024],
-    weight: &'a [u64; 1024],
-    limit: &'a [u64; 1024],
-    rates: &'a [f64; 64],
-    ends: &'a [usize; 64],
-    guards: &'a [u64; 160],
-    timed: u64,
-    heavy: u64,
+pub fn play(
+    net: &LentNet,
+    tables: &Tables,
     counts: &mut [u64; 32],
     instants: &[f64],
     steps: u64,
     rng: Xoshiro256,
     table: &mut [f64],
 ) -> PathAnswer
-    requires { let net = lent places transitions initial.now capacity.now rate.now delay.now arcs.now kind.now place.now weight.now in Engine.Tidy net × Limits.Limits net limit.now × Engine.Counts counts.old
-        × (Engine.marking places counts.old ≡ Moves.initial_counts (Record.readable net)) × Keeps.Tables net rates.now ends.now guards.now timed heavy
+    requires { let net = net_of net.now in Engine.Tidy net × Limits.Limits net tables.now.limit × Engine.Counts counts.old
+        × (Engine.marking net.places counts.old ≡ Moves.initial_counts (Record.readable net)) × Keeps.Tables net tables.now.rates tables.now.ends tables.now.guards tables.now.timed tables.now.heavy
         × (0 < length instants.now) × (length instants.now ≤ 1024) × (Shown.rising zero64 instants.now ≡ true)
-        × (places * length instants.now ≤ length table.old) }
-    ensures { let net = lent places transitions initial.now capacity.now rate.now delay.now arcs.now kind.now place.now weight.now in Path.call_of result table.new ≡ Path.played places (length instants.now) (Random.words rng.s) table.old
+        × (net.places * length instants.now ≤ length table.old) }
+    ensures { let net = net_of net.now in Path.call_of result table.new ≡ Path.played net.places (length instants.now) (Random.words rng.s) table.old
         (Shown.worked (Record.readable net) (Random.words rng.s) instants.now steps) }
 {
     let mut ats = [0.0; 256];
     let mut owners = [0u64; 512];
     let n = instants.len();
-    let s = begin::begin(instants, table, counts, places, rng);
+    let s = begin::begin(instants, table, counts, net.places, rng);
     let w = run::play_on(
-        places,
-        transitions,
-        initial,
-        capacity,
-        rate,
-        delay,
-        arcs,
-        kind,
-        place,
-        weight,
-        limit,
-        rates,
-        ends,
-        guards,
-        timed,
-        heavy,
+        net,
+        tables,
         counts,
         &mut ats,
         &mut owners,

@@ -3,7 +3,7 @@ ghost use Rattle.std.specs.Prelude.{◌≡◌, true, List, ℕ, ◌+◌, ◌*◌
 ghost use Rattle.std.proofs.Math.Option.{none};
 ghost use Rattle.std.proofs.Math.ListN as ListN;
 ghost use Rattle.net.specs.Readable as Record;
-ghost use Rattle.net.specs.Record.{lent, labelled};
+ghost use Rattle.net.specs.Record.{lent, net_of};
 ghost use Rattle.net.specs.declared.Net.{Net as NetRecord};
 ghost use Rattle.rng.specs.State as Random;
 ghost use Rattle.rules.specs.Carried as Rule;
@@ -17,27 +17,21 @@ ghost use Rattle.ssa.specs.Halted as Spec;
 ghost use Rattle.ssa.specs.Told as Told;
 ghost use Rattle.playing.specs.Playing as Playing;
 ghost use Rattle.playing.specs.Stepping as Stepping;
+ghost use Rattle.refusals.specs.Number.{number_of};
 
 use crate::{Halted, Onward, start};
-use engine::slots;
+use engine::slots::{self, Slots};
+use net::LentNet;
 use playing::run::{Standing, Walked};
 use playing::{PathEnd, begin, peak, run, tables};
+use refusals::Refusal;
 use rng::Xoshiro256;
 use timers::queue;
 use timers::queue::Queue;
 
 // A path of the tidy net whose fields are lent, played on: the tables that a call makes once, and the run.
-fn lent_on<'a>(
-    places: usize,
-    transitions: usize,
-    initial: &'a [u64; 32],
-    capacity: &'a [u64; 32],
-    rate: &'a [f64; 64],
-    delay: &'a [f64; 64],
-    arcs: &'a [usize; 64],
-    kind: &'a [u64; 1024],
-    place: &'a [usize; 1024],
-    weight: &'a [u64; 1024],
+fn lent_on(
+    net: &LentNet,
     counts: &mut [u64; 32],
     ats: &mut [f64; 256],
     owners: &mut [u64; 512],
@@ -47,50 +41,23 @@ fn lent_on<'a>(
     s: Standing,
     table: &mut [f64],
 ) -> Walked
-    requires { let net = lent places transitions initial.now capacity.now rate.now delay.now arcs.now kind.now place.now weight.now in Engine.Tidy net × Accepted (Record.readable net) × Stepping.Resumes counts.old ats.old owners.old s.timers s.clock
-        × (0 < length instants.now) × (s.next ≤ length instants.now) × (length instants.now ≤ 1024) × (places * length instants.now ≤ length table.old)
+    requires { let net = net_of net.now in Engine.Tidy net × Accepted (Record.readable net) × Stepping.Resumes counts.old ats.old owners.old s.timers s.clock
+        × (0 < length instants.now) × (s.next ≤ length instants.now) × (length instants.now ≤ 1024) × (net.places * length instants.now ≤ length table.old)
         × (s.tokens ≡ Stepping.tokens_of (Stepping.state_of net counts.old ats.old owners.old s.timers s.clock s.rng.s)) }
-    ensures { let net = lent places transitions initial.now capacity.now rate.now delay.now arcs.now kind.now place.now weight.now in Playing.PlayedBy
+    ensures { let net = net_of net.now in Playing.PlayedBy
         (Play.higher s.peak (Play.play_within (Playing.out_of halts) 256 (Record.readable net) (Shown.last_of instants.now) steps
         (ListN.drop s.next instants.now) (Stepping.state_of net counts.old ats.old owners.old s.timers s.clock s.rng.s)))
-        places instants.now s.next table.old table.new
+        net.places instants.now s.next table.old table.new
         (Stepping.state_of net counts.new ats.new owners.new result.timers result.clock result.rng.s) result result.end }
 {
-    let mut limit = [0u64; 1024];
-    let mut rates = [0.0; 64];
-    let mut ends = [0usize; 64];
-    let mut guards = [0u64; 160];
-    let kinds = tables::fill_tables(
-        places,
-        transitions,
-        initial,
-        capacity,
-        rate,
-        delay,
-        arcs,
-        kind,
-        place,
-        weight,
-        &mut limit,
-        &mut rates,
-        &mut ends,
-        &mut guards,
-    );
+    let mut tables = kept::tables::empty();
+    tables::fill_tables(net, &mut tables);
     let n = instants.len();
     let ring = s.timers;
     let rng = s.rng;
     let most = peak::first_peak(
-        places,
-        transitions,
-        initial,
-        capacity,
-        rate,
-        delay,
-        arcs,
-        kind,
-        place,
-        weight,
-        &limit,
+        net,
+        &tables.limit,
         counts,
         ats,
         owners,
@@ -108,22 +75,8 @@ fn lent_on<'a>(
         rng: rng,
     };
     run::play_on(
-        places,
-        transitions,
-        initial,
-        capacity,
-        rate,
-        delay,
-        arcs,
-        kind,
-        place,
-        weight,
-        &limit,
-        &rates,
-        &ends,
-        &guards,
-        kinds.timed,
-        kinds.heavy,
+        net,
+        &tables,
         counts,
         ats,
         owners,
@@ -137,19 +90,8 @@ fn lent_on<'a>(
 }
 
 // A path of the accepted net whose fields are lent, played on. Of these only the slots in use are copied.
-pub fn resume<'a>(
-    places: usize,
-    transitions: usize,
-    initial: &'a [u64; 32],
-    capacity: &'a [u64; 32],
-    label: &'a [u8; 512],
-    lengths: &'a [usize; 32],
-    rate: &'a [f64; 64],
-    delay: &'a [f64; 64],
-    arcs: &'a [usize; 64],
-    kind: &'a [u64; 1024],
-    place: &'a [usize; 1024],
-    weight: &'a [u64; 1024],
+pub fn resume(
+    net: &LentNet,
     counts: &mut [u64; 32],
     ats: &mut [f64; 256],
     owners: &mut [u64; 512],
@@ -159,56 +101,21 @@ pub fn resume<'a>(
     s: Standing,
     table: &mut [f64],
 ) -> Walked
-    requires { let net = labelled places transitions initial.now capacity.now label.now lengths.now rate.now delay.now arcs.now kind.now place.now weight.now in (Record.fault net ≡ none) × Stepping.Resumes counts.old ats.old owners.old s.timers s.clock
-        × (0 < length instants.now) × (s.next ≤ length instants.now) × (length instants.now ≤ 1024) × (places * length instants.now ≤ length table.old)
+    requires { let net = net_of net.now in (Record.fault net ≡ none) × Stepping.Resumes counts.old ats.old owners.old s.timers s.clock
+        × (0 < length instants.now) × (s.next ≤ length instants.now) × (length instants.now ≤ 1024) × (net.places * length instants.now ≤ length table.old)
         × (s.tokens ≡ Stepping.tokens_of (Stepping.state_of net counts.old ats.old owners.old s.timers s.clock s.rng.s)) }
-    ensures { let net = labelled places transitions initial.now capacity.now label.now lengths.now rate.now delay.now arcs.now kind.now place.now weight.now in Playing.PlayedBy
+    ensures { let net = net_of net.now in Playing.PlayedBy
         (Play.higher s.peak (Play.play_within (Playing.out_of halts) 256 (Record.readable net) (Shown.last_of instants.now) steps
         (ListN.drop s.next instants.now) (Stepping.state_of net counts.old ats.old owners.old s.timers s.clock s.rng.s)))
-        places instants.now s.next table.old table.new
+        net.places instants.now s.next table.old table.new
         (Stepping.state_of net counts.new ats.new owners.new result.timers result.clock result.rng.s) result result.end }
 {
-    let mut count = [0usize; 64];
-    let mut kinds = [0u64; 1024];
-    let mut at = [0usize; 1024];
-    let mut weights = [0u64; 1024];
-    slots::tidy(
-        places,
-        transitions,
-        initial,
-        capacity,
-        label,
-        lengths,
-        rate,
-        delay,
-        arcs,
-        kind,
-        place,
-        weight,
-        &mut count,
-        &mut kinds,
-        &mut at,
-        &mut weights,
-    );
+    let mut slots = Slots::blank();
+    slots.fill(net);
+    // Lent anew, for no longer than the slots.
+    let fields = *net;
     lent_on(
-        places,
-        transitions,
-        initial,
-        capacity,
-        rate,
-        delay,
-        &count,
-        &kinds,
-        &at,
-        &weights,
-        counts,
-        ats,
-        owners,
-        instants,
-        halts,
-        steps,
-        s,
-        table,
+        &slots.of(&fields), counts, ats, owners, instants, halts, steps, s, table,
     )
 }
 
@@ -289,8 +196,8 @@ fn unbegun(generator: Xoshiro256) -> Halted
 }
 
 // The answer of a call that is refused by c and gives this state back.
-pub fn turned_down(c: u64, state: Halted) -> Onward
-    ensures { (places : ℕ) (table : List Float) → Spec.call_of places result table ≡ Spec.turned_down c (Spec.standing_of places state) table }
+pub fn turned_down(c: Refusal, state: Halted) -> Onward
+    ensures { (places : ℕ) (table : List Float) → Spec.call_of places result table ≡ Spec.turned_down (number_of c) (Spec.standing_of places state) table }
 {
     Onward {
         end: PathEnd::Refused(c),
@@ -300,54 +207,32 @@ pub fn turned_down(c: u64, state: Halted) -> Onward
 }
 
 // The answer of a naming call that is refused by c.
-pub fn refused(c: u64, generator: Xoshiro256) -> Onward
-    ensures { (places : ℕ) (table : List Float) → Spec.call_of places result table ≡ Spec.turned_down c (Spec.unbegun places (Random.words generator.s)) table }
+pub fn refused(c: Refusal, generator: Xoshiro256) -> Onward
+    ensures { (places : ℕ) (table : List Float) → Spec.call_of places result table ≡ Spec.turned_down (number_of c) (Spec.unbegun places (Random.words generator.s)) table }
 {
     turned_down(c, unbegun(generator))
 }
 
 // The path of a naming call that no test turns down.
-pub fn accepted_until<'a>(
-    places: usize,
-    transitions: usize,
-    initial: &'a [u64; 32],
-    capacity: &'a [u64; 32],
-    label: &'a [u8; 512],
-    lengths: &'a [usize; 32],
-    rate: &'a [f64; 64],
-    delay: &'a [f64; 64],
-    arcs: &'a [usize; 64],
-    kind: &'a [u64; 1024],
-    place: &'a [usize; 1024],
-    weight: &'a [u64; 1024],
+pub fn accepted_until(
+    net: &LentNet,
     generator: Xoshiro256,
     instants: &[f64],
     limit: u64,
     named: u64,
     table: &mut [f64],
 ) -> Onward
-    requires { let net = labelled places transitions initial.now capacity.now label.now lengths.now rate.now delay.now arcs.now kind.now place.now weight.now in (Record.fault net ≡ none) × (Shown.instants_fit instants.now ≡ true) × (Shown.limit_fits limit ≡ true) × (places * length instants.now ≤ length table.old) }
-    ensures { let net = labelled places transitions initial.now capacity.now label.now lengths.now rate.now delay.now arcs.now kind.now place.now weight.now in Spec.call_of places result table.new ≡ Spec.played places (length instants.now) 0 (Spec.unbegun places (Random.words generator.s))
+    requires { let net = net_of net.now in (Record.fault net ≡ none) × (Shown.instants_fit instants.now ≡ true) × (Shown.limit_fits limit ≡ true) × (net.places * length instants.now ≤ length table.old) }
+    ensures { let net = net_of net.now in Spec.call_of net.places result table.new ≡ Spec.played net.places (length instants.now) 0 (Spec.unbegun net.places (Random.words generator.s))
         table.old (Rule.play_on 256 (Record.readable net) (Rule.begun (Record.readable net) (Random.words generator.s) instants.now limit) named) }
 {
     let mut ats = [0.0; 256];
     let mut owners = [0u64; 512];
-    let mut counts = slots::first_counts(places, initial);
+    let mut counts = slots::first_counts(net.places, net.initial);
     let n = instants.len();
-    let s = begin::begin(instants, table, &counts, places, generator);
+    let s = begin::begin(instants, table, &counts, net.places, generator);
     let w = resume(
-        places,
-        transitions,
-        initial,
-        capacity,
-        label,
-        lengths,
-        rate,
-        delay,
-        arcs,
-        kind,
-        place,
-        weight,
+        net,
         &mut counts,
         &mut ats,
         &mut owners,

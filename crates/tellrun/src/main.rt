@@ -8,7 +8,7 @@ ghost use Rattle.std.specs.Prelude.{◌≤◌};
 
 use averages::request;
 use net::Net;
-use net_io::{Input, read_input, say, text_room, write, write_refused};
+use net_io::{read_input, say, text_room, write, write_refused};
 use net_text::RunLine;
 use rng::Xoshiro256;
 use ssa::{PathAnswer, PathEnd};
@@ -39,7 +39,7 @@ fn write_answer(rt: &HostRuntime, r: PathAnswer) {
         PathEnd::Spent => write_path(rt, b"spent", r),
         PathEnd::Reached => write_path(rt, b"reached", r),
         PathEnd::Halted => write_path(rt, b"halted", r),
-        PathEnd::Refused(c) => write_refused(rt, c, 0),
+        PathEnd::Refused(c) => write_refused(rt, c.number(), 0),
     }
 }
 
@@ -70,7 +70,7 @@ fn run(rt: &HostRuntime, net: Net, asked: RunLine) {
     let samples = asked.samples;
     let seed = asked.seed;
     match request::request_fault(samples, asked.realizations, seed, horizon) {
-        Err(c) => write_refused(rt, c, 0),
+        Err(c) => write_refused(rt, c.number(), 0),
         Ok(()) => {
             if samples <= 1_024 {
                 play_grid(rt, net, samples, seed, horizon);
@@ -95,7 +95,7 @@ fn tell_front(rt: &HostRuntime, text: &[u8], n: usize) {
 fn main(rt: HostRuntime) {
     let mut text = text_room();
     match read_input(&rt, &mut text) {
-        Input::Read(n) => tell_front(&rt, &text, n),
-        Input::Failed => say(&rt, b"tellrun: standard input cannot be read\n"),
+        Ok(n) => tell_front(&rt, &text, n),
+        Err(_) => say(&rt, b"tellrun: standard input cannot be read\n"),
     }
 }

@@ -10,7 +10,7 @@ use Prim.Native.Nat.{ℕ}
 use lib.ListN.{length}
 use Rattle.net.specs.declared.Net.{Net as NetRecord}
 use Rattle.net.specs.Readable.{readable, fault, meaning}
-use Rattle.net.specs.Record.{labelled}
+use Rattle.net.specs.Record.{labelled, net_of}
 use Rattle.net.specs.Tests.{first_of}
 use Rattle.net.proofs.Lengths.{places_length, transitions_length}
 use Rattle.net.proofs.Sound.{sound}
@@ -37,8 +37,7 @@ old_at s =
 abbrev new_at : tie.Start → NetRecord
 new_at s =
     let a = s.args in
-    labelled a.places a.transitions a.initial.now a.capacity.now a.label.now a.lengths.now
-    a.rate.now a.delay.now a.arcs.now a.kind.now a.place.now a.weight.now
+    net_of a.net.now
 
 abbrev pairs_at : tie.Start → List Pair
 pairs_at s = pairs_of s.args.pairs.now
@@ -102,7 +101,7 @@ plain c = sym (by_state_of c.before) ∙ ap meaning c.in_default-state_fault.is
 listed : (c : tie.In_default-list_fault) → list_fault (start4 c) ≡ none
 listed c = sym (by_words c.before) ∙ ap meaning c.in_default-list_fault.is
 
-as_many : (c : tie.In_default-list_fault) → (start4 c).args.old_places ≡ (start4 c).args.places
+as_many : (c : tie.In_default-list_fault) → (start4 c).args.old_places ≡ (start4 c).args.net.now.places
 as_many c = let s = start4 c in same_places (old_at s) (new_at s) (path_at s) (pairs_at s) (listed c)
 
 fields-fault-requires : tie.Need-fields_fault-requires

@@ -5,7 +5,7 @@ use mathlib.Core.Path.{◌≡◌, sym, ap, ◌∙◌}
 use mathlib.Core.Bool.{true}
 use mathlib.Core.Option.{none}
 use Rattle.net.specs.Readable.{fault, meaning}
-use Rattle.net.specs.Record.{labelled}
+use Rattle.net.specs.Record.{net_of}
 use Rattle.net.specs.declared.Net.{Net as NetRecord}
 use Rattle.net.proofs.Sound.{sound}
 use Rattle.rng.specs.State.{words}
@@ -17,8 +17,7 @@ use Rattle.ssa.proofs.fields_path.Tie as tie
 -- the net whose fields are lent
 abbrev net_at : tie.Start → NetRecord
 net_at s =
-    labelled s.args.places s.args.transitions s.args.initial.now s.args.capacity.now s.args.label.now s.args.lengths.now
-    s.args.rate.now s.args.delay.now s.args.arcs.now s.args.kind.now s.args.place.now s.args.weight.now
+    net_of s.args.net.now
 
 -- what is known once a test is passed
 accepted : (c : tie.In_default) → fault (net_at c.before.before.before.before) ≡ none

@@ -5,7 +5,7 @@ use mathlib.Core.Path.{◌≡◌, sym, ap, ◌∙◌}
 use mathlib.Core.Bool.{true}
 use mathlib.Core.Option.{none}
 use Rattle.net.specs.Readable.{fault, meaning}
-use Rattle.net.specs.Record.{labelled}
+use Rattle.net.specs.Record.{net_of}
 use Rattle.net.specs.declared.Net.{Net as NetRecord}
 use Rattle.net.proofs.Sound.{sound}
 use Rattle.rng.specs.State.{words}
@@ -17,8 +17,7 @@ use Rattle.ssa.proofs.fields_path_until.Tie as tie
 -- the net whose fields are lent
 abbrev net_at : tie.Start → NetRecord
 net_at s =
-    labelled s.args.places s.args.transitions s.args.initial.now s.args.capacity.now s.args.label.now s.args.lengths.now
-    s.args.rate.now s.args.delay.now s.args.arcs.now s.args.kind.now s.args.place.now s.args.weight.now
+    net_of s.args.net.now
 
 -- what is known once a test is passed
 accepted : (c : tie.In_default) → fault (net_at c.before.before.before.before) ≡ none
@@ -45,7 +44,7 @@ returns c =
     let s = t.before.before.before in
     let a = s.args in
     let tests = naming_tests (net_at s) (words a.generator.s) a.instants.now a.limit a.named a.table.now in
-    c.refused.ensures a.places a.table.now
+    c.refused.ensures a.net.now.places a.table.now
     ∙ sym (tests.by_net (sym t.fields_fault.ensures ∙ ap meaning c.in-Refused.is))
 
 enum_told : tie.Need-enum_told-1
@@ -63,7 +62,7 @@ returns-2 c =
     let s = i.before.before.before.before.before in
     let a = s.args in
     let tests = naming_tests (net_at s) (words a.generator.s) a.instants.now a.limit a.named a.table.now in
-    c.refused-then-not-instants_fit.ensures a.places a.table.now
+    c.refused-then-not-instants_fit.ensures a.net.now.places a.table.now
     ∙ sym (tests.by_instants (accepted i.before) (sym i.instants_fit.ensures ∙ c.if-not-instants_fit.true))
 
 limit-fits-requires : tie.Need-limit_fits-requires
@@ -79,7 +78,7 @@ returns-3 c =
     let s = e.before.before.before.before.before.before in
     let a = s.args in
     let tests = naming_tests (net_at s) (words a.generator.s) a.instants.now a.limit a.named a.table.now in
-    c.refused-then-not-limit_fits.ensures a.places a.table.now
+    c.refused-then-not-limit_fits.ensures a.net.now.places a.table.now
     ∙ sym (tests.by_limit (accepted e.before.before) (timely e) (sym l.limit_fits.ensures ∙ c.if-not-limit_fits.true))
 
 mul-if3 : tie.Need-overflow_mul-places
@@ -99,7 +98,7 @@ returns-4 c =
     let s = e.before.before.before.before.before.before in
     let a = s.args in
     let tests = naming_tests (net_at s) (words a.generator.s) a.instants.now a.limit a.named a.table.now in
-    c.refused-then-table-places.ensures a.places a.table.now
+    c.refused-then-table-places.ensures a.net.now.places a.table.now
     ∙ sym (tests.by_table (accepted e.before.before) (timely e) (limited l) c.if-table-places.true)
 
 accepted-until-requires : tie.Need-accepted_until-requires

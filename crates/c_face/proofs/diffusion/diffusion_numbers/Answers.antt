@@ -8,18 +8,19 @@ use Rattle.sde.specs.declared.DiffusionAnswer.{DiffusionAnswer}
 use Rattle.sde.specs.Call.{outcome_of}
 use Rattle.c_face.specs.Diffused.{told_of}
 use Rattle.c_face.proofs.Mask.{mask_whole}
+use Rattle.c_face.proofs.Flags.{flag}
 use Rattle.c_face.proofs.diffusion.diffusion_numbers.Goals as goal
 
 pub returns-in-Averaged : goal.returns-in-Averaged
 returns-in-Averaged c =
-    ap (λ (d : ℕ). 0 ∷ d ∷ 0 ∷ 0 ∷ 0 ∷ 0 ∷ 0 ∷ []) c.one_if.ensures
+    ap (λ (d : ℕ). 0 ∷ d ∷ 0 ∷ 0 ∷ 0 ∷ 0 ∷ 0 ∷ []) (c.from.ensures ∙ flag c.in-Averaged.deviations)
     ∙ ap (λ (z : DiffusionAnswer). told_of (outcome_of z)) (sym c.in-Averaged.is)
 
 pub returns-in-Gated : goal.returns-in-Gated
 returns-in-Gated c =
     let g = c.in-Gated.g in
     ap₂ (λ (m d : ℕ). 100 ∷ 0 ∷ g.reads ∷ g.inhibitors ∷ g.nonkinetic ∷ m ∷ d ∷ [])
-    (sym (mask_whole g.bounded (omega arith))) c.one_if-in-Gated.ensures
+    (sym (mask_whole g.bounded (omega arith))) (c.from-in-Gated.ensures ∙ flag g.delayed)
     ∙ ap (λ (z : DiffusionAnswer). told_of (outcome_of z)) (sym c.in-Gated.is)
 
 pub returns-in-TurnedDown : goal.returns-in-TurnedDown

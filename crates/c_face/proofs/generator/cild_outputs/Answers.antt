@@ -1,4 +1,4 @@
--- `c_face::generator::cild_outputs` meets its contract: the loop is a sweep whose state is the generator. Assumes nothing.
+-- The loop is a sweep whose state is the generator.
 use native.Mathlib.Omega.{arith}
 use mathlib.Core.Path.{◌≡◌, ap, ◌∙◌}
 use lib.ListN.{length}
@@ -7,22 +7,18 @@ use Rattle.rng.specs.Xoshiro.{output}
 use Rattle.c_face.proofs.Sweep.{sweep_none, sweep_more, swept_drawn, moved_after}
 use Rattle.c_face.proofs.generator.cild_outputs.Goals as goal
 
-pub loop-i-init : goal.loop-i-init
-loop-i-init c = rw c.from_state-rng.ensures (sweep_none _ _ _ _)
+pub loop-x-init : goal.loop-x-init
+loop-x-init c = rw c.from_state-rng.ensures (sweep_none _ _ _ _)
 
-pub loop-i-preserved : goal.loop-i-preserved
-loop-i-preserved c =
+pub loop-x-preserved : goal.loop-x-preserved
+loop-x-preserved c =
     let e = c.next_u64-drawn.ensures in
-    sweep_more _ _ 0 c.loop-i.invariant (omega arith) e.0 e.1
-
-pub shape_of-out : goal.shape_of-out
-shape_of-out c = c.loop-i.invariant.same
+    sweep_more _ _ 0 c.loop-x.invariant (omega arith) e.0 e.1
 
 pub returns : goal.returns
 returns c =
-    let m = c.loop-i.invariant in
-    let args = c.args in
-    let out = args.out.now in
-    let s = words args.state.now in
-    let all : c.loop-i.i ≡ length out = omega (arith, m.same) in
+    let m = c.loop-x.invariant in
+    let out = c.args.out.now in
+    let s = words c.args.state.now in
+    let all : c.loop-x.x-index ≡ length out = omega (arith, m.within) in
     record { out_after = m.cells ∙ rw all (swept_drawn output s out); state_after = ap words c.state.ensures ∙ m.state ∙ rw all (moved_after _ (length out) s) }

@@ -5,12 +5,12 @@ use Rattle.c_face.proofs.Putting.{put_none, put_more, put_all}
 use Rattle.c_face.proofs.halted_words.put_whos.Goals as goal
 
 pub loop-k-init : goal.loop-k-init
-loop-k-init c = (omega arith, search rules, put_none _ _ _)
+loop-k-init c = (search rules, put_none _ _ _)
 
 pub loop-k-preserved : goal.loop-k-preserved
 loop-k-preserved c =
     let l = c.loop-k in
-    (omega arith, l.invariant.1, put_more l.invariant.2 (omega arith))
+    (l.invariant.0, put_more l.invariant.1 (omega arith))
 
 pub returns : goal.returns
-returns c = let l = c.loop-k in put_all l.invariant.2 l.invariant.0 c.loop-k-test.false
+returns c = put_all c.loop-k.invariant.1 (omega arith) (omega arith)

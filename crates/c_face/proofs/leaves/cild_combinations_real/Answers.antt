@@ -1,4 +1,4 @@
--- `c_face::leaves::cild_combinations_real` meets its contract: what the answer ensures, read as a flag and a float; w is passed on as it came. Assumes nothing.
+-- What the answer ensures, read as a flag and a float; w is passed on as it came.
 use mathlib.Core.Path.{ap, ◌∙◌}
 use mir.Facts.{to_z-of_z}
 use Rattle.c_face.specs.Told.{is_real, real_or_zero}
@@ -8,4 +8,4 @@ pub returns : goal.returns
 returns c =
     let s = c in
     let e = rw (to_z-of_z s.ranges.w) at c.combinations_real.ensures in
-    (c.told_real.ensures.0 ∙ ap is_real e, c.told_real.ensures.1 ∙ ap real_or_zero e)
+    (c.told.ensures.0 ∙ ap is_real e, c.told.ensures.1 ∙ ap real_or_zero e)

@@ -1,4 +1,4 @@
--- `c_face::sampler::fill` meets its contract: the loop is a filling whose state is the sampler. Assumes nothing.
+-- The loop is a filling whose state is the sampler.
 use native.Mathlib.Omega.{arith}
 use mathlib.Core.Path.{sym, ap, ◌∙◌}
 use Rattle.normals.specs.Normal.{Drawn, answer_of}
@@ -7,9 +7,6 @@ use Rattle.c_face.proofs.sampler.fill.Goals as goal
 
 pub loop-i-init : goal.loop-i-init
 loop-i-init c = filling_none _ _
-
-pub shape_of-out-in_default : goal.shape_of-out-in_default
-shape_of-out-in_default c = c.loop-i.invariant.same
 
 pub returns-in_default : goal.returns-in_default
 returns-in_default c =
@@ -21,10 +18,7 @@ pub loop-i-preserved : goal.loop-i-preserved
 loop-i-preserved c =
     let n = c.normal-drawn.ensures in
     filling_more c.loop-i.invariant (omega arith)
-    (sym (ap answer_of c.in-Value.is) ∙ ap (λ (d : Drawn). d.answer) n) (ap (λ (d : Drawn). d.sampler) n)
-
-pub shape_of-out : goal.shape_of-out
-shape_of-out c = c.loop-i.invariant.same
+    (sym (ap answer_of c.in-Ok.is) ∙ ap (λ (d : Drawn). d.answer) n) (ap (λ (d : Drawn). d.sampler) n)
 
 pub returns : goal.returns
 returns c = filling_end c.loop-i.invariant (omega (arith, c.loop-i.invariant.within, c.loop-i.invariant.same))

@@ -18,9 +18,9 @@ overflow_add-put c =
     let l = c in
     let s = l.args in
     let a = l.loop-a.a in
-    let k = get_or s.kind.now a 0 in
-    let q = get_or s.place.now a 0 in
-    let w = get_or s.weight.now a 0 in
+    let k = get_or s.net.now.kind.now a 0 in
+    let q = get_or s.net.now.place.now a 0 in
+    let w = get_or s.net.now.weight.now a 0 in
     let t : a < s.end = c.loop-a-test.true in
     omega (arith, put_most k q w s.p (l.requires.1 a l.loop-a.invariant.0 t), c.put_slot-put.ensures)
 
@@ -29,9 +29,9 @@ overflow_add-taken c =
     let l = c in
     let s = l.args in
     let a = l.loop-a.a in
-    let k = get_or s.kind.now a 0 in
-    let q = get_or s.place.now a 0 in
-    let w = get_or s.weight.now a 0 in
+    let k = get_or s.net.now.kind.now a 0 in
+    let q = get_or s.net.now.place.now a 0 in
+    let w = get_or s.net.now.weight.now a 0 in
     let t : a < s.end = c.loop-a-test.true in
     omega (arith, taken_most k q w s.p (l.requires.1 a l.loop-a.invariant.0 t), c.taken_slot-taken.ensures)
 
@@ -40,12 +40,12 @@ loop-a-preserved c =
     let l = c in
     let s = l.args in
     let a = l.loop-a.a in
-    let k = get_or s.kind.now a 0 in
-    let q = get_or s.place.now a 0 in
-    let w = get_or s.weight.now a 0 in
+    let k = get_or s.net.now.kind.now a 0 in
+    let q = get_or s.net.now.place.now a 0 in
+    let w = get_or s.net.now.weight.now a 0 in
     let t : a < s.end = c.loop-a-test.true in
-    let m = moved_turn s.kind.now s.place.now s.weight.now a s.end s.p t in
-    let n = taken_turn s.kind.now s.place.now s.weight.now a s.end s.p t in
+    let m = moved_turn s.net.now.kind.now s.net.now.place.now s.net.now.weight.now a s.end s.p t in
+    let n = taken_turn s.net.now.kind.now s.net.now.place.now s.net.now.weight.now a s.end s.p t in
     let pe : c.put_slot-put.result ≡ put_slot k q w s.p = c.put_slot-put.ensures in
     let te : c.taken_slot-taken.result ≡ taken_slot k q w s.p = c.taken_slot-taken.ensures in (
       omega arith,
@@ -59,7 +59,7 @@ pub returns : goal.returns
 returns c =
     let l = c in
     let s = l.args in
-    let e = slots_end s.kind.now s.place.now s.weight.now l.loop-a.a s.end c.loop-a-test.false in
-    let m : moved (arcs_of is_put (slots s.kind.now s.place.now s.weight.now l.loop-a.a (s.end - l.loop-a.a))) s.p ≡ 0 = ap (λ (ls : List Slot). moved (arcs_of is_put ls) s.p) e in
-    let n : taken_by (takes_of (slots s.kind.now s.place.now s.weight.now l.loop-a.a (s.end - l.loop-a.a))) s.p ≡ 0 = ap (λ (ls : List Slot). taken_by (takes_of ls) s.p) e in
+    let e = slots_end s.net.now.kind.now s.net.now.place.now s.net.now.weight.now l.loop-a.a s.end c.loop-a-test.false in
+    let m : moved (arcs_of is_put (slots s.net.now.kind.now s.net.now.place.now s.net.now.weight.now l.loop-a.a (s.end - l.loop-a.a))) s.p ≡ 0 = ap (λ (ls : List Slot). moved (arcs_of is_put ls) s.p) e in
+    let n : taken_by (takes_of (slots s.net.now.kind.now s.net.now.place.now s.net.now.weight.now l.loop-a.a (s.end - l.loop-a.a))) s.p ≡ 0 = ap (λ (ls : List Slot). taken_by (takes_of ls) s.p) e in
     (omega arith, omega arith)

@@ -8,10 +8,7 @@ use Rattle.engine.proofs.slots.change_at.Given as goal
 abbrev pub invariant-loop-a : goal.invariant-loop-a
 invariant-loop-a l =
     (l.from ≤ l.a)
-    × (l.put + moved (arcs_of is_put (slots l.kind l.place l.weight l.a (l.end - l.a))) l.p ≡ moved (arcs_of is_put (slots l.kind l.place l.weight l.from (l.end - l.from))) l.p)
-    × (l.taken + taken_by (takes_of (slots l.kind l.place l.weight l.a (l.end - l.a))) l.p ≡ taken_by (takes_of (slots l.kind l.place l.weight l.from (l.end - l.from))) l.p)
+    × (l.put + moved (arcs_of is_put (slots l.net.kind.now l.net.place.now l.net.weight.now l.a (l.end - l.a))) l.p ≡ moved (arcs_of is_put (slots l.net.kind.now l.net.place.now l.net.weight.now l.from (l.end - l.from))) l.p)
+    × (l.taken + taken_by (takes_of (slots l.net.kind.now l.net.place.now l.net.weight.now l.a (l.end - l.a))) l.p ≡ taken_by (takes_of (slots l.net.kind.now l.net.place.now l.net.weight.now l.from (l.end - l.from))) l.p)
     × (l.put ≤ 1_000_000 * l.a)
     × (l.taken ≤ 1_000_000 * l.a)
-
-abbrev pub decreases-loop-a : goal.decreases-loop-a
-decreases-loop-a l = l.end - l.a

@@ -2,7 +2,7 @@
 use mathlib.Core.Path.{ap, ◌∙◌}
 use Rattle.net.specs.Net.{Marking}
 use Rattle.net.specs.Readable.{readable}
-use Rattle.net.specs.Record.{lent}
+use Rattle.net.specs.Record.{net_of}
 use Rattle.engine.proofs.Lists.{initial_is}
 use Rattle.game.specs.Search.{fault_move}
 use Rattle.game.specs.Play.{game_of}
@@ -12,6 +12,6 @@ pub returns : goal.returns
 returns c =
     let f = c in
     let a = f.args in
-    let n = lent a.places a.transitions a.initial.now a.capacity.now a.rate.now a.delay.now a.arcs.now a.kind.now a.place.now a.weight.now in
+    let n = net_of a.net.now in
     c.fault_move.ensures
     ∙ ap (λ (m : Marking). fault_move a.turns (game_of (readable n) a.sides.now a.wanted a.count) m) (f.first_counts-counts.ensures.0 ∙ initial_is n)

@@ -5,7 +5,7 @@ use Prim.Native.Nat.{◌^◌, ◌<◌}
 use Rattle.net.specs.declared.Net.{Net as NetRecord}
 use Rattle.net.specs.Net.{Marking}
 use Rattle.net.specs.Readable.{readable}
-use Rattle.net.specs.Record.{lent}
+use Rattle.net.specs.Record.{net_of}
 use Rattle.engine.specs.Engine.{marking}
 use Rattle.kept.proofs.Refreshing.{sums_same, lowest_inside, front_kept, worked_whole, marks_some}
 use Rattle.kept.proofs.refresh.refresh.Statement.{statement}
@@ -14,10 +14,10 @@ use Rattle.kept.proofs.refresh.refresh.Tie as tie
 abbrev net : tie.Start → NetRecord
 net r =
     let s = r.args in
-    lent s.places s.transitions s.initial.now s.capacity.now s.rate.now s.delay.now s.arcs.now s.kind.now s.place.now s.weight.now
+    net_of s.net.now
 
 abbrev tokens : tie.Start → Marking
-tokens r = marking r.args.places r.args.counts.now
+tokens r = marking r.args.net.now.places r.args.counts.now
 
 -- they are words
 marks_fit : (t : tie.After-settle-settled) → t.settle-settled.result.marks < 2 ^ 64

@@ -2,7 +2,7 @@
 use borrow.Author.Rules.{rules}
 use mathlib.Core.Path.{◌∙◌}
 use Rattle.net.specs.declared.Net.{Net as NetRecord}
-use Rattle.net.specs.Record.{lent}
+use Rattle.net.specs.Record.{net_of}
 use Rattle.kept.proofs.Settling.{tested_below, work_below, due_below, due_props, settled_all}
 use Rattle.kept.proofs.refresh.settle.Statement.{statement}
 use Rattle.kept.proofs.refresh.settle.Tie as tie
@@ -10,7 +10,7 @@ use Rattle.kept.proofs.refresh.settle.Tie as tie
 abbrev net : tie.Start → NetRecord
 net r =
     let s = r.args in
-    lent s.places s.transitions s.initial.now s.capacity.now s.rate.now s.delay.now s.arcs.now s.kind.now s.place.now s.weight.now
+    net_of s.net.now
 
 without-requires : tie.Need-without-tested-requires
 without-requires c κs = search rules
@@ -24,7 +24,7 @@ retest-requires c κs =
       p.0,
       p.1,
       p.2,
-      tested_below (net r) s.counts.now p.0 p.2 s.moved s.crossed s.able s.timed s.heavy s.marks s.props.now p.5 p.6 p.7 p.8 p.9 p.10 w.without-tested.result w.without-tested.ensures,
+      tested_below (net r) s.counts.now p.0 p.2 s.moved s.crossed s.able s.tables.now.timed s.tables.now.heavy s.marks s.props.now p.5 p.6 p.7 p.8 p.9 p.10 w.without-tested.result w.without-tested.ensures,
       p.10,
     )
 
@@ -40,7 +40,7 @@ revalue-requires c κs =
       p.2,
       p.3,
       p.4,
-      work_below (net r) s.counts.now p.0 p.2 s.moved s.crossed s.able s.timed s.heavy s.marks s.props.now p.5 p.6 p.7 p.8 p.9 p.10 w.without-tested.result w.without-tested.ensures
+      work_below (net r) s.counts.now p.0 p.2 s.moved s.crossed s.able s.tables.now.timed s.tables.now.heavy s.marks s.props.now p.5 p.6 p.7 p.8 p.9 p.10 w.without-tested.result w.without-tested.ensures
           t.retest-found.result t.retest-found.ensures.0 _ t.retest-found.ensures.1,
       t.retest-found.ensures.1.long ∙ p.10,
     )
@@ -58,9 +58,9 @@ remark-requires c κs =
     let p = r.requires in (
       p.0,
       p.2,
-      due_below (net r) s.counts.now p.0 p.2 s.moved s.crossed s.able s.timed s.heavy s.marks s.props.now p.5 p.6 p.7 p.8 p.9 p.10 c.without-tested.result c.without-tested.ensures
+      due_below (net r) s.counts.now p.0 p.2 s.moved s.crossed s.able s.tables.now.timed s.tables.now.heavy s.marks s.props.now p.5 p.6 p.7 p.8 p.9 p.10 c.without-tested.result c.without-tested.ensures
           c.retest-found.result c.retest-found.ensures.0 _ c.retest-found.ensures.1 _ c.revalue.ensures,
-      due_props (net r) s.counts.now p.0 p.2 s.moved s.crossed s.able s.timed s.heavy s.marks s.props.now p.5 p.6 p.7 p.8 p.9 p.10 c.without-tested.result c.without-tested.ensures
+      due_props (net r) s.counts.now p.0 p.2 s.moved s.crossed s.able s.tables.now.timed s.tables.now.heavy s.marks s.props.now p.5 p.6 p.7 p.8 p.9 p.10 c.without-tested.result c.without-tested.ensures
           c.retest-found.result c.retest-found.ensures.0 _ c.retest-found.ensures.1 _ c.revalue.ensures,
     )
 
@@ -73,7 +73,7 @@ returns c =
     let r = w in
     let s = r.args in
     let p = r.requires in
-    settled_all (net r) s.counts.now p.0 p.2 s.moved s.crossed s.able s.timed s.heavy s.marks s.props.now p.5 p.6 p.7 p.8 p.9 p.10 c.without-tested.result c.without-tested.ensures
+    settled_all (net r) s.counts.now p.0 p.2 s.moved s.crossed s.able s.tables.now.timed s.tables.now.heavy s.marks s.props.now p.5 p.6 p.7 p.8 p.9 p.10 c.without-tested.result c.without-tested.ensures
     c.retest-found.result c.retest-found.ensures.0 _ c.retest-found.ensures.1 _ c.revalue.ensures c.without-old.result c.remark-fresh.result c.without-old.ensures c.remark-fresh.ensures
 
 pub settle_spec : {M : Type 1} → statement M

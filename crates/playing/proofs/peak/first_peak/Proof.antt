@@ -4,15 +4,14 @@ use mathlib.Core.Path.{refl, sym, ◌∙◌}
 use mathlib.Core.Bool.{true≢false}
 use mathlib.Core.Logic.{inl, inr}
 use Rattle.net.specs.declared.Net.{Net as NetRecord}
-use Rattle.net.specs.Record.{lent}
+use Rattle.net.specs.Record.{net_of}
 use Rattle.playing.proofs.Raised.{none_starts, one_starts}
 use Rattle.playing.proofs.peak.first_peak.Statement.{statement}
 use Rattle.playing.proofs.peak.first_peak.Tie as tie
 
 abbrev net_at : tie.Start → NetRecord
 net_at s =
-    lent s.args.places s.args.transitions s.args.initial.now s.args.capacity.now s.args.rate.now s.args.delay.now
-    s.args.arcs.now s.args.kind.now s.args.place.now s.args.weight.now
+    net_of s.args.net.now
 
 returns : tie.Need-returns-then-many-most
 returns c = (inl (omega (arith, c.requires.4, c.if-many-most.true)), λ out xs. refl)

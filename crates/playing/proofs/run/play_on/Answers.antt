@@ -5,7 +5,7 @@ use lib.ListN.{length, drop}
 use lib.Ieee.{Float}
 use Rattle.net.specs.Net.{Marking}
 use Rattle.net.specs.Readable.{readable}
-use Rattle.net.specs.Record.{lent}
+use Rattle.net.specs.Record.{net_of}
 use Rattle.rules.specs.Shown.{last_of}
 use Rattle.rules.proofs.Play.{higher, play_within}
 use mathlib.Core.List.{List}
@@ -19,7 +19,7 @@ pub take_steps-w-requires : goal.take_steps-w-requires
 take_steps-w-requires c =
     let a = c in
     let s = a.args in
-    let net = lent s.places s.transitions s.initial.now s.capacity.now s.rate.now s.delay.now s.arcs.now s.kind.now s.place.now s.weight.now in (
+    let net = net_of s.net.now in (
       a.requires.0,
       a.requires.1,
       a.requires.2,
@@ -44,12 +44,12 @@ returns c =
     let a = c in
     let s = a.args in
     let w = c.take_steps-w in
-    let net = lent s.places s.transitions s.initial.now s.capacity.now s.rate.now s.delay.now s.arcs.now s.kind.now s.place.now s.weight.now in
+    let net = net_of s.net.now in
     let from = state_of net s.counts.now s.ats.now s.owners.now s.s.timers s.s.clock s.s.rng.s in
     let left = state_of net w.new.counts w.new.ats w.new.owners w.result.timers w.result.clock w.result.rng.s in
     played_by (higher s.s.peak (play_within (out_of s.halts) s.room (readable net) (last_of s.instants.now) s.steps (drop s.s.next s.instants.now) from))
-    s.places s.instants.now s.s.next s.table.now w.new.table c.finish.new.table left w.result a.requires.6 w.ensures.kept.1 w.result.end
+    s.net.now.places s.instants.now s.s.next s.table.now w.new.table c.finish.new.table left w.result a.requires.6 w.ensures.kept.1 w.result.end
     (subst (λ (l : Float). WalkBy (higher s.s.peak (play_within (out_of s.halts) s.room (readable net) l s.steps (drop s.s.next s.instants.now) from)) s.instants.now left
-    (λ (sh : List Marking). Listed s.places (length s.instants.now) s.s.next w.result.next sh s.table.now w.new.table) w.result w.result.end)
+    (λ (sh : List Marking). Listed s.net.now.places (length s.instants.now) s.s.next w.result.next sh s.table.now w.new.table) w.result w.result.end)
     (last_at s.instants.now a.requires.3) w.ensures.is)
     w.ensures.kept.2 c.finish.ensures

@@ -9,7 +9,7 @@ use Prim.Native.Nat.{ℕ, ◌≤◌}
 use lib.ListN.{length}
 use Rattle.net.specs.declared.Net.{Net as NetRecord}
 use Rattle.net.specs.Readable.{readable}
-use Rattle.net.specs.Record.{lent}
+use Rattle.net.specs.Record.{net_of}
 use Rattle.rules.specs.Propensity.{total}
 use Rattle.rules.specs.Step.{State}
 use Rattle.engine.specs.Engine.{marking, Totalled}
@@ -25,8 +25,7 @@ use Rattle.playing.proofs.step.advance.Tie as tie
 
 abbrev net : tie.Start → NetRecord
 net s =
-    lent s.args.places s.args.transitions s.args.initial.now s.args.capacity.now s.args.rate.now s.args.delay.now s.args.arcs.now
-    s.args.kind.now s.args.place.now s.args.weight.now
+    net_of s.args.net.now
 
 -- the state before
 abbrev from : tie.Start → State
@@ -105,7 +104,7 @@ start c = (begun c).before.before.before.before
 abbrev worked : tie.After-next_event-what → tie.After-refresh-fresh
 worked c = c.before.before.before.before.before.before
 
-carried : (c : tie.After-next_event-what) → Carried (net (start c)) (marking (start c).args.places (begun c).start_all-s.new.counts)
+carried : (c : tie.After-next_event-what) → Carried (net (start c)) (marking (start c).args.net.now.places (begun c).start_all-s.new.counts)
     (record { moved = 0; crossed = 0; able = (worked c).refresh-fresh.result.able; marks = (worked c).refresh-fresh.result.marks; a0 = (worked c).refresh-fresh.result.a0 })
     (worked c).refresh-fresh.new.props (worked c).refresh-fresh.new.sums
 carried c =

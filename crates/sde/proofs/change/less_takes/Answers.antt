@@ -17,7 +17,7 @@ loop-a-preserved c =
     let l = c in
     let s = l.args in (
       omega arith,
-      less_turn s.kind.now s.place.now s.weight.now l.loop-a.a s.end s.p l.loop-a.d c.loop-a-test.true c.less-d.result c.less-d.ensures
+      less_turn s.net.now.kind.now s.net.now.place.now s.net.now.weight.now l.loop-a.a s.end s.p l.loop-a.d c.loop-a-test.true c.less-d.result c.less-d.ensures
           ∙ l.loop-a.invariant.1,
     )
 
@@ -25,4 +25,4 @@ pub returns : goal.returns
 returns c =
     let l = c in
     let s = l.args in
-    less_end s.kind.now s.place.now s.weight.now l.loop-a.a s.end s.p l.loop-a.d c.loop-a-test.false ∙ l.loop-a.invariant.1
+    less_end s.net.now.kind.now s.net.now.place.now s.net.now.weight.now l.loop-a.a s.end s.p l.loop-a.d c.loop-a-test.false ∙ l.loop-a.invariant.1

@@ -1,6 +1,6 @@
 -- The net with the tables that are written reads as the net; it is lent without its labels. Assumes nothing.
 use borrow.Author.Rules.{rules}
-use Rattle.net.specs.Record.{labelled}
+use Rattle.net.specs.Record.{net_of}
 use Rattle.net.specs.declared.Net.{Net as NetRecord}
 use Rattle.net.proofs.Sound.{sound}
 use Rattle.rng.specs.State.{words}
@@ -12,8 +12,7 @@ use Rattle.ssa.proofs.accept.accepted_path.Tie as tie
 -- the net whose fields are lent
 abbrev net_at : tie.Start → NetRecord
 net_at s =
-    labelled s.args.places s.args.transitions s.args.initial.now s.args.capacity.now s.args.label.now s.args.lengths.now
-    s.args.rate.now s.args.delay.now s.args.arcs.now s.args.kind.now s.args.place.now s.args.weight.now
+    net_of s.args.net.now
 
 tidy-requires : tie.Need-tidy-requires
 tidy-requires c κs = search rules
@@ -31,7 +30,7 @@ returns : tie.Need-returns
 returns c =
     let t = c.before.before.before.before.before.before.before.before in
     let a = t.args in
-    same_run a.places (words a.generator.s) a.instants.now a.limit a.table.now t.tidy.ensures.reads c.lent_path.ensures
+    same_run a.net.now.places (words a.generator.s) a.instants.now a.limit a.table.now t.tidy.ensures.reads c.lent_path.ensures
 
 pub accepted_path_spec : {M : Type 1} → statement M
 accepted_path_spec =

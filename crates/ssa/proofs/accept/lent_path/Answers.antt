@@ -1,6 +1,6 @@
 -- The tables that the run asks for are those that the calls before it make. Assumes nothing.
 use mathlib.Core.Path.{◌∙◌}
-use Rattle.net.specs.Record.{lent}
+use Rattle.net.specs.Record.{net_of}
 use Rattle.engine.proofs.Lists.{initial_is}
 use Rattle.ssa.proofs.Accepted.{fitting}
 use Rattle.ssa.proofs.accept.lent_path.Goals as goal
@@ -14,7 +14,7 @@ play-requires c =
       s.requires.0,
       c.fill_tables-kinds.ensures.0,
       counts.1,
-      counts.0 ∙ initial_is (lent a.places a.transitions a.initial.now a.capacity.now a.rate.now a.delay.now a.arcs.now a.kind.now a.place.now a.weight.now),
+      counts.0 ∙ initial_is (net_of a.net.now),
       c.fill_tables-kinds.ensures.1,
       f.some_instant,
       f.few,

@@ -2,7 +2,7 @@
 use Prim.Native.Nat.{◌*◌}
 use lib.ListN.{length}
 use Rattle.net.specs.Readable.{readable}
-use Rattle.net.specs.Record.{lent}
+use Rattle.net.specs.Record.{net_of}
 use Rattle.ssa.specs.Summing.{drawn, paths_from}
 use Rattle.ssa.proofs.Summing.{cleared_once, stopped_call, finished_call}
 use Rattle.ssa.proofs.averaging.averaged.Goals as goal
@@ -13,7 +13,7 @@ sum_paths-s-requires c =
     let d = c.clear-2 in
     let s = c in
     let a = s.args in
-    let cells = a.places * length a.instants.now in (
+    let cells = a.net.now.places * length a.instants.now in (
       s.requires.0,
       s.requires.1,
       s.requires.4,
@@ -27,8 +27,8 @@ returns-in-Stopped c =
     let m = c.clear in
     let d = c.clear-2 in
     let a = c.args in
-    let net = readable (lent a.places a.transitions a.initial.now a.capacity.now a.rate.now a.delay.now a.arcs.now a.kind.now a.place.now a.weight.now) in
-    stopped_call (paths_from (drawn net a.seed a.instants.now a.steps) 0 a.realizations) a.places (length a.instants.now) a.realizations a.mean.now a.deviation.now a.path.now
+    let net = readable (net_of a.net.now) in
+    stopped_call (paths_from (drawn net a.seed a.instants.now a.steps) 0 a.realizations) a.net.now.places (length a.instants.now) a.realizations a.mean.now a.deviation.now a.path.now
     m.new.table d.new.table p.new.mean p.new.deviation p.new.path m.ensures d.ensures
     _ _ c.clear-in-Stopped.new.table c.clear-in-Stopped-2.new.table p.result c.in-Stopped.is p.ensures c.clear-in-Stopped.ensures c.clear-in-Stopped-2.ensures
 
@@ -40,7 +40,7 @@ returns-in-Done c =
     let d = c.clear-2 in
     let s = c in
     let a = s.args in
-    let net = readable (lent a.places a.transitions a.initial.now a.capacity.now a.rate.now a.delay.now a.arcs.now a.kind.now a.place.now a.weight.now) in
-    finished_call (paths_from (drawn net a.seed a.instants.now a.steps) 0 a.realizations) a.places (length a.instants.now) a.realizations a.mean.now a.deviation.now a.path.now
+    let net = readable (net_of a.net.now) in
+    finished_call (paths_from (drawn net a.seed a.instants.now a.steps) 0 a.realizations) a.net.now.places (length a.instants.now) a.realizations a.mean.now a.deviation.now a.path.now
     m.new.table d.new.table p.new.mean p.new.deviation p.new.path m.ensures d.ensures
     _ f.result f.new.mean f.new.deviation p.result c.in-Done.is s.requires.3 p.ensures f.ensures.0 f.ensures.1 f.ensures.2

@@ -9,7 +9,7 @@ use lib.ListN.{length, take, replicate, length-replicate}
 use lib.Ieee.{Float}
 use Rattle.net.specs.Net.{zero64}
 use Rattle.net.specs.Readable.{readable}
-use Rattle.net.specs.Record.{lent}
+use Rattle.net.specs.Record.{net_of}
 use Rattle.averages.specs.Request.{Request}
 use Rattle.averages.proofs.Passes.{passing}
 use Rattle.ssa.proofs.Requested.{grid_room, grid_is, grid_many, grid_passes, asked}
@@ -86,8 +86,8 @@ returns c =
     let a = s.args in
     let i = c.interval in
     let g = c.fill_grid in
-    let net = readable (lent a.places a.transitions a.initial.now a.capacity.now a.rate.now a.delay.now a.arcs.now a.kind.now a.place.now a.weight.now) in
-    asked net (wanted s) (take a.samples g.new.instants) a.places (record { mean = a.mean.now; deviation = a.deviation.now; path = a.path.now })
+    let net = readable (net_of a.net.now) in
+    asked net (wanted s) (take a.samples g.new.instants) a.net.now.places (record { mean = a.mean.now; deviation = a.deviation.now; path = a.path.now })
     (grid_is (wanted s) i.result blank g.new.instants i.ensures g.ensures (long s)) c.averaged.ensures
 
 pub lent_ensemble_spec : {M : Type 1} → statement M

@@ -7,7 +7,7 @@ use native.Mathlib.Omega.{arith}
 use lib.ListN.{length}
 use Rattle.net.specs.declared.Net.{Net as NetRecord}
 use Rattle.net.specs.Readable.{readable}
-use Rattle.net.specs.Record.{labelled}
+use Rattle.net.specs.Record.{net_of}
 use Rattle.net.proofs.Sound.{sound}
 use Rattle.rules.specs.Step.{State}
 use Rattle.rules.specs.Carried.{Carried}
@@ -26,8 +26,7 @@ use Rattle.ssa.proofs.change.accepted_carry.Tie as tie
 -- the net whose fields are lent, the list, and the path of the rules by its new numbers
 abbrev net_at : tie.Start → NetRecord
 net_at s =
-    labelled s.args.places s.args.transitions s.args.initial.now s.args.capacity.now s.args.label.now s.args.lengths.now
-    s.args.rate.now s.args.delay.now s.args.arcs.now s.args.kind.now s.args.place.now s.args.weight.now
+    net_of s.args.net.now
 
 abbrev pairs_at : tie.Start → List Pair
 pairs_at s = pairs_of s.args.pairs.now
@@ -35,7 +34,7 @@ pairs_at s = pairs_of s.args.pairs.now
 abbrev moved_at : tie.Start → Carried
 moved_at s =
     let a = s.args in
-    renamed (pairs_at s) (carried_from a.places (standing_of a.places a.path) a.instants.now a.table.now)
+    renamed (pairs_at s) (carried_from a.net.now.places (standing_of a.net.now.places a.path) a.instants.now a.table.now)
 
 -- the start, from the names, from the timers in the ring, from the counts and from before the run
 abbrev start1 : tie.After-names_of-names → tie.Start
@@ -51,10 +50,10 @@ abbrev counted : tie.After-resume-arg-1 → tie.After-first_counts-counts
 counted c = c.before.before.before.before.before.before.before.before.before.before
 
 -- what the path brings
-brings : (s : tie.Start) → Carries s.args.places s.args.path s.args.instants.now s.args.table.now
+brings : (s : tie.Start) → Carries s.args.net.now.places s.args.path s.args.instants.now s.args.table.now
 brings s =
     let a = s.args in
-    brought (net_at s) s.requires.0 a.places (pairs_at s) a.path a.instants.now a.table.now s.requires.1
+    brought (net_at s) s.requires.0 a.net.now.places (pairs_at s) a.path a.instants.now a.table.now s.requires.1
 
 -- the array of its counts is 32 long
 long : (s : tie.Start) → length s.args.path.counts ≡ 32
@@ -69,7 +68,7 @@ timers_are c =
     let s = start2 c in
     let a = s.args in
     c.hand_in-ring.ensures.list
-    ∙ renamed_queue (net_at s) s.requires.0 a.places (pairs_at s) a.path a.instants.now a.table.now s.requires.1 m.result m.ensures
+    ∙ renamed_queue (net_at s) s.requires.0 a.net.now.places (pairs_at s) a.path a.instants.now a.table.now s.requires.1 m.result m.ensures
     w.result w.ensures
 
 -- the state that the run begins with
@@ -87,7 +86,7 @@ now_is c =
     let s = start3 c in
     let a = s.args in
     now_same (brings s) (pairs_at s) k.result i.new.ats i.new.owners i.result (timers_are h)
-    (counts_same a.places a.path.counts k.result (omega (arith, long s, (sound (net_at s) s.requires.0).places)) k.ensures.0)
+    (counts_same a.net.now.places a.path.counts k.result (omega (arith, long s, (sound (net_at s) s.requires.0).places)) k.ensures.0)
     a.path.generator.s
 
 names-of-requires : tie.Need-names_of-names-requires
@@ -100,7 +99,7 @@ new-numbers-requires c κs =
     let s = start1 m in
     let a = s.args in (
       (brings s).few,
-      below (net_at s) s.requires.0 a.places (pairs_at s) a.path a.instants.now a.table.now s.requires.1 w.result w.ensures,
+      below (net_at s) s.requires.0 a.net.now.places (pairs_at s) a.path a.instants.now a.table.now s.requires.1 w.result w.ensures,
     )
 
 hand-in-requires : tie.Need-hand_in-ring-requires
@@ -122,7 +121,7 @@ add-resume : tie.Need-overflow_add-s
 add-resume c =
     let k = c.before.before.before.before.before in
     let s = start3 k in
-    let few = sum_few s.args.places k.first_counts-counts.result k.first_counts-counts.ensures.1.small in
+    let few = sum_few s.args.net.now.places k.first_counts-counts.result k.first_counts-counts.ensures.1.small in
     record { fits = omega (arith, c.sum.ensures, few, (sound (net_at s) s.requires.0).places, c.taken.ensures.0) }
 
 sub-left : tie.Need-overflow_sub-left
@@ -166,8 +165,8 @@ returns c =
     let k = counted r.before in
     let s = start3 k in
     let a = s.args in
-    c.turned_down.ensures a.places _
-    ∙ continued_refused (readable (net_at s)) a.places (pairs_at s) a.path a.instants.now a.table.now a.named (rest_rises (brings s))
+    c.turned_down.ensures a.net.now.places _
+    ∙ continued_refused (readable (net_at s)) a.net.now.places (pairs_at s) a.path a.instants.now a.table.now a.named (rest_rises (brings s))
     (now_is k) refl r.fewer.ensures r.resume-w.ensures c.in-Refused.is
 
 handed-requires : tie.Need-handed-requires
@@ -179,7 +178,7 @@ handed-requires c κs =
     let m = r.fewer.ensures in
     let b = brings s in
     let few =
-    few_steps (readable (net_at s)) a.places (pairs_at s) a.path a.instants.now a.table.now a.named (rest_rises b)
+    few_steps (readable (net_at s)) a.net.now.places (pairs_at s) a.path a.instants.now a.table.now a.named (rest_rises b)
     (now_is k) refl m r.resume-w.ensures (not_refused r.resume-w.result.end c.in_default.in_default-own.keys2) in
     (omega (arith, few, m, b.steps, b.limit), omega (arith, few, m, b.steps, b.limit, b.rounded))
 
@@ -193,9 +192,9 @@ returns-2 c =
     let k = counted r.before in
     let s = start3 k in
     let a = s.args in
-    continued_to (readable (net_at s)) a.places (pairs_at s) a.path a.instants.now a.table.now a.named (rest_rises (brings s))
+    continued_to (readable (net_at s)) a.net.now.places (pairs_at s) a.path a.instants.now a.table.now a.named (rest_rises (brings s))
     (now_is k) refl r.fewer.ensures r.resume-w.ensures (not_refused r.resume-w.result.end c.in_default.in_default-own.keys2)
-    h.result h.ensures.0 h.ensures.1 (h.ensures.2 a.places)
+    h.result h.ensures.0 h.ensures.1 (h.ensures.2 a.net.now.places)
 
 pub accepted_carry_spec : {M : Type 1} → statement M
 accepted_carry_spec =

@@ -11,7 +11,7 @@ use lib.ListN.{length}
 use Rattle.net.specs.declared.Net.{Net as NetRecord}
 use Rattle.net.specs.Net.{Net}
 use Rattle.net.specs.Readable.{readable}
-use Rattle.net.specs.Record.{labelled}
+use Rattle.net.specs.Record.{net_of}
 use Rattle.net.specs.Tests.{any}
 use Rattle.net.proofs.Lengths.{places_length, transitions_length}
 use Rattle.net.proofs.Sound.{sound}
@@ -27,8 +27,7 @@ use Rattle.ssa.proofs.change.list_fault.Tie as tie
 -- the net whose fields are lent
 abbrev net_at : tie.Start → NetRecord
 net_at s =
-    labelled s.args.places s.args.transitions s.args.initial.now s.args.capacity.now s.args.label.now s.args.lengths.now
-    s.args.rate.now s.args.delay.now s.args.arcs.now s.args.kind.now s.args.place.now s.args.weight.now
+    net_of s.args.net.now
 
 -- whether 22 meets one of these timers
 abbrev wrong_in : tie.Start → List Timer → Bool

@@ -3,7 +3,7 @@ use borrow.Author.Rules.{rules}
 use mathlib.Core.Path.{sym, ap, ◌∙◌}
 use mathlib.Core.Bool.{not}
 use Rattle.net.specs.declared.Net.{Net as NetRecord}
-use Rattle.net.specs.Record.{labelled}
+use Rattle.net.specs.Record.{net_of}
 use Rattle.net.proofs.Sound.{sound}
 use Rattle.carried.specs.Timers.{timers_in}
 use Rattle.ssa.proofs.Changed.{sent_by_word}
@@ -13,8 +13,7 @@ use Rattle.ssa.proofs.change.timers_fit.Tie as tie
 -- the net whose fields are lent
 abbrev net_at : tie.Start → NetRecord
 net_at s =
-    labelled s.args.places s.args.transitions s.args.initial.now s.args.capacity.now s.args.label.now s.args.lengths.now
-    s.args.rate.now s.args.delay.now s.args.arcs.now s.args.kind.now s.args.place.now s.args.weight.now
+    net_of s.args.net.now
 
 timed-word-requires : tie.Need-timed_word-delayed-requires
 timed-word-requires c κs = (sound (net_at c) c.requires.0).transitions

@@ -4,7 +4,7 @@ use native.Mathlib.Omega.{arith}
 use mathlib.Core.Path.{refl}
 use lib.ListN.{length}
 use Rattle.net.specs.Readable.{readable}
-use Rattle.net.specs.Record.{lent}
+use Rattle.net.specs.Record.{net_of}
 use Rattle.rng.specs.Splitmix.{seeded}
 use Rattle.averages.specs.Request.{seed_of}
 use Rattle.ssa.specs.Summing.{drawn}
@@ -17,9 +17,9 @@ pub returns-in-Refused : goal.returns-in-Refused
 returns-in-Refused c =
     let p = c.one_path-r in
     let a = c.args in
-    let net = readable (lent a.places a.transitions a.initial.now a.capacity.now a.rate.now a.delay.now a.arcs.now a.kind.now a.place.now a.weight.now) in
+    let net = readable (net_of a.net.now) in
     let xs = a.instants.now in
-    turn_stops a.places (length xs) a.spent (seeded (seed_of a.seed a.k)) a.mean.now a.mean.now a.deviation.now a.deviation.now a.path.now p.new.path p.result
+    turn_stops a.net.now.places (length xs) a.spent (seeded (seed_of a.seed a.k)) a.mean.now a.mean.now a.deviation.now a.deviation.now a.path.now p.new.path p.result
     c.in-Refused.c (drawn net a.seed xs a.steps a.k) p.ensures c.in-Refused.is refl refl
 
 pub overflow_mul-cells : goal.overflow_mul-cells
@@ -36,7 +36,7 @@ returns c =
     let m = c.add in
     let d = c.add_squares in
     let a = c.before.before.args in
-    let net = readable (lent a.places a.transitions a.initial.now a.capacity.now a.rate.now a.delay.now a.arcs.now a.kind.now a.place.now a.weight.now) in
+    let net = readable (net_of a.net.now) in
     let xs = a.instants.now in
-    turn_goes a.places (length xs) a.spent (seeded (seed_of a.seed a.k)) a.mean.now m.new.sums a.deviation.now d.new.squares a.path.now p.new.path p.result
+    turn_goes a.net.now.places (length xs) a.spent (seeded (seed_of a.seed a.k)) a.mean.now m.new.sums a.deviation.now d.new.squares a.path.now p.new.path p.result
     c.one_if_spent.result _ (drawn net a.seed xs a.steps a.k) p.ensures (not_refused p.result.end (opened c.in_default.in_default-own.keys2)) c.one_if_spent.ensures refl m.ensures d.ensures

@@ -1,7 +1,7 @@
 -- The tables that the run asks for are lent, the counts are made here, and the generator is that of the path's own seed. Assumes nothing.
 use mathlib.Core.Path.{ap, ◌∙◌}
 use Rattle.net.specs.Readable.{readable}
-use Rattle.net.specs.Record.{lent}
+use Rattle.net.specs.Record.{lent, net_of}
 use Rattle.rng.specs.State.{words}
 use Rattle.rng.specs.Splitmix.{seeded}
 use Rattle.engine.proofs.Lists.{initial_is}
@@ -19,7 +19,7 @@ play-requires c =
       l.tidy,
       l.limits,
       counts.1,
-      counts.0 ∙ initial_is (lent a.places a.transitions a.initial.now a.capacity.now a.rate.now a.delay.now a.arcs.now a.kind.now a.place.now a.weight.now),
+      counts.0 ∙ initial_is (net_of a.net.now),
       l.tables,
       f.some_instant,
       f.few,
@@ -30,6 +30,6 @@ play-requires c =
 pub returns : goal.returns
 returns c =
     let a = c.args in
-    let net = readable (lent a.places a.transitions a.initial.now a.capacity.now a.rate.now a.delay.now a.arcs.now a.kind.now a.place.now a.weight.now) in
-    own_path net a.seed a.k a.places a.instants.now a.path.now (words c.new-rng.result.s) a.steps c.play.ensures
+    let net = readable (net_of a.net.now) in
+    own_path net a.seed a.k a.net.now.places a.instants.now a.path.now (words c.new-rng.result.s) a.steps c.play.ensures
     (c.new-rng.ensures ∙ ap seeded c.seed_of.ensures)

@@ -2,7 +2,7 @@
 use native.Mathlib.Omega.{arith}
 use lib.ListN.{length}
 use Rattle.net.specs.Readable.{readable}
-use Rattle.net.specs.Record.{lent}
+use Rattle.net.specs.Record.{net_of}
 use Rattle.ssa.specs.Summing.{drawn}
 use Rattle.ssa.proofs.Summing.{drawn_count, none_added, one_added, one_refused, all_added}
 use Rattle.ssa.proofs.members.sum_paths.Goals as goal
@@ -11,8 +11,8 @@ pub loop-k-init : goal.loop-k-init
 loop-k-init c =
     let s = c in
     let a = s.args in
-    let net = readable (lent a.places a.transitions a.initial.now a.capacity.now a.rate.now a.delay.now a.arcs.now a.kind.now a.place.now a.weight.now) in
-    none_added (drawn net a.seed a.instants.now a.steps) a.places (length a.instants.now) a.realizations a.mean.now a.deviation.now a.path.now s.requires.3 s.requires.4
+    let net = readable (net_of a.net.now) in
+    none_added (drawn net a.seed a.instants.now a.steps) a.net.now.places (length a.instants.now) a.realizations a.mean.now a.deviation.now a.path.now s.requires.3 s.requires.4
 
 pub member_turn-t-requires : goal.member_turn-t-requires
 member_turn-t-requires c =
@@ -25,8 +25,8 @@ returns-in-Stopped c =
     let t = c.member_turn-t in
     let l = c.loop-k in
     let a = c.args in
-    let net = readable (lent a.places a.transitions a.initial.now a.capacity.now a.rate.now a.delay.now a.arcs.now a.kind.now a.place.now a.weight.now) in
-    one_refused (drawn net a.seed a.instants.now a.steps) a.places (length a.instants.now) a.realizations a.mean.now a.deviation.now a.path.now
+    let net = readable (net_of a.net.now) in
+    one_refused (drawn net a.seed a.instants.now a.steps) a.net.now.places (length a.instants.now) a.realizations a.mean.now a.deviation.now a.path.now
     l.k l.spent l.mean l.deviation l.path l.invariant c.loop-k-test.true
     c.in-Stopped.c t.new.mean t.new.deviation t.new.path t.result c.in-Stopped.is t.ensures
 
@@ -39,8 +39,8 @@ loop-k-preserved c =
     let l = c.loop-k in
     let s = c in
     let a = s.args in
-    let net = readable (lent a.places a.transitions a.initial.now a.capacity.now a.rate.now a.delay.now a.arcs.now a.kind.now a.place.now a.weight.now) in
-    one_added (drawn net a.seed a.instants.now a.steps) a.places (length a.instants.now) a.realizations a.mean.now a.deviation.now a.path.now
+    let net = readable (net_of a.net.now) in
+    one_added (drawn net a.seed a.instants.now a.steps) a.net.now.places (length a.instants.now) a.realizations a.mean.now a.deviation.now a.path.now
     l.k l.spent l.mean l.deviation l.path l.invariant c.loop-k-test.true
     c.in-Went.s t.new.mean t.new.deviation t.new.path s.requires.2 (drawn_count net a.seed a.instants.now a.steps l.k) t.result c.in-Went.is t.ensures
 
@@ -48,6 +48,6 @@ pub returns : goal.returns
 returns c =
     let l = c.loop-k in
     let a = c.args in
-    let net = readable (lent a.places a.transitions a.initial.now a.capacity.now a.rate.now a.delay.now a.arcs.now a.kind.now a.place.now a.weight.now) in
-    all_added (drawn net a.seed a.instants.now a.steps) a.places (length a.instants.now) a.realizations a.mean.now a.deviation.now a.path.now
+    let net = readable (net_of a.net.now) in
+    all_added (drawn net a.seed a.instants.now a.steps) a.net.now.places (length a.instants.now) a.realizations a.mean.now a.deviation.now a.path.now
     l.k l.spent l.mean l.deviation l.path l.invariant c.loop-k-test.false

@@ -10,7 +10,7 @@ use lib.ListN.{replicate}
 use lib.Ieee.{of_bits, eq, lt, le}
 use Rattle.net.specs.Net.{zero64}
 use Rattle.net.specs.Tests.{any}
-use Rattle.net.specs.Record.{labelled}
+use Rattle.net.specs.Record.{net_of}
 use Rattle.net.specs.Readable.{readable}
 use Rattle.net.specs.declared.Net.{Net as NetRecord}
 use Rattle.net.proofs.Sound.{sound}
@@ -39,8 +39,7 @@ use Rattle.ssa.proofs.until.accepted_until.Tie as tie
 -- the net whose fields are lent
 abbrev net_at : tie.Start → NetRecord
 net_at s =
-    labelled s.args.places s.args.transitions s.args.initial.now s.args.capacity.now s.args.label.now s.args.lengths.now
-    s.args.rate.now s.args.delay.now s.args.arcs.now s.args.kind.now s.args.place.now s.args.weight.now
+    net_of s.args.net.now
 
 zero_time : time_fits zero64 ≡ true
 unfolding le lt eq of_bits
@@ -67,7 +66,7 @@ module _ (b : tie.After-begin-s) where
         times_fit = ap (any (λ (x : Timer). not (time_fits x.at))) none;
       }
 
-  same : marking at.args.places counts ≡ initial_counts (readable (net_at at))
+  same : marking at.args.net.now.places counts ≡ initial_counts (readable (net_at at))
   same = b.first_counts-counts.ensures.0 ∙ initial_is (net_at at)
 
   most : b.begin-s.result.peak ≡ tokens (start (readable (net_at at)))
@@ -121,10 +120,10 @@ returns c =
     let b = r.before.before.before.before.before.before.before.before in
     let s = at b in
     let a = s.args in
-    c.refused.ensures a.places r.resume-w.new.table
-    ∙ sym (refused_first a.places (readable (net_at s)) (words a.generator.s) a.instants.now a.limit a.named
+    c.refused.ensures a.net.now.places r.resume-w.new.table
+    ∙ sym (refused_first a.net.now.places (readable (net_at s)) (words a.generator.s) a.instants.now a.limit a.named
     (rises zero64 a.instants.now (fitting a.instants.now s.requires.1).risen) (same b) b.begin-s.ensures.0 s.requires.3 (most b) (first b)
-    refl r.fewer.ensures (unbegun a.places (words a.generator.s)) c.in-Refused.is r.resume-w.ensures)
+    refl r.fewer.ensures (unbegun a.net.now.places (words a.generator.s)) c.in-Refused.is r.resume-w.ensures)
 
 handed-requires : tie.Need-handed-requires
 handed-requires c κs = search rules
@@ -143,10 +142,10 @@ returns-2 c =
     let a = s.args in
     let h = c.handed.ensures in
     let table = r.resume-w.new.table in
-    (λ i. record { end = end_of (h.0 i); settled = h.1 i; state = h.2 a.places i; table = table })
-    ∙ sym (played_first a.places (readable (net_at s)) (words a.generator.s) a.instants.now a.limit a.named
+    (λ i. record { end = end_of (h.0 i); settled = h.1 i; state = h.2 a.net.now.places i; table = table })
+    ∙ sym (played_first a.net.now.places (readable (net_at s)) (words a.generator.s) a.instants.now a.limit a.named
     (rises zero64 a.instants.now (fitting a.instants.now s.requires.1).risen) (same b) b.begin-s.ensures.0 s.requires.3 (most b) (first b)
-    refl r.fewer.ensures (unbegun a.places (words a.generator.s))
+    refl r.fewer.ensures (unbegun a.net.now.places (words a.generator.s))
     (not_refused r.resume-w.result.end c.in_default.in_default-own.keys2) r.resume-w.ensures)
 
 pub accepted_until_spec : {M : Type 1} → statement M

@@ -2,7 +2,7 @@
 use borrow.Author.Rules.{rules}
 use mathlib.Core.Path.{sym, ap, subst}
 use lib.ListN.{drop}
-use Rattle.net.specs.Record.{labelled}
+use Rattle.net.specs.Record.{net_of}
 use Rattle.net.specs.Net.{Net}
 use Rattle.net.specs.declared.Net.{Net as NetRecord}
 use Rattle.rules.specs.Gillespie.{Accepted}
@@ -19,8 +19,7 @@ use Rattle.ssa.proofs.until.resume.Tie as tie
 -- the net whose fields are lent
 abbrev net_at : tie.Start → NetRecord
 net_at s =
-    labelled s.args.places s.args.transitions s.args.initial.now s.args.capacity.now s.args.label.now s.args.lengths.now
-    s.args.rate.now s.args.delay.now s.args.arcs.now s.args.kind.now s.args.place.now s.args.weight.now
+    net_of s.args.net.now
 
 tidy-requires : tie.Need-tidy-requires
 tidy-requires c κs = search rules
