@@ -1,19 +1,18 @@
 -- The laws of one arc. The forms of the arcs, seen through 64 bits, are the forms of the scanner (take-seen, plain-seen); and the words of the arcs
 -- differ in their second byte, so that at most one of the four is met. Assumes nothing.
-use Prim.Native.Nat.{ℕ, ◌+◌, ◌-◌, ◌^◌}
+use Prim.Native.Nat.{ℕ, ◌-◌, ◌^◌}
 use Prim.Native.String.{String}
 use mathlib.Core.Path.{◌≡◌, refl, sym, ap, ◌∙◌}
 use mathlib.Core.Bool.{Bool, true, false, ◌||◌}
 use mathlib.Core.List.{[], ◌∷◌}
 use native.Mathlib.Omega.{arith, min_cases}
 use lib.Dec.{eqb, ltb}
-use lib.ListN.{drop}
 use borrow.Author.Tests.{eqb-true, ne_eqb, lt-ltb}
 use Rattle.net.specs.Net.{pick}
 use Rattle.text.specs.Text.{Bytes, bytes}
 use Rattle.net_text.specs.Forms.{Met, wrong, met, Form, say, behind, instead, ◌or◌, ◌>>=◌, ◌>>◌, exactly, quoted, Decimal, decimal, RawArc, raw_take, raw_put, raw_read, raw_block, take_form, arc_form, next_arc}
 use Rattle.net_text.specs.Reading.{badly}
-use Rattle.net_text.specs.Scanned.{through, held, seen, number, pair_of, pair_form, SeenArc, slot_with, seen_arc, take_kind, take_arc, plain_arc}
+use Rattle.net_text.specs.Scanned.{through, held, seen, number, pair_of, pair_form, SeenArc, slot_with, seen_arc, take_arc, plain_arc}
 use Rattle.net_text.specs.declared.scan.Number.{Number}
 use Rattle.net_text.specs.declared.scan.Pair.{Pair}
 
@@ -169,14 +168,6 @@ module _ (u : Bytes) where
       ∙ no_arc "(block " raw_block (other_word 40 116 98 (bytes "ake ") (bytes "lock ") u v refl e) in
       ap (through seen_arc) (first_of take_form (put or reading or block) none ∙ a_take v e) ∙ take_seen v
 
-  pub is_put_lem : (v : Bytes) → exactly (bytes "(take ") u ≡ wrong → exactly (bytes "(put ") u ≡ met tt v → through seen_arc (any_arc u) ≡ plain_arc 2 v
-  is_put_lem v t e =
-      let none : (reading or block) u ≡ wrong =
-      second_of reading block (no_arc "(read " raw_read (other_word 40 112 114 (bytes "ut ") (bytes "ead ") u v refl e))
-      ∙ no_arc "(block " raw_block (other_word 40 112 98 (bytes "ut ") (bytes "lock ") u v refl e) in
-      ap (through seen_arc) (second_of take_form (put or reading or block) (no_take t) ∙ first_of put (reading or block) none ∙ an_arc "(put " raw_put v e)
-      ∙ plain_seen 2 raw_put (λ p w. refl) v
-
   pub is_read : (v : Bytes) → exactly (bytes "(take ") u ≡ wrong → exactly (bytes "(put ") u ≡ wrong → exactly (bytes "(read ") u ≡ met tt v
       → through seen_arc (any_arc u) ≡ plain_arc 3 v
   is_read v t p e =
@@ -187,20 +178,6 @@ module _ (u : Bytes) where
       ∙ first_of reading block none
       ∙ an_arc "(read " raw_read v e)
       ∙ plain_seen 3 raw_read (λ p w. refl) v
-
-  last_of : exactly (bytes "(take ") u ≡ wrong → exactly (bytes "(put ") u ≡ wrong → exactly (bytes "(read ") u ≡ wrong → any_arc u ≡ block u
-  last_of t p r =
-      second_of take_form (put or reading or block) (no_take t)
-      ∙ second_of put (reading or block) (no_arc "(put " raw_put p)
-      ∙ second_of reading block (no_arc "(read " raw_read r)
-
-  pub is_block : (v : Bytes) → exactly (bytes "(take ") u ≡ wrong → exactly (bytes "(put ") u ≡ wrong → exactly (bytes "(read ") u ≡ wrong
-      → exactly (bytes "(block ") u ≡ met tt v → through seen_arc (any_arc u) ≡ plain_arc 4 v
-  is_block v t p r e = ap (through seen_arc) (last_of t p r ∙ an_arc "(block " raw_block v e) ∙ plain_seen 4 raw_block (λ p w. refl) v
-
-  pub is_none : exactly (bytes "(take ") u ≡ wrong → exactly (bytes "(put ") u ≡ wrong → exactly (bytes "(read ") u ≡ wrong
-      → exactly (bytes "(block ") u ≡ wrong → through seen_arc (any_arc u) ≡ wrong
-  is_none t p r b = ap (through seen_arc) (last_of t p r ∙ no_arc "(block " raw_block b)
 
 -- the space in front of an arc
 pub spaced_arc : (l left : Bytes) → exactly (bytes " ") l ≡ met tt left → through seen_arc (next_arc l) ≡ through seen_arc (any_arc left)

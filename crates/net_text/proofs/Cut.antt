@@ -1,19 +1,17 @@
 -- The text cut where the reader cuts it: a line and its newline in front, or no newline at all; and what each gives. Assumes nothing.
-use Prim.Native.Nat.{ℕ, zero, suc, ◌+◌, ◌-◌, ◌≤◌, ◌<◌}
-use mathlib.Core.Path.{◌≡◌, refl, sym, ap, ◌∙◌}
+use Prim.Native.Nat.{ℕ, suc, ◌+◌, ◌-◌, ◌≤◌, ◌<◌}
+use mathlib.Core.Path.{◌≡◌, refl, sym}
 use mathlib.Core.Bool.{Bool, true, false, not, cond}
 use mathlib.Core.List.{[], ◌∷◌}
 use native.Mathlib.Omega.{arith}
-use native.Mathlib.Numerals.{add-one}
 use lib.Dec.{eqb, ltb}
-use lib.ListN.{length, get_or, take, drop, length-drop}
+use lib.ListN.{length, take, drop, length-drop}
 use lib.Seq.{take_all}
-use borrow.Author.Tests.{ltb-true, ltb-false, eqb-true, eqb-false, ne_eqb, eq-eqb}
+use borrow.Author.Tests.{ltb-true, ltb-false}
 use Rattle.std.proofs.Common.{Option, Some, None, position}
 use Rattle.std.specs.List.{position_or_len}
-use Rattle.net.specs.Net.{pick}
 use Rattle.text.specs.Text.{Bytes, newline}
-use Rattle.net_text.specs.Lines.{Lines, lines, empty_line, longer}
+use Rattle.net_text.specs.Lines.{lines}
 
 -- ---- the end of a line
 

@@ -10,12 +10,11 @@ use lib.ListN.{length, get_or, take, drop}
 use lib.Seq.{drop-cons, drop-length}
 use borrow.Author.Tests.{le-leb, lt-leb, leb-true, ltb-false}
 use Rattle.std.proofs.Common.{Option, Some, None, position}
-use Rattle.std.specs.List.{position_or_len, prefix_len}
+use Rattle.std.specs.List.{position_or_len}
 use Rattle.std.specs.Option.{unwrap_or, is_some}
-use Rattle.std.proofs.lemmas.List.Sums.{prefix_len-le-length}
 use Rattle.net.specs.Net.{pick}
 use Rattle.text.specs.Text.{Bytes}
-use Rattle.net_text.specs.Forms.{wrong, met, is_digit_byte, digits, after_digits, value_from, zero_leads, some_digits, decimal}
+use Rattle.net_text.specs.Forms.{wrong, met, is_digit_byte, digits, after_digits, value_from, zero_leads, some_digits}
 use Rattle.net_text.specs.Scanned.{through, seen, held, number, Kept}
 
 -- ---- the run of digits

@@ -1,11 +1,8 @@
--- The laws of forms: what a form says behind another, and of one byte and the bytes behind it. Assumes nothing.
-use Prim.Native.Nat.{ℕ, suc, ◌+◌, ◌≤◌, ◌<◌}
+-- A word stands in front of a line, or it does not. Assumes nothing.
 use mathlib.Core.Path.{◌≡◌, refl, sym, ap, ap₂, ◌∙◌}
 use mathlib.Core.Bool.{Bool, true, false}
 use mathlib.Core.List.{[], ◌∷◌, ◌++◌}
-use native.Mathlib.Omega.{arith}
 use lib.Dec.{eqb}
-use lib.ListN.{length}
 use borrow.Author.Tests.{eq-eqb, eqb-true}
 use Rattle.std.proofs.Common.{◌≢◌, MatchOption, Option, Some, None, Bor}
 use Rattle.net.specs.Net.{pick}
@@ -15,15 +12,8 @@ use Rattle.net_text.specs.Scanned.{passed}
 
 -- ---- one form behind another
 
-pub behind_met : {A B : Type 0} (m : Met A) (g : A → Form B) (a : A) (t : Bytes) → m ≡ met a t → behind m g ≡ g a t
-behind_met m g a t e = rw e
-
 pub behind_wrong : {A B : Type 0} (m : Met A) (g : A → Form B) → m ≡ wrong → behind m g ≡ wrong
 behind_wrong m g e = rw e
-
-pub behind_assoc : {A B C : Type 0} (m : Met A) (f : A → Form B) (g : B → Form C) → behind m (λ a t. behind (f a t) g) ≡ behind (behind m f) g
-behind_assoc wrong f g = refl
-behind_assoc (met a t) f g = refl
 
 -- ---- words
 

@@ -9,8 +9,8 @@ use native.Mathlib.Omega.{arith}
 use native.Mathlib.Numerals.{add-one}
 use lib.Dec.{eqb, leb}
 use lib.ListN.{length, get_or, take, drop, set, length-drop, take-append-drop}
-use lib.Seq.{get_or-set_same, get_or-set_other, length-take-le, take-append-le, drop-append-le, take_at, drop_at, drop-length}
-use borrow.Author.Tests.{le-leb, lt-leb, leb-true, eq-eqb, eqb-true}
+use lib.Seq.{get_or-set_same, get_or-set_other, length-take-le, take-append-le, drop-append-le, take_at, drop_at}
+use borrow.Author.Tests.{le-leb, lt-leb, leb-true, eqb-true}
 use Rattle.std.proofs.Common.{◌≢◌}
 use Rattle.net.specs.Net.{pick, numbered}
 use Rattle.net.specs.Tests.{first_of}

@@ -1,6 +1,6 @@
 -- A whole line: the form that is met says what it is, and what is left behind it must be nothing. Assumes nothing.
 use Prim.Native.Nat.{ℕ}
-use mathlib.Core.Path.{◌≡◌, refl, sym, ◌∙◌}
+use mathlib.Core.Path.{◌≡◌, refl, sym}
 use mathlib.Core.Bool.{Bool, true, false}
 use mathlib.Core.List.{[], ◌∷◌}
 use mathlib.Core.Option.{none, some}
@@ -51,9 +51,6 @@ module _ (l : Bytes) (a : RawLine) (left : Bytes) where
 
   pub run_line : place_form l ≡ wrong → run_form l ≡ met a left → line_of l ≡ alone (met a left)
   run_line e g = rw (e, run_no_move l a left g, g)
-
-pub no_form : (l : Bytes) → place_form l ≡ wrong → move_form l ≡ wrong → run_form l ≡ wrong → line_of l ≡ none
-no_form l e f g = rw (e, f, g)
 
 -- ---- what is left
 

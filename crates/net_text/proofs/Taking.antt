@@ -8,8 +8,8 @@ use mathlib.Core.Option.{Option, none, some}
 use native.Mathlib.Omega.{arith}
 use lib.Dec.{eqb, leb, ltb}
 use lib.ListN.{length, get_or, set, length-map}
-use lib.Ieee.{Float, binary64, of_bits}
-use borrow.Author.Tests.{eq-eqb, ne_eqb, leb-false, ltb-true, ltb-false, eqb-true, not-false}
+use lib.Ieee.{binary64, of_bits}
+use borrow.Author.Tests.{eq-eqb, leb-false, ltb-true, ltb-false, eqb-true, not-false}
 use Rattle.std.proofs.Common.{◌≢◌, Some, None, Result, Ok, Err, Bor}
 use Rattle.std.proofs.Common.{Option as Option'}
 use Rattle.std.specs.Option.{ok_or}
@@ -43,9 +43,6 @@ use Rattle.net_text.proofs.Stored.{first_none, second_none, places_empty, transi
 
 pub not_refused : {P : Type 0} (k : ℕ) → ◌≡◌ {A = Option ℕ} (some k) none → P
 not_refused k e = let z : ◌≡◌ {A = ℕ} 0 1 = cc in absurd (omega arith)
-
-pub late_some : (k : ℕ) (ts : List Test) → 0 < k → some 1 ≡ first_of ((1, not (eqb k 0)) ∷ ts)
-late_some k ts h = rw (ne_eqb k 0 (λ e. omega arith))
 
 late_none : (k : ℕ) (ts : List Test) → k ≤ 0 → first_of ts ≡ first_of ((1, not (eqb k 0)) ∷ ts)
 late_none k ts h = rw (eq-eqb k 0 (omega arith))
@@ -94,9 +91,6 @@ tests_both (u ∷ ts) us = by u.1 (tests_both ts us)
 -- where no move stands in front: a test of the place's numbers that applies decides, and else those of its label do
 pub numbers_fail : (k c : ℕ) (ts us : List Test) → k ≤ 0 → some c ≡ first_of ts → some c ≡ first_of ((1, not (eqb k 0)) ∷ (ts ++ us))
 numbers_fail k c ts us h e = ap (λ (o : Option ℕ). or_else o (first_of us)) e ∙ sym (tests_both ts us) ∙ late_none k (ts ++ us) h
-
-pub numbers_pass : (k : ℕ) (ts us : List Test) → k ≤ 0 → none ≡ first_of ts → first_of us ≡ first_of ((1, not (eqb k 0)) ∷ (ts ++ us))
-numbers_pass k ts us h e = ap (λ (o : Option ℕ). or_else o (first_of us)) e ∙ sym (tests_both ts us) ∙ late_none k (ts ++ us) h
 
 -- a place whose numbers are refused
 pub numbers_refused : (s : PlaceSeen) (n n' : NetRecord) (c : Refusal) → n.transitions ≤ 0
@@ -165,9 +159,6 @@ module _ (line : Bytes) (n : NetRecord) where
     -- its label
     abbrev l : Bytes
     l = s.label.now
-
-    pub place_behind : (n' : NetRecord) → left ≢ [] → LineTaken (inside_of n) n line n' (Err WrongForm)
-    place_behind n' h = wrong_line n' (place_line line (raw_place r.initial r.capacity l) left r.is ∙ alone_more (raw_place r.initial r.capacity l) left h)
 
     abbrev q : Place
     q = record { initial = s.initial; capacity = s.capacity }
@@ -268,9 +259,6 @@ module _ (line : Bytes) (n : NetRecord) where
   module _ (base : ℕ) (n₁ : NetRecord) (kept : SlotsKept base n n₁) (s : MoveSeen) (left : Bytes) (r : MoveMet line base n n₁ s left) (no_place : place_form line ≡ wrong) where
     move_read : line_of line ≡ alone (met (raw_move s.rate s.delay r.arcs) left)
     move_read = move_line line (raw_move s.rate s.delay r.arcs) left no_place r.is
-
-    pub move_behind : (n' : NetRecord) → left ≢ [] → LineTaken (inside_of n) n line n' (Err WrongForm)
-    move_behind n' h = wrong_line n' (move_read ∙ alone_more (raw_move s.rate s.delay r.arcs) left h)
 
     abbrev ls : List Slot
     ls = slots n₁.kind n₁.place n₁.weight (16 * n.transitions) s.count

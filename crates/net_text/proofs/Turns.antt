@@ -1,37 +1,25 @@
 -- The lines one after the other. The invariant of the reader's loop, Going, says that what is read from here on is what is read of the whole
--- text; a line at each stage, and the text's end, keep it or give the answer. Assumes nothing.
+-- text; a line that is taken keeps it. Assumes nothing.
 use Prim.Native.Nat.{ℕ, suc, ◌+◌, ◌≤◌, ◌<◌}
-use mathlib.Core.Path.{◌≡◌, refl, sym, ap, ap₂, subst, ◌∙◌}
+use mathlib.Core.Path.{◌≡◌, refl, sym, ap, ap₂, ◌∙◌}
 use mathlib.Core.Bool.{Bool, true, false, ◌&&◌, false≢true}
 use mathlib.Core.List.{[], ◌∷◌}
-use mathlib.Core.Option.{none}
 use native.Mathlib.Omega.{arith}
 use native.Mathlib.Numerals.{add-one}
 use lib.Dec.{eqb}
 use lib.ListN.{length}
 use borrow.Author.Tests.{eq-eqb, eqb-true}
-use Rattle.std.proofs.Common.{◌≢◌, Result, Ok, Err}
+use Rattle.std.proofs.Common.{◌≢◌, Ok}
 use Rattle.std.specs.Bool.{Decides}
-use Rattle.refusals.specs.Number.{number_of}
-use Rattle.refusals.specs.declared.Refusal.{Refusal}
-use Rattle.refusals.specs.declared.Refusal.TheVariants.{WrongForm}
-use Rattle.net.specs.Net.{pick}
-use Rattle.net.specs.Readable.{readable, labels}
-use Rattle.net.specs.Readable as Readable
-use Rattle.net.specs.Record.{labelled, blank}
 use Rattle.net.specs.declared.Net.{Net as NetRecord}
-use Rattle.text.specs.Text.{Bytes, bytes, same}
+use Rattle.text.specs.Text.{Bytes, same}
 use Rattle.net_text.specs.Lines.{Lines, lines}
-use Rattle.net_text.specs.Forms.{line_of}
-use Rattle.net_text.specs.Filled.{with_line, with_lines, record_of}
-use Rattle.net_text.specs.Reading.{Due, Outcome, Answer, inside, nothing, no_net, fault, go_on, refused, line_read, onward, at_end, read_from}
-use Rattle.net_text.specs.Position.{Room, due_of, inside_of, run_of, StageHolds, Standing, standing, holding, outcome_of, LineTaken, answer, accepted, RecordIs, lines_read, LinesRead, AtEnd}
-use Rattle.net_text.specs.declared.RunLine.{RunLine as RunRecord}
-use Rattle.net_text.specs.declared.TurnedDown.{TurnedDown}
+use Rattle.net_text.specs.Filled.{with_lines, record_of}
+use Rattle.net_text.specs.Reading.{Due, Outcome, Answer, line_read, onward, read_from}
+use Rattle.net_text.specs.Position.{due_of, Standing, LineTaken, lines_read}
 use Rattle.net_text.specs.declared.order.Stage.{Stage}
-use Rattle.net_text.specs.declared.order.Stage.TheVariants.{Opening, Inside, Closing, Nothing}
 
--- ---- one line, by what is due
+-- ---- a line that is one word
 
 same_all : (l : Bytes) → same l l ≡ true
 same_all [] = refl
@@ -65,45 +53,10 @@ pub record Going (t : Bytes) (n : NetRecord) (s : Stage) (left : Bytes) (number 
   pub goes : from number (due_of s n) left ≡ lines_read t
   pub filled : with_lines n (lines left).ended ≡ record_of t
 
--- an empty net
-blank_room : Room blank
-blank_room =
-    record {
-      initials = refl;
-      capacities = refl;
-      bytes = refl;
-      sizes = refl;
-      rates = refl;
-      delays = refl;
-      counts = refl;
-      kinds = refl;
-      ends = refl;
-      weights = refl;
-      few_places = omega arith;
-      few_transitions = omega arith;
-      few_arcs = λ j h. absurd (omega arith);
-      fit_places = refl;
-      fit_transitions = refl;
-    }
-
-begun : (t : Bytes) → Going t blank Opening t 1
-begun t = record { numbered = omega arith; stands = record { room = blank_room; at_stage = (refl, refl) }; goes = refl; filled = refl }
-
-pub begin : (t : Bytes) (n : NetRecord) → n ≡ blank → Going t n Opening t 1
-begin t n e = subst (λ (m : NetRecord). Going t m Opening t 1) (sym e) (begun t)
-
 module _ (t : Bytes) (n : NetRecord) (s : Stage) (left : Bytes) (number : ℕ) (inv : Going t n s left number) where
   module _ (line rest : Bytes) (cut : lines left ≡ record { ended = line ∷ (lines rest).ended; rest = (lines rest).rest }) where
     first : from number (due_of s n) left ≡ onward number (line_read (due_of s n) line) (λ next. from (suc number) next rest)
     first = ap (λ (c : Lines). read_from number (due_of s n) c.ended c.rest) cut
-
-    pub refused_there : (n' : NetRecord) (c : Refusal) → LineTaken (due_of s n) n line n' (Err c) → LinesRead t n' (Err (record { refusal = c; line = number }))
-    refused_there n' c taken =
-        record {
-          is = sym (first ∙ ap (λ (o : Outcome). onward number o (λ next. from (suc number) next rest)) (sym taken.is)) ∙ inv.goes;
-          passes = tt;
-          fills = tt;
-        }
 
     pub one_more : (n' : NetRecord) (next : Stage) → length rest < length left → LineTaken (due_of s n) n line n' (Ok next) → Going t n' next rest (number + 1)
     one_more n' next shorter taken =
@@ -117,15 +70,3 @@ module _ (t : Bytes) (n : NetRecord) (s : Stage) (left : Bytes) (number : ℕ) (
           filled =
               ap (λ (m : NetRecord). with_lines m (lines rest).ended) taken.fills ∙ sym (ap (λ (c : Lines). with_lines n c.ended) cut) ∙ inv.filled;
         }
-
-  pub at_the_end : (r : Result RunRecord TurnedDown) → lines left ≡ record { ended = []; rest = left } → AtEnd number s n left r → LinesRead t n r
-  at_the_end r cut e =
-      record {
-        is = e.is ∙ sym (ap (λ (c : Lines). read_from number (due_of s n) c.ended c.rest) cut) ∙ inv.goes;
-        passes = e.passes inv.stands;
-        fills = given r;
-      }
-    where
-      given : (r : Result RunRecord TurnedDown) → RecordIs r n (record_of t)
-      given (Ok run) = sym (ap (λ (c : Lines). with_lines n c.ended) cut) ∙ inv.filled
-      given (Err e) = tt

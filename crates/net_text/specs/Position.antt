@@ -1,5 +1,5 @@
 -- What the reader's own values stand for: how far it is, and the net so far. The rules are in Lines, Forms and Reading; nothing here adds to them.
-use Rattle.std.specs.Prelude.{ℕ, ◌+◌, ◌*◌, ◌<◌, ◌≤◌, ◌≡◌, ◌≢◌, Bool, false, not, List, [], ◌∷◌, ◌++◌, eqb, length, get_or, set, Option, Some, None, Result, Ok, Err}
+use Rattle.std.specs.Prelude.{ℕ, ◌+◌, ◌*◌, ◌<◌, ◌≤◌, ◌≡◌, ◌≢◌, Bool, not, List, [], ◌∷◌, ◌++◌, eqb, length, get_or, set, Option, Some, None, Result, Ok, Err}
 use Rattle.std.specs.Borrow.{Bor}
 use Rattle.std.proofs.Math.Option.{none}
 use Rattle.std.specs.Float.{binary64}
@@ -10,7 +10,7 @@ use Rattle.refusals.specs.declared.Refusal.{Refusal as RefusalEnum}
 use Rattle.refusals.specs.declared.Refusal.TheVariants.{WrongForm}
 use Rattle.net.specs.Net.{Place}
 use Rattle.net.specs.Tests.{Test, first_of, place_tests}
-use Rattle.net.specs.Labels.{label_tests, labels_from}
+use Rattle.net.specs.Labels.{label_tests}
 use Rattle.net.specs.Record.{labelled}
 use Rattle.net.specs.Readable.{readable, labels, slots, slots_fault, meaning, places_fault, moves_fault}
 use Rattle.net.specs.Readable as Readable

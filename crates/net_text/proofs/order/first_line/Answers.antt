@@ -1,5 +1,4 @@
 -- A line ends at the first newline (Cut).
-use Rattle.std.proofs.Common.{arith, length, drop, ◌+◌, ◌<◌}
 use Rattle.net_text.proofs.Cut.{cut_at, uncut, all_left, shorter}
 use Rattle.net_text.proofs.order.first_line.Goals as goal
 

@@ -1,7 +1,6 @@
 -- A label that does not fit is refused; else it is stored, and tested where it stands.
-use Rattle.std.proofs.Common.{ℕ, List, length, set, ◌*◌}
-use mathlib.Core.Path.{ap, refl, ◌∙◌}
-use Rattle.net.specs.Readable.{labels}
+use Rattle.std.proofs.Common.{ℕ, List, length, set}
+use mathlib.Core.Path.{ap, ◌∙◌}
 use Rattle.net.specs.Labels.{label_fault}
 use Rattle.net.specs.Record.{labelled}
 use Rattle.net_text.proofs.Labels.{label_put, label_judged}

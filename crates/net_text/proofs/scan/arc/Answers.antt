@@ -1,5 +1,5 @@
 -- The word that stands there decides which of the four forms can be met (Arcs).
-use mathlib.Core.Path.{◌∙◌, ap}
+use mathlib.Core.Path.{◌∙◌}
 use Rattle.net_text.proofs.Arcs.{spaced_arc, is_take, is_read}
 use Rattle.net_text.proofs.scan.arc.Goals as goal
 

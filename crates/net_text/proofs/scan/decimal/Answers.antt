@@ -1,6 +1,5 @@
 -- The digits in front, and their value (Decimals).
-use Rattle.std.proofs.Common.{rules, arith, ◌≡◌, length}
-use Rattle.net_text.proofs.Decimals.{Counted, counted_at, all_digits, no_decimal, a_decimal}
+use Rattle.net_text.proofs.Decimals.{counted_at, all_digits, no_decimal, a_decimal}
 use Rattle.net_text.proofs.scan.decimal.Goals as goal
 
 pub returns-then-n-eq0 : goal.returns-then-n-eq0
