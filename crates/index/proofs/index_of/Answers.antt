@@ -8,7 +8,7 @@ use Rattle.index.specs.Table.{Lists}
 use Rattle.index.proofs.index_of.Goals as goal
 
 pub tidied-n-requires : goal.tidied-n-requires
-tidied-n-requires c = c.in_ok-test_net.ensures
+tidied-n-requires c = sym c.in_ok-test_net.ensures
 
 pub listed_words-requires : goal.listed_words-requires
 listed_words-requires c = subst⁻¹ Tidy c.lent.ensures c.tidied-n.ensures.1
