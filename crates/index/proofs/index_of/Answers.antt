@@ -1,10 +1,6 @@
 -- By what the test says. The tidied net reads as the net, so the words of its places are those of the net. Assumes nothing.
-use mathlib.Core.Path.{sym, ap, subst, subst⁻¹, ◌∙◌}
-use Rattle.net.specs.Net.{Net}
-use Rattle.net.specs.declared.Net.{Net as NetRecord}
-use Rattle.net.specs.Readable.{meaning}
+use mathlib.Core.Path.{sym, subst⁻¹}
 use Rattle.engine.specs.Engine.{Tidy}
-use Rattle.index.specs.Table.{Lists}
 use Rattle.index.proofs.index_of.Goals as goal
 
 pub tidied-n-requires : goal.tidied-n-requires
