@@ -6,7 +6,7 @@ use lib.ListN.{get_or}
 use Rattle.net.specs.Record.{net_of}
 use Rattle.engine.specs.Guards.{takes_on}
 use Rattle.engine.proofs.Marks.{set_same}
-use Rattle.engine.proofs.Moving.{taking_none, taking_turn, taking_all}
+use Rattle.engine.proofs.Moving.{taking_none, taking_turn}
 use Rattle.engine.proofs.Touching.{take_touches, told_none, told_same, told_more}
 use Rattle.engine.proofs.marking.take.Goals as goal
 use Rattle.engine.proofs.marking.take.Goals.{then-x-gt0, else-x-gt0}

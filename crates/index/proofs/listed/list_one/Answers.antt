@@ -1,5 +1,4 @@
 -- What the words say with what the slots from a on list is the whole (Listing). Assumes nothing.
-use native.Mathlib.Omega.{arith}
 use Rattle.net.specs.Record.{net_of}
 use Rattle.index.proofs.Listing.{listing_none, listing_more, listing_all}
 use Rattle.index.proofs.listed.list_one.Goals as goal

@@ -1,6 +1,5 @@
 -- The transitions before j are marked where one of their slots is a kinetic take of several tokens (Marking). Assumes nothing.
 use Prim.Native.Nat.{ℕ}
-use native.Mathlib.Omega.{arith}
 use Rattle.net.specs.Readable.{transition}
 use Rattle.net.specs.Record.{net_of}
 use Rattle.engine.specs.Traits.{takes_several}

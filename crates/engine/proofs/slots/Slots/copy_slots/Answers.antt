@@ -1,13 +1,10 @@
 -- What is copied, then what is left of the group, is the whole group (proofs/Copying). Assumes nothing.
 use native.Mathlib.Omega.{arith}
-use mathlib.Core.Path.{◌∙◌, subst}
-use mathlib.Core.List.{List}
+use mathlib.Core.Path.{◌∙◌}
 use Prim.Native.Nat.{◌+◌, ◌-◌}
-use Rattle.net.specs.Readable.{Slot, slot_at, slots}
+use Rattle.net.specs.Readable.{slot_at, slots}
 use Rattle.net.specs.Record.{net_of}
-use Rattle.engine.specs.Arcs.{of_group}
-use Rattle.engine.proofs.Arcs.{slots_end}
-use Rattle.engine.proofs.Copying.{Copying, copying_turn, copying_fits, copying_one, copied_all}
+use Rattle.engine.proofs.Copying.{copying_turn, copying_fits, copying_one}
 use Rattle.engine.proofs.slots.Slots.copy_slots.Goals as goal
 
 pub copy_slot-b-requires : goal.copy_slot-b-requires
