@@ -1,4 +1,4 @@
--- The call's answer by the tests that lead to it, and the test of the weights, weight by weight. Assumes nothing.
+-- The call's answer by the tests that lead to it, and the test of the weights in the library's words. Assumes nothing.
 use Prim.Native.Nat.{ℕ, zero, suc, ◌+◌, ◌≤◌, ◌<◌}
 use mathlib.Core.Path.{◌≡◌, refl, sym, ap, ◌∙◌}
 use mathlib.Core.Bool.{Bool, true, false, ◌||◌}
@@ -10,6 +10,7 @@ use lib.Dec.{eqb, ltb}
 use lib.ListN.{length, get_or, drop}
 use lib.Seq.{drop-cons, drop-length}
 use borrow.Author.Tests.{eq-eqb, ne_eqb, lt-ltb, le-ltb, ltb-false}
+use Rattle.std.specs.List.{list_any}
 use Rattle.net.specs.declared.Net.{Net as NetRecord}
 use Rattle.net.specs.Net.{pick}
 use Rattle.net.specs.Readable.{readable, fault}
@@ -20,23 +21,11 @@ use Rattle.rules.specs.Balance.{some_above1000, balance}
 use Rattle.balance.specs.Call.{unless_fault, called, weighed}
 use Rattle.balance.specs.Slots.{Small}
 
--- ---- the test of the weights: some of those from place p on is above 1,000 just where one of all is, t
+-- ---- the test of the weights
 
-module _ (ws : List ℕ) (p : ℕ) {t : Bool} (inv : some_above1000 (drop p ws) ≡ t) where
-  above_turn : p < length ws → t ≡ (ltb 1000 (get_or ws p 0) || some_above1000 (drop (p + 1) ws))
-  above_turn h =
-      sym inv
-      ∙ ap some_above1000 (drop-cons ws p 0 h)
-      ∙ ap (λ (i : ℕ). ltb 1000 (get_or ws p 0) || some_above1000 (drop i ws)) (sym (add-one p))
-
-  pub above_stop : p < length ws → 1000 < get_or ws p 0 → true ≡ t
-  above_stop h a = or_stop (ltb 1000 (get_or ws p 0)) _ (above_turn h) (lt-ltb 1000 (get_or ws p 0) a)
-
-  pub above_go : p < length ws → get_or ws p 0 ≤ 1000 → some_above1000 (drop (p + 1) ws) ≡ t
-  above_go h a = or_go (ltb 1000 (get_or ws p 0)) _ (above_turn h) (le-ltb 1000 (get_or ws p 0) a)
-
-  pub above_end : p ≡ length ws → false ≡ t
-  above_end e = ap some_above1000 (sym (ap (λ (i : ℕ). drop i ws) e ∙ drop-length ws)) ∙ inv
+pub above : (ws : List ℕ) → list_any (λ (w : ℕ). ltb 1_000 w) ws ≡ some_above1000 ws
+above [] = refl
+above (w ∷ ws) = ap (λ (b : Bool). ltb 1_000 w || b) (above ws)
 
 -- where none is above 1,000, each is small
 pub small : (ws : List ℕ) → some_above1000 ws ≡ false → Small ws

@@ -1,16 +1,15 @@
 -- The call that asks whether weights balance a net. Document 02, order 7: "For a list of whole weights from 0 to 1,000, one per place, say whether every
 -- transition puts exactly as much weight as it takes. … If no, the lowest unbalanced transition is given. A list with another length than the place count is
 -- refused by 3, then a weight above 1,000 by 4." What is asked is Balance of the crate rules; a net that is given is tested first.
-use Rattle.std.specs.Prelude.{ℕ, List}
+use Rattle.std.specs.Prelude.{ℕ, List, Result, Ok, Err, Option as Answered, Some, None}
 use Rattle.refusals.specs.Number.{number_of}
+use Rattle.refusals.specs.declared.Refusal.{Refusal}
 use Rattle.std.proofs.Math.Option.{Option, none, some}
 use Rattle.net.specs.declared.Net.{Net as NetRecord}
 use Rattle.net.specs.Net.{Net}
 use Rattle.net.specs.Readable.{readable, fault}
 use Rattle.rules.specs.Step.{Answer, refused, given}
 use Rattle.rules.specs.Balance.{unbalanced, balance}
-use Rattle.balance.specs.declared.BalanceAnswer.{BalanceAnswer}
-use Rattle.balance.specs.declared.BalanceAnswer.TheVariants.{Balanced, Unbalanced, Refused}
 
 -- a refusal's number; none where the weights balance the net; or the lowest unbalanced transition
 abbrev pub Called : Type 0
@@ -28,8 +27,11 @@ called n ws = unless_fault (fault n) (balance (readable n) ws)
 abbrev pub weighed : Net → List ℕ → Called
 weighed n ws = given (unbalanced n ws)
 
--- what the program answers
-abbrev pub call_of : BalanceAnswer → Called
-call_of Balanced = given none
-call_of (Unbalanced j) = given (some j)
-call_of (Refused c) = refused (number_of c)
+-- what the program answers: the lowest unbalanced transition, if there is one, or a refusal
+abbrev pub lowest : Answered ℕ → Option ℕ
+lowest None = none
+lowest (Some j) = some j
+
+abbrev pub call_of : Result (Answered ℕ) Refusal → Called
+call_of (Ok j) = given (lowest j)
+call_of (Err c) = refused (number_of c)

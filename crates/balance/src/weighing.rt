@@ -10,7 +10,6 @@ ghost use Rattle.engine.specs.Arcs as Arcs;
 ghost use Rattle.balance.specs.Call as Call;
 ghost use Rattle.balance.specs.Slots as Slots;
 
-use crate::BalanceAnswer;
 use engine::slots;
 use net::LentNet;
 
@@ -21,14 +20,7 @@ const MOST_WEIGHT: u64 = 1_000;
 pub fn some_above(weights: &[u64]) -> bool
     ensures { result ≡ Balance.some_above1000 weights.now }
 {
-    let mut p: usize = 0;
-    while p < weights.len() {
-        if MOST_WEIGHT < weights[p] {
-            return true;
-        }
-        p += 1;
-    }
-    false
+    weights.iter().any(|w| MOST_WEIGHT < *w)
 }
 
 // What an arc of this weight moves, its place weighing w.
@@ -69,32 +61,28 @@ fn slots_even(net: &LentNet, from: usize, end: usize, weights: &[u64]) -> bool
 {
     let mut put: u64 = 0;
     let mut taken: u64 = 0;
-    let mut a = from;
-    while a < end {
+    for a in from..end {
         let k = net.kind[a];
         let p = net.place[a];
         let m = net.weight[a];
         let w = weights[p];
         put = put + put_weight(k, m, w);
         taken = taken + taken_weight(k, m, w);
-        a += 1;
     }
     put == taken
 }
 
-// The lowest transition that does not put as much weight as it takes, or that there is none.
-pub fn first_uneven(net: &LentNet, weights: &[u64]) -> BalanceAnswer
+// The lowest transition that does not put as much weight as it takes.
+pub fn first_uneven(net: &LentNet, weights: &[u64]) -> Option<usize>
     requires { let net = net_of net.now in Sound.Sound net × (length weights.now ≡ net.places) × Slots.Small weights.now }
-    ensures { let net = net_of net.now in Call.call_of result ≡ Call.weighed (Record.readable net) weights.now }
+    ensures { let net = net_of net.now in Call.lowest result ≡ Balance.unbalanced (Record.readable net) weights.now }
 {
-    let mut j: usize = 0;
-    while j < net.transitions {
+    for j in 0..net.transitions {
         let from = 16 * j;
         let end = from + net.arcs[j];
         if !slots_even(net, from, end, weights) {
-            return BalanceAnswer::Unbalanced(j);
+            return Some(j);
         }
-        j += 1;
     }
-    BalanceAnswer::Balanced
+    None
 }

@@ -4,17 +4,17 @@ ghost use Rattle.net.specs.Record.{labelled};
 ghost use Rattle.balance.specs.Call.{called, call_of};
 ghost use Rattle.c_face.specs.Weighed.{told_of};
 
-use balance::BalanceAnswer;
 use net::Net;
+use refusals::Refusal;
 
 // The refusal's number, or 100 for balanced and 101 for unbalanced; and the transition.
-fn balance_numbers(answer: BalanceAnswer) -> [u64; 2]
+fn balance_numbers(answer: Result<Option<usize>, Refusal>) -> [u64; 2]
     ensures { result ≡ told_of (call_of answer) }
 {
     match answer {
-        BalanceAnswer::Balanced => [100, 0],
-        BalanceAnswer::Unbalanced(j) => [101, j as u64],
-        BalanceAnswer::Refused(c) => [c, 0],
+        Ok(None) => [100, 0],
+        Ok(Some(j)) => [101, j as u64],
+        Err(c) => [c.number(), 0],
     }
 }
 

@@ -1,27 +1,22 @@
--- What is left of a list from element i to before e, and of a test along it. A turn takes one element off, and one at which the test holds ends it.
-use Rattle.std.proofs.Common.{◌≡◌, ℕ, suc, ◌+◌, ◌-◌, ◌<◌, ◌≤◌, Bool, true, false, not, List, [], ◌∷◌, length, get_or, take, drop, sym, ap, ◌∙◌, ap₂, add-one, arith, drop-cons}
+-- A test along a list, in the library's words and the rules'.
+use Rattle.std.proofs.Common.{◌≡◌, ℕ, Bool, true, false, not, ◌&&◌, ◌||◌, leb, List, [], ◌∷◌, ◌^◌, refl, ap}
+use Rattle.std.specs.List.{list_all, list_any}
 use Rattle.net.specs.Tests.{any}
-use Rattle.net.proofs.Slots.{or_stop, or_go}
+use Rattle.rules.specs.Step.{counts_fit}
 
-module _ {A : Type 0} (xs : List A) (i : ℕ) where
-  pub rest_next : (d : A) → i < length xs → drop i xs ≡ get_or xs i d ∷ drop (i + 1) xs
-  rest_next d h = drop-cons xs i d h ∙ ap (λ (k : ℕ). get_or xs i d ∷ drop k xs) (sym (add-one i))
+module _ {A : Type 0} (f : A → Bool) where
+  pub any_found : (xs : List A) → list_any f xs ≡ any f xs
+  any_found [] = refl
+  any_found (x ∷ xs) = ap (λ (b : Bool). f x || b) (any_found xs)
 
-  pub part_next : (e : ℕ) (d : A) → i < e → e ≤ length xs → take (e - i) (drop i xs) ≡ get_or xs i d ∷ take (e - (i + 1)) (drop (i + 1) xs)
-  part_next e d h l =
-      let count : e - i ≡ suc (e - (i + 1)) = omega arith in
-      ap₂ take count (rest_next d (omega arith))
+  pub none_amiss : (xs : List A) → list_all f xs ≡ not (any (λ (x : A). not (f x)) xs)
+  none_amiss [] = refl
+  none_amiss (x ∷ xs) = go (f x) _ _ (none_amiss xs)
+    where
+      go : (b r s : Bool) → r ≡ not s → (b && r) ≡ not (not b || s)
+      go true r s e = e
+      go false r s e = refl
 
-  pub part_none : (e : ℕ) → e ≤ i → take (e - i) (drop i xs) ≡ []
-  part_none e h = let count : e - i ≡ 0 = omega arith in ap (λ (k : ℕ). take k (drop i xs)) count
-
--- whether a test holds nowhere, t being whether it holds at some element of the whole
-module _ {A : Type 0} (f : A → Bool) {xs : List A} {t : Bool} (inv : any f xs ≡ t) where
-  pub none_stop : {x : A} {ys : List A} → xs ≡ x ∷ ys → f x ≡ true → false ≡ not t
-  none_stop e h = ap not (or_stop _ _ (sym inv ∙ ap (any f) e) h)
-
-  pub none_go : {x : A} {ys : List A} → xs ≡ x ∷ ys → f x ≡ false → any f ys ≡ t
-  none_go e h = or_go _ _ (sym inv ∙ ap (any f) e) h
-
-  pub none_end : xs ≡ [] → true ≡ not t
-  none_end e = ap not (sym (ap (any f) e) ∙ inv)
+pub few_counts : (xs : List ℕ) → list_all (λ (x : ℕ). leb x (2 ^ 53)) xs ≡ counts_fit xs
+few_counts [] = refl
+few_counts (x ∷ xs) = ap (λ (b : Bool). leb x (2 ^ 53) && b) (few_counts xs)

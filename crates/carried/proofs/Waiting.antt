@@ -1,5 +1,7 @@
 -- The timers of three arrays, from number i on. A test of each runs along them as along a list; the times are also compared with the one before.
-use Rattle.std.proofs.Common.{◌≡◌, ℕ, zero, suc, ◌+◌, ◌-◌, ◌%◌, ◌<◌, ◌≤◌, Bool, true, false, not, ◌&&◌, ◌||◌, List, [], ◌∷◌, map, sym, refl, ap, ◌∙◌, ap₂, mod-eq_of_lt, add-one, arith}
+use Rattle.std.proofs.Common.{◌≡◌, ℕ, zero, suc, ◌+◌, ◌-◌, ◌%◌, ◌<◌, ◌≤◌, Bool, true, false, not, ◌&&◌, ◌||◌, List, [], ◌∷◌, map, length, get_or, take, drop, sym, refl, ap, ◌∙◌, ap₂, mod-eq_of_lt, add-one, arith, drop-cons}
+use Rattle.std.specs.List.{list_all, list_any}
+use Rattle.std.proofs.lemmas.List.Folds.{list_all-map}
 use mathlib.Core.Bool.{and-false}
 use native.Mathlib.Nat.{sub-zero}
 use lib.Ieee.{Float, lt}
@@ -8,6 +10,7 @@ use Rattle.net.proofs.Slots.{not_first, not_second}
 use Rattle.rules.specs.Timers.{Timer}
 use Rattle.rules.specs.Change.{time_fits, falls}
 use Rattle.timers.specs.Turning.{from}
+use Rattle.carried.proofs.Rest.{none_amiss}
 
 module _ (s : ℕ → Timer) (i n : ℕ) where
   pub from_next : n ≤ 256 → i < n → from s i (n - i) ≡ s i ∷ from s (i + 1) (n - (i + 1))
@@ -29,6 +32,30 @@ module _ (f : Timer → Bool) (s : ℕ → Timer) (n : ℕ) (few : n ≤ 256) (n
 
   pub none_each : (i : ℕ) → i < n → f (s i) ≡ false
   none_each i h = not_first _ _ (sym (ap (any f) (from_next s i n few h)) ∙ none_left i (omega arith))
+
+-- A field of the timers is read along its array.
+module _ {X : Type 0} (g : Timer → X) (s : ℕ → Timer) (xs : List X) (d : X) (each : (j : ℕ) → g (s j) ≡ get_or xs j d) where
+  along : (i n : ℕ) → i + n ≤ length xs → i + n ≤ 256 → map g (from s i n) ≡ take n (drop i xs)
+  along i zero long few = refl
+  along i (suc n) long few =
+      let low : i % 256 ≡ i = mod-eq_of_lt (omega arith) in
+      ap₂ (λ (x : X) (ys : List X). x ∷ ys) (ap (λ (j : ℕ). g (s j)) low ∙ each i) (along (suc i) n (omega arith) (omega arith))
+      ∙ sym (ap (take (suc n)) (drop-cons xs i d (omega arith)))
+
+  pub array_read : (n : ℕ) → n ≤ length xs → n ≤ 256 → map g (from s 0 n) ≡ take n xs
+  array_read n long few = along 0 n (omega arith) (omega arith)
+
+-- A test of one field along its array is the test along the timers.
+module _ {X : Type 0} (p : X → Bool) (g : Timer → X) where
+  pub all_along : (ts : List Timer) (xs : List X) → map g ts ≡ xs → list_all p xs ≡ not (any (λ (x : Timer). not (p (g x))) ts)
+  all_along ts xs e = ap (list_all p) (sym e) ∙ list_all-map p g ts ∙ none_amiss (λ (x : Timer). p (g x)) ts
+
+  pub some_along : (ts : List Timer) (xs : List X) → map g ts ≡ xs → list_any p xs ≡ any (λ (x : Timer). p (g x)) ts
+  some_along ts xs e = ap (list_any p) (sym e) ∙ go ts
+    where
+      go : (ts : List Timer) → list_any p (map g ts) ≡ any (λ (x : Timer). p (g x)) ts
+      go [] = refl
+      go (x ∷ ts) = ap (λ (b : Bool). p (g x) || b) (go ts)
 
 -- timers that are changed slot by slot are changed one by one
 pub from_map : (g : Timer → Timer) (s : ℕ → Timer) (p n : ℕ) → from (λ (k : ℕ). g (s k)) p n ≡ map g (from s p n)

@@ -12,18 +12,10 @@ const MOST: f64 = 9007199254740992.0;
 pub fn records_fit(instants: &[f64], recorded: usize, clock: f64) -> bool
     ensures { result ≡ (nat_le recorded (length instants.now) && not (Tests.any (λ (x : Ieee.Float). Ieee.le x clock) (drop recorded instants.now))) }
 {
-    let n = instants.len();
-    if n < recorded {
+    if instants.len() < recorded {
         return false;
     }
-    let mut i = recorded;
-    while i < n {
-        if instants[i] <= clock {
-            return false;
-        }
-        i += 1;
-    }
-    true
+    !instants[recorded..].iter().any(|x| *x <= clock)
 }
 
 // Is a cell a whole number in 0..2^53? Its fraction is cut off by a function of `std`: `as` is for whole numbers.
@@ -38,19 +30,11 @@ fn cell_fits(x: f64) -> bool
     false
 }
 
-// Are the cells from `from` to before `to` such?
-fn cells_between(table: &[f64], from: usize, to: usize) -> bool
-    requires { (from ≤ to) × (to ≤ length table.now) }
-    ensures { result ≡ not (Records.some_strange (take (to - from) (drop from table.now))) }
+// Are all of these cells such?
+fn all_fit(cells: &[f64]) -> bool
+    ensures { result ≡ not (Records.some_strange cells.now) }
 {
-    let mut c = from;
-    while c < to {
-        if !cell_fits(table[c]) {
-            return false;
-        }
-        c += 1;
-    }
-    true
+    cells.iter().all(|x| cell_fits(*x))
 }
 
 // Are the cells of the first so many instants such, at every place? The table has n cells a place.
@@ -58,13 +42,11 @@ pub fn cells_fit(table: &[f64], places: usize, n: usize, recorded: usize) -> boo
     requires { (recorded ≤ n) × (places ≤ 32) × (n ≤ 1024) × (places * n ≤ length table.now) }
     ensures { result ≡ not (Records.record_strange places n recorded table.now) }
 {
-    let mut p: usize = 0;
-    while p < places {
+    for p in 0..places {
         let from = p * n;
-        if !cells_between(table, from, from + recorded) {
+        if !all_fit(&table[from..from + recorded]) {
             return false;
         }
-        p += 1;
     }
     true
 }

@@ -17,10 +17,7 @@ pub fn list_fits(pairs: &[u64], old: usize, new: usize) -> bool
 {
     let mut olds: u64 = 0;
     let mut news: u64 = 0;
-    let mut i: usize = 0;
-    let n = pairs.len() / 2;
-    while i < n {
-        let k = i + 1;
+    for i in 0..pairs.len() / 2 {
         let a = pairs[2 * i];
         let b = pairs[2 * i + 1];
         if (old as u64) <= a {
@@ -37,7 +34,6 @@ pub fn list_fits(pairs: &[u64], old: usize, new: usize) -> bool
         }
         olds = sets::joined(olds, a as usize, true);
         news = sets::joined(news, b as usize, true);
-        i = k;
     }
     true
 }
@@ -47,15 +43,12 @@ pub fn names_of(pairs: &[u64]) -> [u64; 64]
     ensures { Pairs.Names (Pairs.pairs_of pairs.now) result }
 {
     let mut names = [64u64; 64];
-    let mut i = pairs.len() / 2;
-    while 0 < i {
-        let k = i - 1;
+    for k in (0..pairs.len() / 2).rev() {
         let a = pairs[2 * k];
         let b = pairs[2 * k + 1];
         if a < 64 {
             names[a as usize] = b;
         }
-        i = k;
     }
     names
 }
@@ -81,14 +74,7 @@ pub fn timers_fit<'a>(whos: &'a [usize; 256], n: usize, names: &'a [u64; 64], de
     ensures { (ats : List Float) (takens : List ℕ) → result ≡ not (Tests.any (λ (x : Rule.Timer). not (Pairs.goes_to names.now delayed x.who))
         (Timers.timers_in ats whos.now takens n)) }
 {
-    let mut i: usize = 0;
-    while i < n {
-        if !goes_to(whos[i], names, delayed) {
-            return false;
-        }
-        i += 1;
-    }
-    true
+    whos[..n].iter().all(|who| goes_to(*who, names, delayed))
 }
 
 // The transitions of so many timers, each by its new number.
@@ -97,10 +83,8 @@ pub fn new_numbers<'a>(whos: &'a [usize; 256], n: usize, names: &'a [u64; 64]) -
     ensures { (i : ℕ) → i < n → slice_index result i ≡ slice_index names.now (slice_index whos.now i) }
 {
     let mut numbers = [0usize; 256];
-    let mut i: usize = 0;
-    while i < n {
+    for i in 0..n {
         numbers[i] = names[whos[i]] as usize;
-        i += 1;
     }
     numbers
 }

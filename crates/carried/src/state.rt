@@ -14,20 +14,12 @@ const MOST_COUNT: u64 = 9_007_199_254_740_992;
 // What 16 arcs of 1,000,000 take.
 const MOST_TAKEN: u64 = 16_000_000;
 
-// Is every place's count at most 2^53? The array is seen as a slice, which costs nothing: it is how the proof learns that it is 32 long.
+// Is every place's count at most 2^53?
 fn counts_fit(counts: &[u64; 32], places: usize) -> bool
     requires { places ≤ 32 }
     ensures { result ≡ Step.counts_fit (take places counts.now) }
 {
-    let all: &[u64] = counts;
-    let mut p: usize = 0;
-    while p < places {
-        if MOST_COUNT < all[p] {
-            return false;
-        }
-        p += 1;
-    }
-    true
+    counts[..places].iter().all(|count| *count <= MOST_COUNT)
 }
 
 // Is a time neither negative nor infinite nor NaN?
@@ -47,8 +39,7 @@ fn completions_fit(clock: f64, ats: &[f64; 256], n: usize) -> bool
         && not (Change.falls clock (Timers.timers_in ats.now whos takens n))) }
 {
     let mut last = clock;
-    let mut i: usize = 0;
-    while i < n {
+    for i in 0..n {
         let at = ats[i];
         if !time_fits(at) {
             return false;
@@ -57,7 +48,6 @@ fn completions_fit(clock: f64, ats: &[f64; 256], n: usize) -> bool
             return false;
         }
         last = at;
-        i += 1;
     }
     true
 }
@@ -67,14 +57,7 @@ fn weights_fit(takens: &[u64; 256], n: usize) -> bool
     requires { n ≤ 256 }
     ensures { (ats : List Float) (whos : List ℕ) → result ≡ not (any (λ (x : Timer). nat_lt 16_000_000 x.taken) (Timers.timers_in ats whos takens.now n)) }
 {
-    let mut i: usize = 0;
-    while i < n {
-        if MOST_TAKEN < takens[i] {
-            return false;
-        }
-        i += 1;
-    }
-    true
+    !takens[..n].iter().any(|taken| MOST_TAKEN < *taken)
 }
 
 // Does a carried state pass the first 4, over so many places: counts, step counts, times, taken weights, and at most 256 timers?

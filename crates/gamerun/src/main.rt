@@ -8,11 +8,10 @@ ghost use Rattle.std.specs.Prelude.{◌+◌, ◌<◌, ◌≤◌, length};
 
 use game::{First, GameAnswer};
 use net::Net;
-use net_io::arguments::{Number, number_of};
-use net_io::{say, write, write_number, write_refused};
+use net_io::arguments::{number_argument, number_of};
+use net_io::{read_full, say, write, write_number, write_refused};
 use net_text::Judged;
 use std::env::Env;
-use std::io::Read;
 
 fn write_first(rt: &HostRuntime, first: First) {
     match first {
@@ -36,12 +35,6 @@ fn write_answer(rt: &HostRuntime, answer: GameAnswer) {
             write(rt, b")\n");
         }
     }
-}
-
-fn number_argument(rt: &HostRuntime, i: usize) -> Number {
-    let mut digits = [0u8; 20];
-    let n = rt.arg(i, &mut digits).unwrap_or(0);
-    number_of(&digits[..n])
 }
 
 // Are the bytes from `from` on those of the name?
@@ -88,11 +81,10 @@ fn place_of<'a>(
         }
         p += 1;
     }
-    let n = number_of(name);
-    if n.fits {
-        return n.value as usize;
+    match number_of(name) {
+        Some(n) => n as usize,
+        None => 32,
     }
-    32
 }
 
 // The number of a letter's side; 2, which no side has, for any other letter.
@@ -146,24 +138,6 @@ fn search(
     play_all(rt, net, n, &sides, place, count, turns);
 }
 
-// Reads standard input until it ends, the text is full or a read fails.
-fn read_full(rt: &HostRuntime, text: &mut [u8]) -> usize
-    ensures { result ≤ length text.new }
-{
-    let mut stdin = rt.stdin();
-    let mut n = 0;
-    while n < text.len() {
-        let Ok(more) = stdin.read(&mut text[n..]) else {
-            return n;
-        };
-        if more == 0 {
-            return n;
-        }
-        n += more;
-    }
-    n
-}
-
 // Reads the net and asks. A text of more than 8,192 bytes is too long, and known by one byte more.
 fn read_and_search(
     rt: &HostRuntime,
@@ -198,15 +172,13 @@ fn main(rt: HostRuntime) {
         usage(&rt);
         return;
     };
-    let count = number_argument(&rt, 3);
-    let turns = number_argument(&rt, 4);
-    if !count.fits {
+    let Some(count) = number_argument(&rt, 3) else {
         usage(&rt);
         return;
-    }
-    if !turns.fits {
+    };
+    let Some(turns) = number_argument(&rt, 4) else {
         usage(&rt);
         return;
-    }
-    read_and_search(&rt, n, &letters, &name[..m], count.value, turns.value);
+    };
+    read_and_search(&rt, n, &letters, &name[..m], count, turns);
 }

@@ -7,7 +7,7 @@ use lib.Ieee.{Float}
 use Rattle.net.specs.Net.{Arc}
 use Rattle.net.specs.Tests.{any, arcs, rate_fits, delay_fits, outside}
 use Rattle.net.specs.Readable.{Slot, transition_of, strange}
-use Rattle.net.proofs.Slots.{any_arcs, any_or, or_second}
+use Rattle.net.proofs.Slots.{any_arcs, any_or}
 
 module _ (s : Bool) (r d : Float) (ls : List Slot) where
   abbrev whole : Bool
@@ -15,13 +15,6 @@ module _ (s : Bool) (r d : Float) (ls : List Slot) where
 
   abbrev heavy : Bool
   heavy = any (λ (a : Arc). ltb 1_000_000 a.weight) (arcs (transition_of r d ls))
-
-  pub by_rate : rate_fits r ≡ false → true ≡ whole
-  by_rate e = sym (or_second (s || strange ls) (ap (λ (b : Bool). not b || not (delay_fits d) || heavy) e))
-
-  pub by_delay : delay_fits d ≡ false → true ≡ whole
-  by_delay e =
-      sym (or_second (s || strange ls) (ap (λ (b : Bool). b || heavy) (or_second (not (rate_fits r)) (ap not e))))
 
   pub by_arcs : s ≡ false → rate_fits r ≡ true → delay_fits d ≡ true → any (λ (l : Slot). ltb 4 l.kind || ltb 1_000_000 l.weight) ls ≡ whole
   by_arcs e f g =

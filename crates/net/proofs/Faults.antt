@@ -1,5 +1,5 @@
 -- The first fault: of several tests, one test at a time, then of several places or transitions, one at a time. Assumes nothing.
-use Prim.Native.Nat.{ℕ, zero, suc, ◌+◌, ◌-◌, ◌≤◌, ◌<◌}
+use Prim.Native.Nat.{ℕ, zero, suc, ◌+◌, ◌-◌, ◌<◌}
 use mathlib.Core.Path.{◌≡◌, refl, sym, ap, ◌∙◌}
 use mathlib.Core.Bool.{Bool, true, false}
 use mathlib.Core.List.{List, [], ◌∷◌}
@@ -35,14 +35,6 @@ module _ (f : ℕ → Option ℕ) (j k : ℕ) {t : Option ℕ} where
       sym inv
       ∙ ap (fault_from f j) d
       ∙ ap (λ (i : ℕ). or_else (f j) (fault_from f i (k - (j + 1)))) (sym (add-one j))
-
-  pub faults_end : k ≤ j → fault_from f j (k - j) ≡ t → none ≡ t
-  faults_end h inv =
-      let d : k - j ≡ 0 = omega arith in
-      sym (ap (fault_from f j) d) ∙ inv
-
-pub minus_zero : (n : ℕ) → n - 0 ≡ n
-minus_zero n = omega arith
 
 -- ---- the whole net
 

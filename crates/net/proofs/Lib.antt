@@ -1,9 +1,9 @@
 pub mod Slots
 pub mod Twice
-pub mod Bytes
 pub mod Naming
 pub mod Domain
 pub mod Faults
+pub mod Moves
 pub mod Sound
 pub mod Apart
 pub mod Lengths

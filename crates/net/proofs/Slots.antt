@@ -41,9 +41,6 @@ module _ (f : Slot → Bool) (k p w : List ℕ) (a e : ℕ) {t : Bool} where
   pub any_turn : a < e → any f (slots k p w a (e - a)) ≡ t → t ≡ (f (slot_at k p w a) || any f (slots k p w (a + 1) (e - (a + 1))))
   any_turn h inv = sym inv ∙ ap (any f) (slots_step k p w a e h)
 
-  pub any_end : e ≤ a → any f (slots k p w a (e - a)) ≡ t → false ≡ t
-  any_end h inv = sym (ap (any f) (slots_end k p w a e h)) ∙ inv
-
 -- ---- choices
 
 ap_pick : {A B : Type 0} (f : A → B) (b : Bool) (x y : A) → f (pick b x y) ≡ pick b (f x) (f y)
@@ -206,6 +203,3 @@ module _ (k p w : List ℕ) (a e : ℕ) where
   pub kinetic_turn : a < e
       → kinetic (slots k p w a (e - a)) ≡ kinetic_weight (slot_at k p w a) + kinetic (slots k p w (a + 1) (e - (a + 1)))
   kinetic_turn h = ap kinetic (slots_step k p w a e h) ∙ kinetic_slot_lem (slot_at k p w a) (slots k p w (a + 1) (e - (a + 1)))
-
-  pub kinetic_end : e ≤ a → kinetic (slots k p w a (e - a)) ≡ 0
-  kinetic_end h = ap kinetic (slots_end k p w a e h)

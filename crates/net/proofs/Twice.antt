@@ -1,5 +1,5 @@
 -- One place twice among the takes, slot by slot: with the places of the takes so far in a set, what is left to find is the whole. Assumes nothing.
-use Prim.Native.Nat.{ℕ, ◌+◌, ◌-◌, ◌≤◌, ◌<◌}
+use Prim.Native.Nat.{ℕ, ◌+◌, ◌-◌, ◌<◌}
 use mathlib.Core.Path.{◌≡◌, refl, sym, ap, ◌∙◌}
 use mathlib.Core.Bool.{Bool, true, false, ◌&&◌, ◌||◌, not, or-false, or-true}
 use mathlib.Core.List.{List, [], ◌∷◌}
@@ -10,7 +10,7 @@ use Rattle.words.specs.Bits.{bit}
 use Rattle.words.proofs.Bits.{bit_none}
 use Rattle.net.specs.Tests.{any, twice}
 use Rattle.net.specs.Readable.{Slot, slot_at, slots}
-use Rattle.net.proofs.Slots.{slots_step, slots_end, any_or, taken, any_taken}
+use Rattle.net.proofs.Slots.{slots_step, any_or, taken, any_taken}
 
 pub eqb_swap : (a b : ℕ) → eqb a b ≡ eqb b a
 eqb_swap a b = go (eqb a b) refl
@@ -81,6 +81,3 @@ module _ (k p w : List ℕ) (a e : ℕ) (met : ℕ → Bool) {t : Bool} where
       ∙ ap (again met) (a_take (slot_at k p w a) rest d)
       ∙ again_turn room met q (taken rest)
       ∙ ap (λ (b : Bool). (met q || (not room && b)) || left (λ (x : ℕ). met x || (room && eqb q x)) rest) (any_taken (eqb q) rest)
-
-  pub left_end : e ≤ a → left met (slots k p w a (e - a)) ≡ t → false ≡ t
-  left_end h inv = sym (ap (left met) (slots_end k p w a e h)) ∙ inv

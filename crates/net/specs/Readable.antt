@@ -1,12 +1,13 @@
 -- The program's net record: the readable net that it stands for, the labels beside it, and its test. A record has room for 32 places, 64
 -- transitions and 16 arcs a transition. Arc i of transition j stands in slot 16 × j + i. Slots past the counts are not looked at.
-use Rattle.std.specs.Prelude.{ℕ, zero, suc, ◌+◌, ◌*◌, ◌≡◌, Bool, false, ◌||◌, List, [], ◌∷◌, eqb, leb, ltb, get_or, Float, Result, Ok, Err}
+use Rattle.std.specs.Prelude.{ℕ, zero, suc, ◌+◌, ◌-◌, ◌*◌, ◌≡◌, Bool, false, ◌||◌, List, [], ◌∷◌, eqb, leb, ltb, get_or, Float, Result, Ok, Err}
 use Rattle.std.proofs.Math.Option.{Option, none, some}
 use Rattle.std.specs.Float.{nan}
 use Rattle.refusals.specs as Refusal
 use Rattle.refusals.specs.Number.{number_of}
 use Rattle.refusals.specs.declared.Refusal.{Refusal as RefusalEnum}
 use Rattle.net.specs.declared.Net.{Net as NetRecord}
+use Rattle.net.specs.declared.lent.Arcs.{Arcs}
 use Rattle.text.specs.Text.{Bytes}
 use Rattle.net.specs.Net.{Place, Arc, Take, Transition, Net, pick, numbered}
 use Rattle.net.specs.Tests.{first_of, any, empty, place_tests, move_tests, or_else, fault_from}
@@ -29,6 +30,13 @@ slot_at kind place weight a = record { kind = get_or kind a 0; place = get_or pl
 abbrev pub slots : List ℕ → List ℕ → List ℕ → ℕ → ℕ → List Slot
 slots kind place weight a zero = []
 slots kind place weight a (suc n) = slot_at kind place weight a ∷ slots kind place weight (a + 1) n
+
+-- the slots of the arcs that are lent, from slot a on, and all of them
+abbrev pub lent_from : Arcs → ℕ → List Slot
+lent_from l a = slots l.net.now.kind.now l.net.now.place.now l.net.now.weight.now a (l.end - a)
+
+abbrev pub lent_slots : Arcs → List Slot
+lent_slots l = lent_from l l.from
 
 abbrev pub takes_of : List Slot → List Take
 takes_of [] = []

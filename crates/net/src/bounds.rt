@@ -27,34 +27,19 @@ pub const MOST_DELAY: f64 = 1073741824.0;
 pub fn rate_fits(rate: f64) -> bool
     ensures { result ≡ Tests.rate_fits rate }
 {
-    if rate == 0.0 {
-        return true;
-    }
-    if LEAST_RATE <= rate {
-        return rate <= MOST_RATE;
-    }
-    false
+    rate == 0.0 || (LEAST_RATE <= rate && rate <= MOST_RATE)
 }
 
 // 0, −0 too, to 2^30. A NaN fits nowhere.
 pub fn delay_fits(delay: f64) -> bool
     ensures { result ≡ Tests.delay_fits delay }
 {
-    if 0.0 <= delay {
-        return delay <= MOST_DELAY;
-    }
-    false
+    0.0 <= delay && delay <= MOST_DELAY
 }
 
 // 2: no place, a 65th transition or a 17th arc.
 pub fn too_many(places: usize, before: usize, count: usize) -> bool
     ensures { result ≡ (eqb places 0 || leb 64 before || ltb 16 count) }
 {
-    if places == 0 {
-        return true;
-    }
-    if MOST_TRANSITIONS <= before {
-        return true;
-    }
-    MOST_ARCS < count
+    places == 0 || MOST_TRANSITIONS <= before || MOST_ARCS < count
 }

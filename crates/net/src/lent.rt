@@ -1,5 +1,5 @@
 // A net whose fields are lent, each where it lies: who holds them apart, as C does, is spared a copy of the slots.
-ghost use Rattle.std.specs.Prelude.{◌≡◌};
+ghost use Rattle.std.specs.Prelude.{◌≡◌, ◌≤◌};
 ghost use Rattle.net.specs.Record.{net_of};
 
 use crate::Net;
@@ -18,6 +18,15 @@ pub struct LentNet<'a> {
     pub kind: &'a [u64; 1024],
     pub place: &'a [usize; 1024],
     pub weight: &'a [u64; 1024],
+}
+
+// The arcs of one transition: those in the net's slots from `from` to before `end`.
+#[derive(Clone, Copy)]
+pub struct Arcs<'a> {
+    pub net: &'a LentNet<'a>,
+    pub from: usize,
+    pub end: usize,
+    ghost within: { end ≤ 1024 },
 }
 
 impl Net {

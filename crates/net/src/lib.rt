@@ -15,12 +15,13 @@ ghost use Rattle.net.specs.Readable as Readable;
 ghost use Rattle.net.specs.Record.{net_of, blank};
 ghost use Rattle.net.specs.Labels as Labels;
 
+use lent::Arcs;
 pub use lent::LentNet;
 use refusals::Refusal;
 
 // Up to 32 places, 64 transitions and 16 arcs a transition. The label of place p stands in label from byte 16 * p on; lengths[p] says how many
 // bytes it has. Arc i of transition j stands in slot 16 * j + i of kind, place and weight; arcs[j] says how many it has. Slots past the counts
-// and bytes past the lengths are not looked at.
+// and bytes past the lengths are not looked at. The fields stay arrays side by side, with their counts: C lends them so, and no net takes heap.
 #[derive(Clone, Copy)]
 pub struct Net {
     pub places: usize,
@@ -37,7 +38,7 @@ pub struct Net {
     pub weight: [u64; 1024],
 }
 
-// The kinds of arcs.
+// The kinds of arcs. They stay numbers: C lends them as such (cild_path), and a larger one is refused by 4 in its turn, after 2 and 3.
 pub const KINETIC_TAKE: u64 = 0;
 
 pub const TAKE: u64 = 1;
@@ -55,13 +56,7 @@ pub fn place_fault(before: usize, strange: bool, initial: u64, capacity: u64) ->
     if bounds::MOST_PLACES <= before {
         return Err(Refusal::BadSize);
     }
-    if strange {
-        return Err(Refusal::OutsideDomain);
-    }
-    if bounds::MOST_TOKENS < initial {
-        return Err(Refusal::OutsideDomain);
-    }
-    if bounds::MOST_TOKENS < capacity {
+    if strange || bounds::MOST_TOKENS < initial || bounds::MOST_TOKENS < capacity {
         return Err(Refusal::OutsideDomain);
     }
     Ok(())
@@ -75,14 +70,10 @@ pub fn label_fault<'a>(
 ) -> Result<(), Refusal>
     ensures { Readable.meaning result ≡ Labels.label_fault label.now lengths.now p }
 {
-    let bytes: &[u8] = label;
-    if bounds::MOST_PLACES <= p {
+    if !labels::label_fits(label_of(label, lengths, p)) {
         return Err(Refusal::BadLabel);
     }
-    if !labels::label_fits(bytes, lengths, p) {
-        return Err(Refusal::BadLabel);
-    }
-    if labels::used_before(bytes, lengths, p) {
+    if labels::used_before(label, lengths, p) {
         return Err(Refusal::UsedLabel);
     }
     Ok(())
@@ -92,18 +83,10 @@ pub fn label_fault<'a>(
 pub fn label_of<'a>(label: &'a [u8; 512], lengths: &'a [usize; 32], p: usize) -> &'a [u8]
     ensures { result.now ≡ Labels.label_at label.now lengths.now p }
 {
-    let bytes: &[u8] = label;
-    let sizes: &[usize] = lengths;
-    if sizes.len() <= p {
-        return &bytes[0..0];
+    match lengths.get(p) {
+        Some(&n) if n <= labels::MOST_BYTES => &label[16 * p..16 * p + n],
+        _ => &[],
     }
-    let n = sizes[p];
-    if labels::MOST_BYTES < n {
-        return &bytes[0..0];
-    }
-    let from = 16 * p;
-    let end = from + n;
-    &bytes[from..end]
 }
 
 // The first of 2 to 7 that applies to a transition over the net's places, with so many transitions before it. Its arcs stand in `count`
@@ -123,20 +106,24 @@ pub fn transition_fault(
         return Err(Refusal::BadSize);
     }
     let from = 16 * before;
-    let end = from + count;
-    if arcs::no_such_place(net, from, end) {
+    let arcs = Arcs {
+        net,
+        from,
+        end: from + count,
+    };
+    if arcs.no_such_place() {
         return Err(Refusal::NoSuchPlace);
     }
-    if arcs::outside(net, strange, rate, delay, from, end) {
+    if arcs.outside(strange, rate, delay) {
         return Err(Refusal::OutsideDomain);
     }
-    if takes::taken_twice(net, from, end) {
+    if arcs.taken_twice() {
         return Err(Refusal::TakenTwice);
     }
-    if takes::delayed_for_nothing(net, delay, from, end) {
+    if arcs.delayed_for_nothing(delay) {
         return Err(Refusal::DelayWithoutTake);
     }
-    if takes::kinetic_over(net, from, end) {
+    if arcs.kinetic_over() {
         return Err(Refusal::KineticTotal);
     }
     Ok(())

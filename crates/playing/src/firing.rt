@@ -15,7 +15,7 @@ ghost use Rattle.engine.specs.Guards as Guards;
 ghost use Rattle.playing.specs.Stepping as Stepping;
 
 use engine::marking;
-use jump::{Choice, sums};
+use jump::sums;
 use net::LentNet;
 use rng::Xoshiro256;
 use timers::Ring;
@@ -125,7 +125,7 @@ fn race<'a>(
     let g = d.rng;
     let chosen = sums::choose_by_sums(net.transitions, d.value * a0, props, sums);
     match chosen {
-        Choice::Nobody => Ended {
+        None => Ended {
             timers: ring,
             rng: g,
             change: Some(Change {
@@ -134,7 +134,7 @@ fn race<'a>(
                 crossed: 0,
             }),
         },
-        Choice::Chosen(j) => {
+        Some(j) => {
             if j < net.transitions {
                 return match marking::fire(net, guards, counts, j) {
                     Some(f) => Ended {

@@ -1,6 +1,5 @@
 -- The numbers by which an operation turns its input down. Document 01, "Each operation's turn-downs"; from 17 on document 02.
 use Rattle.std.specs.Prelude.{ℕ}
-
 pub mod Number
 
 -- net text: a line of the wrong form, a line that is missing, or text after the last

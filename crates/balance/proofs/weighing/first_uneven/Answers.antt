@@ -1,7 +1,6 @@
 -- The transition in its turn: what is asked of its slots, and what they tell. Assumes nothing.
 use Rattle.std.proofs.Common.{sym, ap, ◌∙◌, arith}
 use Rattle.net.specs.Record.{net_of}
-use Rattle.rules.specs.Step.{given}
 use Rattle.balance.proofs.Weights.{light, placed, even_is, left_stop, left_go}
 use Rattle.balance.proofs.weighing.first_uneven.Goals as goal
 
@@ -22,9 +21,8 @@ returns-then-not-slots_even c =
     let s = c.args in
     let net = net_of s.net.now in
     let j = c.loop-j.j in
-    ap given
-    (left_stop s.weights.now net j s.net.now.transitions c.loop-j.invariant c.loop-j-test.true
-    (sym (c.slots_even.ensures ∙ even_is s.weights.now net j) ∙ c.if-not-slots_even.true))
+    left_stop s.weights.now net j s.net.now.transitions c.loop-j.invariant c.loop-j-test.true
+    (sym (c.slots_even.ensures ∙ even_is s.weights.now net j) ∙ c.if-not-slots_even.true)
 
 pub loop-j-preserved : goal.loop-j-preserved
 loop-j-preserved c =

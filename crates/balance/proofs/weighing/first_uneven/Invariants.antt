@@ -9,6 +9,3 @@ abbrev pub invariant-loop-j : goal.invariant-loop-j
 invariant-loop-j l =
     let net = net_of l.net in
     first_uneven l.weights l.j (transitions_from net l.j (l.net.transitions - l.j)) ≡ first_uneven l.weights 0 (transitions_from net 0 l.net.transitions)
-
-abbrev pub decreases-loop-j : goal.decreases-loop-j
-decreases-loop-j l = l.net.transitions - l.j

@@ -1,31 +1,12 @@
--- One of the weights from place p on is above 1,000 just where one of all is, since none before p is. Assumes nothing.
-use mathlib.Core.Path.{refl}
-use native.Mathlib.Omega.{arith}
-use Rattle.balance.proofs.Asked.{above_stop, above_go, above_end}
+use Rattle.std.proofs.Common.{ℕ, Bool, ltb, ◌∙◌, rules}
+use borrow.Author.Tests.{tests}
+use Rattle.std.proofs.lemmas.Iterator.{YieldsList-from_slice}
+use Rattle.std.proofs.lemmas.Iterator.Search.{any_from_yields_List}
+use Rattle.balance.proofs.Asked.{above}
 use Rattle.balance.proofs.weighing.some_above.Goals as goal
-
-pub loop-p-init : goal.loop-p-init
-loop-p-init c = (omega arith, refl)
-
-pub returns-then-weights-p-gt-MOST_WEIGHT : goal.returns-then-weights-p-gt-MOST_WEIGHT
-returns-then-weights-p-gt-MOST_WEIGHT c =
-    let i = c in
-    let l = i in
-    above_stop l.args.weights.now l.loop-p.p l.loop-p.invariant.1 i.loop-p-test.true c.if-weights-p-gt-MOST_WEIGHT.true
-
-pub overflow_add-p : goal.overflow_add-p
-overflow_add-p c = omega arith
-
-pub loop-p-smaller : goal.loop-p-smaller
-loop-p-smaller c = omega arith
-
-pub loop-p-preserved : goal.loop-p-preserved
-loop-p-preserved c =
-    let i = c in
-    let l = i in
-    (omega arith, above_go l.args.weights.now l.loop-p.p l.loop-p.invariant.1 i.loop-p-test.true c.if-weights-p-gt-MOST_WEIGHT.false)
 
 pub returns : goal.returns
 returns c =
-    let l = c in
-    above_end l.args.weights.now l.loop-p.p l.loop-p.invariant.1 (omega (arith, l.loop-p.invariant.0, c.loop-p-test.false))
+    let heavy : ℕ → Bool = λ (x : ℕ). ltb 1_000 x in
+    any_from_yields_List heavy _ _ c.any.result c.any.ensures.ran (YieldsList-from_slice c.args.weights.now cc) (λ x b q k. search (rules, tests))
+    ∙ above c.args.weights.now

@@ -6,6 +6,3 @@ use Rattle.carried.proofs.renaming.list_fits.Given as goal
 
 abbrev pub invariant-loop-i : goal.invariant-loop-i
 invariant-loop-i l = Left l.pairs l.old l.new l.olds l.news l.i
-
-abbrev pub decreases-loop-i : goal.decreases-loop-i
-decreases-loop-i l = l.n - l.i

@@ -4,22 +4,22 @@ use Rattle.std.proofs.Common.{◌≡◌, arith}
 use Rattle.carried.proofs.Named.{named_start, named_in, named_out}
 use Rattle.carried.proofs.renaming.names_of.Goals as goal
 
-pub loop-i-init : goal.loop-i-init
-loop-i-init c = (omega arith, named_start c.args.pairs.now)
+pub loop-k-init : goal.loop-k-init
+loop-k-init c = (omega arith, named_start c.args.pairs.now)
 
-pub loop-i-preserved-then-a-lt64 : goal.loop-i-preserved-then-a-lt64
-loop-i-preserved-then-a-lt64 c =
-    let l = c.loop-i in
+pub loop-k-preserved-then-a-lt64 : goal.loop-k-preserved-then-a-lt64
+loop-k-preserved-then-a-lt64 c =
+    let l = c.loop-k in
     let ws = c.args.pairs.now in
-    (omega arith, named_in ws l.names l.i l.invariant.0 c.loop-i-test.true l.invariant.1 c.if-a-lt64.true)
+    (omega arith, named_in ws l.names l.k l.invariant.0 c.loop-k-test.true l.invariant.1 c.if-a-lt64.true)
 
-pub loop-i-preserved : goal.loop-i-preserved
-loop-i-preserved c =
-    let l = c.loop-i in
+pub loop-k-preserved : goal.loop-k-preserved
+loop-k-preserved c =
+    let l = c.loop-k in
     let ws = c.args.pairs.now in
-    (omega arith, named_out ws l.names l.i l.invariant.0 c.loop-i-test.true l.invariant.1 c.if-a-lt64.false)
+    (omega arith, named_out ws l.names l.k l.invariant.0 c.loop-k-test.true l.invariant.1 c.if-a-lt64.false)
 
 pub returns : goal.returns
 returns c =
-    let e : c.loop-i.i ≡ 0 = omega arith in
-    rw e at c.loop-i.invariant.1
+    let e : c.loop-k.k ≡ 0 = omega arith in
+    rw e at c.loop-k.invariant.1

@@ -4,8 +4,5 @@ use Rattle.std.proofs.Common.{◌*◌, ◌/◌, ◌≤◌, length, drop}
 use Rattle.carried.specs.Pairs.{pairs_of, Names}
 use Rattle.carried.proofs.renaming.names_of.Given as goal
 
-abbrev pub invariant-loop-i : goal.invariant-loop-i
-invariant-loop-i l = (l.i ≤ length l.pairs / 2) × Names (pairs_of (drop (2 * l.i) l.pairs)) l.names
-
-abbrev pub decreases-loop-i : goal.decreases-loop-i
-decreases-loop-i l = l.i
+abbrev pub invariant-loop-k : goal.invariant-loop-k
+invariant-loop-k l = (l.k ≤ length l.pairs / 2) × Names (pairs_of (drop (2 * l.k) l.pairs)) l.names

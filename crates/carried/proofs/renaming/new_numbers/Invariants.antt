@@ -5,6 +5,3 @@ use Rattle.carried.proofs.renaming.new_numbers.Given as goal
 abbrev pub invariant-loop-i : goal.invariant-loop-i
 invariant-loop-i l =
     (length l.numbers ≡ 256) × ((k : ℕ) → k < l.i → get_or l.numbers k 0 ≡ get_or l.names (get_or l.whos k 0) 0)
-
-abbrev pub decreases-loop-i : goal.decreases-loop-i
-decreases-loop-i l = l.n - l.i

@@ -1,41 +1,18 @@
--- What the test has to find from timer i on is the whole, whatever the timers' times and weights are (proofs/Rest, proofs/Waiting). It stops at the first
--- that is amiss, or ends with none. Assumes nothing.
-use Rattle.std.proofs.Common.{not, sym, ap, ◌∙◌}
-use native.Mathlib.Nat.{sub-zero}
+use Rattle.std.proofs.Common.{◌≡◌, ℕ, length, take, Bool, ◌∙◌, rules, arith, refl}
+use borrow.Author.Tests.{tests}
+use Rattle.std.proofs.lemmas.Iterator.{YieldsList-from_slice}
+use Rattle.std.proofs.lemmas.Iterator.Search.{all_from_yields_List}
+use Rattle.rules.specs.Timers.{Timer}
+use Rattle.carried.specs.Pairs.{goes_to}
 use Rattle.carried.specs.Timers.{slot}
-use Rattle.carried.proofs.Rest.{none_stop, none_go, none_end}
-use Rattle.carried.proofs.Waiting.{from_next, from_none}
-use Rattle.carried.proofs.renaming.timers_fit.Invariants.{amiss}
+use Rattle.carried.proofs.Waiting.{array_read, all_along}
 use Rattle.carried.proofs.renaming.timers_fit.Goals as goal
-
-pub loop-i-init : goal.loop-i-init
-loop-i-init c = λ ats takens. rw sub-zero
-
-pub returns-then-not-goes_to : goal.returns-then-not-goes_to
-returns-then-not-goes_to c =
-    let t = c in
-    let l = t.loop-i in
-    let s = t in
-    λ ats takens.
-    let f = amiss s.args.names.now s.args.delayed in
-    let q = slot ats s.args.whos.now takens in
-    none_stop f (l.invariant ats takens) (from_next q l.i s.args.n s.requires t.loop-i-test.true) (ap not (sym c.goes_to.ensures ∙ c.if-not-goes_to.true))
-
-pub loop-i-preserved : goal.loop-i-preserved
-loop-i-preserved c =
-    let t = c in
-    let l = t.loop-i in
-    let s = t in
-    λ ats takens.
-    let f = amiss s.args.names.now s.args.delayed in
-    let q = slot ats s.args.whos.now takens in
-    none_go f (l.invariant ats takens) (from_next q l.i s.args.n s.requires t.loop-i-test.true) (ap not (sym c.goes_to.ensures ∙ c.if-not-goes_to.false))
 
 pub returns : goal.returns
 returns c =
-    let l = c.loop-i in
-    let s = c in
+    let s = c.args in
+    let p : ℕ → Bool = goes_to s.names.now s.delayed in
+    let long : length s.whos.now ≡ 256 = search rules in
     λ ats takens.
-    let f = amiss s.args.names.now s.args.delayed in
-    let q = slot ats s.args.whos.now takens in
-    none_end f (l.invariant ats takens) (from_none q l.i s.args.n c.loop-i-test.false)
+    all_from_yields_List p _ _ _ c.all.ensures.ran (YieldsList-from_slice (take s.n s.whos.now) cc) (λ x b q k. search (rules, tests))
+    ∙ all_along p (λ (x : Timer). x.who) _ _ (array_read _ (slot ats s.whos.now takens) s.whos.now 0 (λ j. refl) s.n (omega arith) (omega arith))

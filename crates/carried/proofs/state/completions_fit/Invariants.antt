@@ -9,6 +9,3 @@ use Rattle.carried.proofs.state.completions_fit.Given as goal
 abbrev pub invariant-loop-i : goal.invariant-loop-i
 invariant-loop-i l =
     (whos takens : List ℕ) → on_time l.last (from (slot l.ats whos takens) l.i (l.n - l.i)) ≡ on_time l.clock (timers_in l.ats whos takens l.n)
-
-abbrev pub decreases-loop-i : goal.decreases-loop-i
-decreases-loop-i l = l.n - l.i

@@ -1,18 +1,17 @@
--- By the length alone, or by every byte. Assumes nothing.
-use mathlib.Core.Path.{◌∙◌}
+-- By the length, and then by every byte. Assumes nothing.
+use mathlib.Core.Path.{◌≡◌, sym}
 use native.Mathlib.Omega.{arith}
-use borrow.Author.Rules.{rules}
-use Rattle.net.proofs.Naming.{absent, long, by_bytes}
+use borrow.Author.Tests.{le-leb, eqb-false}
+use lib.ListN.{length}
+use Rattle.std.proofs.Common.{rules, tests}
+use Rattle.std.proofs.lemmas.Iterator.{YieldsList-from_slice}
+use Rattle.std.proofs.lemmas.Iterator.Search.{all_from_yields_List}
+use Rattle.net.specs.Labels.{label_byte, every}
 use Rattle.net.proofs.labels.label_fits.Goals as goal
-
-pub returns-then-n-eq0 : goal.returns-then-n-eq0
-returns-then-n-eq0 c = let s = c.args in absent s.label.now s.lengths.now s.p c.if-n-eq0.true
-
-pub returns-then-n-gt-MOST_BYTES : goal.returns-then-n-gt-MOST_BYTES
-returns-then-n-gt-MOST_BYTES c = let s = c.args in long s.label.now s.lengths.now s.p (omega arith)
 
 pub returns : goal.returns
 returns c =
-    let s = c.args in
-    c.label_bytes.ensures
-    ∙ by_bytes s.label.now s.lengths.now s.p (omega (arith, c.if-n-eq0.false)) c.if-n-gt-MOST_BYTES.false (search rules)
+    let l = c.args.label.now in
+    let some = eqb-false (length l) 0 (sym c.if-is_empty.ensures) in
+    let all : c.all.result ≡ every label_byte l = all_from_yields_List label_byte _ _ c.all.result c.all.ensures.ran (YieldsList-from_slice l c.iter.ensures.rest) (λ x b q k. search (rules, tests)) in
+    simp (le-leb 1 (length l) (omega (arith, some)), le-leb (length l) 16 c.if-label-gt-MOST_BYTES.false) all

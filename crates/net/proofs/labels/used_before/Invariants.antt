@@ -9,6 +9,3 @@ use Rattle.net.proofs.labels.used_before.Given as goal
 abbrev pub invariant-loop-q : goal.invariant-loop-q
 invariant-loop-q l =
     any (same (label_at l.label l.lengths l.p)) (labels_from l.label l.lengths l.q (l.p - l.q)) ≡ any (same (label_at l.label l.lengths l.p)) (labels_from l.label l.lengths 0 l.p)
-
-abbrev pub decreases-loop-q : goal.decreases-loop-q
-decreases-loop-q l = l.p - l.q

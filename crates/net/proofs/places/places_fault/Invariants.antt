@@ -6,7 +6,5 @@ use Rattle.net.proofs.places.places_fault.Given as goal
 
 abbrev pub invariant-loop-p : goal.invariant-loop-p
 invariant-loop-p l =
-    places_fault l.initial' l.capacity l.label l.lengths l.p (l.places - l.p) ≡ places_fault l.initial' l.capacity l.label l.lengths 0 l.places
-
-abbrev pub decreases-loop-p : goal.decreases-loop-p
-decreases-loop-p l = l.places - l.p
+    places_fault l.net.initial.now l.net.capacity.now l.net.label.now l.net.lengths.now l.p (l.net.places - l.p)
+    ≡ places_fault l.net.initial.now l.net.capacity.now l.net.label.now l.net.lengths.now 0 l.net.places

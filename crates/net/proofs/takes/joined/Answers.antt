@@ -1,8 +1,8 @@
 -- By the arm taken: the bits of the word with the one at p, or those of the word alone. Assumes nothing.
 use Prim.Native.Nat.{ℕ}
 use mathlib.Core.Path.{sym, ap, ◌∙◌}
-use mathlib.Core.Bool.{Bool, ◌&&◌, ◌||◌, or-false}
-use borrow.Author.Tests.{lt-ltb, le-ltb}
+use mathlib.Core.Bool.{Bool, ◌&&◌, ◌||◌}
+use borrow.Author.Tests.{lt-ltb}
 use lib.Dec.{eqb}
 use Rattle.words.specs.Bits.{bit}
 use Rattle.words.proofs.Bits.{bit_or_lem, bit_one, one_shifted}
@@ -17,8 +17,3 @@ returns-then-p-lt64 c =
     ∙ ap (λ (x : ℕ). bit s.seen q || bit x q) (one_shifted s.p c.if-p-lt64.true)
     ∙ ap (λ (b : Bool). bit s.seen q || b) (bit_one s.p q ∙ eqb_swap q s.p)
     ∙ ap (λ (b : Bool). bit s.seen q || (b && eqb s.p q)) (sym (lt-ltb s.p 64 c.if-p-lt64.true))
-
-pub returns : goal.returns
-returns c =
-    let s = c.args in
-    λ q. sym (or-false (bit s.seen q)) ∙ ap (λ (b : Bool). bit s.seen q || (b && eqb s.p q)) (sym (le-ltb s.p 64 c.if-p-lt64.false))

@@ -1,0 +1,7 @@
+-- The invariant: the test of the slots that are left is that of all. Assumes nothing.
+use borrow.Author.Tests.{lt-leb}
+use Rattle.net.proofs.Slots.{or_go, any_turn}
+use Rattle.net.proofs.lent.Arcs.no_such_place.Goals as goal
+
+pub loop-slot-preserved : goal.loop-slot-preserved
+loop-slot-preserved c = or_go _ _ (any_turn _ _ _ _ _ _ c.loop-slot-test.true c.loop-slot.invariant) (lt-leb _ _ c.if-self-slot.false)
