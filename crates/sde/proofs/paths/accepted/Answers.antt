@@ -13,7 +13,23 @@ pub fill_changes-requires : goal.fill_changes-requires
 fill_changes-requires c = tidied_sound (net_of c.args.net.now) c.fill_rates.new.rates c.fill_rates.ensures c.requires.0
 
 pub invariant_of-run : goal.invariant_of-run
-invariant_of-run c = ?
+invariant_of-run c =
+    let n = net_of c.args.net.now in
+    let f = c.fill_rates in
+    record {
+      ready = record {
+        sound = tidied_sound n f.new.rates f.ensures c.requires.0;
+        prepared = record {
+          of_rates = rated n f.new.rates f.ensures;
+          of_changes = c.fill_changes.ensures;
+          of_skips = c.fill_skips.ensures;
+          of_ends = c.fill_ends.ensures;
+        };
+        some = omega (arith, c.requires.1);
+        few = c.requires.2;
+        rooted = c.sqrt.ensures.worked;
+      };
+    }
 
 pub returns : goal.returns
 returns c =
