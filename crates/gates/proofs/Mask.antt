@@ -2,21 +2,20 @@
 -- Assumes nothing.
 use Prim.Native.Nat.{ℕ, zero, suc, ◌+◌, ◌-◌, ◌*◌, ◌/◌, ◌%◌, ◌^◌, ◌≤◌, ◌<◌}
 use mathlib.Core.Path.{◌≡◌, refl, sym, ap, ◌∙◌}
-use mathlib.Core.Bool.{Bool, true, false, ◌&&◌, ◌||◌, not}
+use mathlib.Core.Bool.{Bool, true, false, ◌||◌, not}
 use mathlib.Core.List.{List, [], ◌∷◌}
 use native.Mathlib.Omega.{arith}
 use native.Mathlib.Nat.{pow-succ'}
 use native.Mathlib.Numerals.{add-one}
 use lib.Dec.{eqb, ltb}
 use lib.Pow.{pow_mono}
-use lib.ListN.{get_or}
 use borrow.Author.Tests.{lt-ltb, le-ltb, eqb-true, eqb-false, ltb-true, ltb-false}
 use Rattle.net.specs.declared.Net.{Net as NetRecord}
 use Rattle.net.specs.Net.{pick, timed}
 use Rattle.net.specs.Tests.{any, empty}
 use Rattle.net.specs.Readable.{is_read, is_block, places_from, transition, transitions_from, readable}
 use Rattle.gates.specs.declared.Gates.{Gates as GatesStruct}
-use Rattle.gates.specs.Gated.{raises, bits_from, bounded_from, gates, gates_of, gated}
+use Rattle.gates.specs.Gated.{bits_from, bounded_from, gates, gates_of, gated}
 use Rattle.gates.specs.Slots.{one_if, count_from, bounded_at, mask_from}
 use Rattle.engine.specs.Engine.{any_timed}
 use Rattle.engine.proofs.Arcs.{on_bool}

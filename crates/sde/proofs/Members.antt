@@ -38,7 +38,7 @@ use Rattle.engine.proofs.Arcs.{on_bool}
 
 pub path_is : (n : NetRecord) (samples : ℕ) (dt : Float) (seed k : ℕ) {own : ℕ} → own ≡ seed_of seed k
     → cells_of n.places (walked (readable n) dt samples own) ≡ path_of (readable n) samples dt seed k
-path_is n samples dt seed k d = 
+path_is n samples dt seed k d =
     ap (λ (o : ℕ). cells_of n.places (walked (readable n) dt samples o)) d
     ∙ ap (λ (m : ℕ). cells_of m (walked (readable n) dt samples (seed_of seed k))) (sym (places_length n))
 

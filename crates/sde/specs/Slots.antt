@@ -1,13 +1,13 @@
 -- What the private functions work out of the slots of a net record. The rules are in the other files; nothing here adds to them.
 use Rattle.std.specs.Prelude.{ℕ, ◌+◌, ◌*◌, ◌/◌, ◌%◌, ◌≤◌, ◌<◌, ◌≡◌, true, false, List, eqb, leb, get_or, Float}
 use Rattle.std.specs.Float.{nan, binary64}
-use Rattle.std.specs.Float.Ieee.{add, sub, mul, lt, eq}
+use Rattle.std.specs.Float.Ieee.{add, sub, lt, eq}
 use Rattle.net.specs.declared.Net.{Net as NetRecord}
 use Rattle.net.specs.Net.{pick, amount, zero64, one64, rate_of}
 use Rattle.net.specs.Readable.{transition, is_put}
 use Rattle.rules.specs.Propensity.{float}
 pub use Rattle.engine.specs.Arcs.{Light}
-use Rattle.sde.specs.Diffusion.{change, ways_at}
+use Rattle.sde.specs.Diffusion.{change}
 
 -- ---- the table of net changes
 
@@ -80,7 +80,3 @@ pub record Prepared (n : NetRecord) (changes : List Float) (skips ends : List �
 -- the slots from `from` to before `end` name places of the net
 abbrev pub Inside : ℕ → ℕ → ℕ → List ℕ → Type 0
 Inside places from end place = (a : ℕ) → from ≤ a → a < end → get_or place a 0 < places
-
--- a times the ways of a slot, at the value v of its place
-abbrev pub times_slot : Float → ℕ → ℕ → Float → Float
-times_slot a kind weight v = pick (eqb kind 0) (mul binary64 a (ways_at v (amount weight))) a

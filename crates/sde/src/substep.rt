@@ -28,14 +28,18 @@ fn spread(run: &Run, j: usize, a: f64, noise: f64, state: &mut State)
         × Arrays.Mapped places (λ p. Diffusion.drift_by (get_or run.now.changes.now (32 * j + p) nan) a run.now.dt) state.old.drift state.new.drift
         × (state.new.sampler ≡ state.old.sampler) }
 {
+    let changes = run.changes;
+    let skips = run.skips;
+    let places = run.net.places;
+    let dt = run.dt;
     let from = 32 * j;
     let first = 33 * j;
-    let mut p = run.skips[first];
-    while p < run.net.places {
-        let d = run.changes[from + p];
+    let mut p = skips[first];
+    while p < places {
+        let d = changes[from + p];
         state.x[p] += d * noise;
-        state.drift[p] += d * a * run.dt;
-        p = run.skips[first + p + 1];
+        state.drift[p] += d * a * dt;
+        p = skips[first + p + 1];
     }
 }
 

@@ -21,8 +21,8 @@ loop-a-preserved c =
     let n = s.net.now in
     let t = count_turn (sort_of s.gate) n.kind.now n.place.now n.weight.now c.loop-a.a s.end c.loop-a-test.true in
     elim c.if-is.branch [
-      then-is w ↦ let o = ap one_if (sym c.is.ensures ∙ w.if-is.true) in omega arith
-    | else-is w ↦ let o = ap one_if (sym c.is.ensures ∙ w.if-is.false) in omega arith
+      | then-is w ↦ let o = ap one_if (sym c.is.ensures ∙ w.if-is.true) in omega arith
+      | else-is w ↦ let o = ap one_if (sym c.is.ensures ∙ w.if-is.false) in omega arith
     ]
 
 pub returns : goal.returns

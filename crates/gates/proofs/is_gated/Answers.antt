@@ -9,11 +9,11 @@ pub returns-then-g-gt0-4 : goal.returns-then-g-gt0-4
 returns-then-g-gt0-4 c =
     let e = gated_is c.args.g (omega arith) in
     elim c.if-g-gt0-3.branch [
-      then-g-gt0-3 w ↦ elim c.if-g-gt0-2.branch [
-        then-g-gt0-2 v ↦ elim c.if-g-gt0.branch [ then-g-gt0 u ↦ grind (arith, common_steps) | else-g-gt0 u ↦ grind (arith, common_steps) ]
-      | else-g-gt0-2 v ↦ grind (arith, common_steps)
+      | then-g-gt0-3 w ↦ elim c.if-g-gt0-2.branch [
+        | then-g-gt0-2 v ↦ elim c.if-g-gt0.branch [ then-g-gt0 u ↦ grind (arith, common_steps) | else-g-gt0 u ↦ grind (arith, common_steps) ]
+        | else-g-gt0-2 v ↦ grind (arith, common_steps)
       ]
-    | else-g-gt0-3 w ↦ grind (arith, common_steps)
+      | else-g-gt0-3 w ↦ grind (arith, common_steps)
     ]
 
 pub returns-else-g-gt0-4 : goal.returns-else-g-gt0-4

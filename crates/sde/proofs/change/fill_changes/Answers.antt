@@ -7,6 +7,7 @@ use Rattle.sde.proofs.change.fill_changes.Goals as goal
 
 pub loop-c-preserved : goal.loop-c-preserved
 loop-c-preserved c =
-    let v = c.loop-c.invariant in
-    (length-set c.loop-c.changes c.loop-c.c c.change_of.result ∙ v.0,
-    cells_more (change_of (net_of c.args.net.now)) c.loop-c.changes c.loop-c.c c.change_of.result (omega arith) c.change_of.ensures v.1)
+    let v = c.loop-c.invariant in (
+      length-set c.loop-c.changes c.loop-c.c c.change_of.result ∙ v.0,
+      cells_more (change_of (net_of c.args.net.now)) c.loop-c.changes c.loop-c.c c.change_of.result (omega arith) c.change_of.ensures v.1,
+    )

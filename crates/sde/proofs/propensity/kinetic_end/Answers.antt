@@ -12,8 +12,8 @@ pub loop-a-preserved : goal.loop-a-preserved
 loop-a-preserved c =
     let g = c.args in
     elim c.if-kind-a-eq-KINETIC_TAKE.branch [
-      then-kind-a-eq-KINETIC_TAKE w ↦ rw w.e-is (end_here g.kind.now g.from c.loop-a.a c.loop-a.auto.a)
-    | else-kind-a-eq-KINETIC_TAKE w ↦ rw w.e-is (end_stays g.kind.now g.from c.loop-a.a c.loop-a.e c.loop-a.invariant w.if-kind-a-eq-KINETIC_TAKE.false)
+      | then-kind-a-eq-KINETIC_TAKE w ↦ rw w.e-is (end_here g.kind.now g.from c.loop-a.a c.loop-a.auto.a)
+      | else-kind-a-eq-KINETIC_TAKE w ↦ rw w.e-is (end_stays g.kind.now g.from c.loop-a.a c.loop-a.e c.loop-a.invariant w.if-kind-a-eq-KINETIC_TAKE.false)
     ]
 
 pub returns : goal.returns

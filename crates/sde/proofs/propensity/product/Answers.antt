@@ -20,13 +20,13 @@ loop-s-preserved c =
     let i = c.loop-s.s in
     let x = take n.places c.args.x.now in
     elim c.if-net-s-eq-KINETIC_TAKE.branch [
-      then-net-s-eq-KINETIC_TAKE+else-a w ↦
-        let v = value_at n.places c.args.x.now (get_or n.place.now i 0) (c.requires.3 i c.loop-s.auto.s c.loop-s-test.true) in
-        let f = factor x c.loop-s.a n.kind.now n.place.now n.weight.now i c.args.end c.loop-s-test.true w.if-net-s-eq-KINETIC_TAKE.true _ _ v w.times-a.ensures false w.if-a.false in
-        cc
-    | else-net-s-eq-KINETIC_TAKE w ↦
-        let f = no_factor x c.loop-s.a n.kind.now n.place.now n.weight.now i c.args.end c.loop-s-test.true w.if-net-s-eq-KINETIC_TAKE.false in
-        cc
+      | then-net-s-eq-KINETIC_TAKE+else-a w ↦
+          let v = value_at n.places c.args.x.now (get_or n.place.now i 0) (c.requires.3 i c.loop-s.auto.s c.loop-s-test.true) in
+          let f = factor x c.loop-s.a n.kind.now n.place.now n.weight.now i c.args.end c.loop-s-test.true w.if-net-s-eq-KINETIC_TAKE.true _ _ v w.times-a.ensures false w.if-a.false in
+          cc
+      | else-net-s-eq-KINETIC_TAKE w ↦
+          let f = no_factor x c.loop-s.a n.kind.now n.place.now n.weight.now i c.args.end c.loop-s-test.true w.if-net-s-eq-KINETIC_TAKE.false in
+          cc
     ]
 
 pub returns : goal.returns

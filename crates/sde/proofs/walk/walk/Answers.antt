@@ -17,6 +17,7 @@ walk_on-requires c = (omega (arith, c.show.ensures.long), c.show.ensures.shows)
 pub returns : goal.returns
 returns c =
     let r = c.args.run.now in
-    let w = c.walk_on.ensures in
-    (w.0 ∙ walk_made (net_of r.net) _ _ (omega arith) r.ready.sound.places c.first_state.ensures c.args.seed c.new.result c.new.ensures r.dt r.n,
-    beyond_join (column_beyond r.net.places r.n 0 _ _ _ r.ready.some c.show.ensures) w.1)
+    let w = c.walk_on.ensures in (
+      w.0 ∙ walk_made (net_of r.net) _ _ (omega arith) r.ready.sound.places c.first_state.ensures c.args.seed c.new.result c.new.ensures r.dt r.n,
+      beyond_join (column_beyond r.net.places r.n 0 _ _ _ r.ready.some c.show.ensures) w.1,
+    )

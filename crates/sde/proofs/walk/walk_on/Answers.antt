@@ -14,10 +14,12 @@ loop-i-init c = let r = c.args.run.now in progress_first r.net.places r.n c.args
 pub returns-in_err-over_interval : goal.returns-in_err-over_interval
 returns-in_err-over_interval c =
     let r = c.args.run.now in
-    let p = err_from_is_err_and c.from_residual.result c.from_residual.ensures.1 in
-    (rw (p.1, p.2)
-    (progress_stop r.net.places r.n c.loop-i.i (over_interval (readable (net_of r.net)) r.dt) (state_of r.net.places c.loop-i.state) _ c.over_interval.result c.loop-i.invariant
-    c.loop-i-test.true c.over_interval.ensures _ c.in_err-over_interval.was), c.loop-i.invariant.beyond)
+    let p = err_from_is_err_and c.from_residual.result c.from_residual.ensures.1 in (
+      rw (p.1, p.2)
+          (progress_stop r.net.places r.n c.loop-i.i (over_interval (readable (net_of r.net)) r.dt) (state_of r.net.places c.loop-i.state) _ c.over_interval.result c.loop-i.invariant
+          c.loop-i-test.true c.over_interval.ensures _ c.in_err-over_interval.was),
+      c.loop-i.invariant.beyond,
+    )
 
 pub show-requires : goal.show-requires
 show-requires c =
@@ -33,6 +35,8 @@ loop-i-preserved c =
 pub returns : goal.returns
 returns c =
     let r = c.args.run.now in
-    let some = r.ready.some in
-    (progress_end r.net.places r.n c.loop-i.i (over_interval (readable (net_of r.net)) r.dt) (state_of r.net.places c.loop-i.state) c.loop-i.invariant (omega arith) c.loop-i-test.false
-    c.requires.0, c.loop-i.invariant.beyond)
+    let some = r.ready.some in (
+      progress_end r.net.places r.n c.loop-i.i (over_interval (readable (net_of r.net)) r.dt) (state_of r.net.places c.loop-i.state) c.loop-i.invariant (omega arith) c.loop-i-test.false
+          c.requires.0,
+      c.loop-i.invariant.beyond,
+    )
