@@ -16,7 +16,6 @@ use Rattle.words.specs.Bits.{bit}
 use Rattle.words.proofs.Bits.{bit_none, bit_or_lem}
 use Rattle.net.specs.declared.Net.{Net as NetRecord}
 use Rattle.net.specs.Net.{Take, Transition, Net, Marking, pick, amount, held, moved}
-use Rattle.net.specs.Record.{lent}
 use Rattle.net.specs.Readable as Record
 use Rattle.net.specs.Readable.{Slot, slots, takes_of, arcs_of, is_put, readable}
 use Rattle.net.proofs.Lengths.{places_length, transitions_length}
@@ -243,13 +242,13 @@ module _ (touches : ℕ → Transition → Bool) (n : NetRecord) (j : ℕ) where
 
 -- ---- as a loop over slots tells it
 
-module _ (touches : ℕ → Transition → Bool) (j places : ℕ) (arcs kind place weight guards before : List ℕ) where
+module _ (touches : ℕ → Transition → Bool) (n : NetRecord) (j : ℕ) (guards before : List ℕ) where
   -- what it tells of the counts now
   abbrev So : List ℕ → ℕ → ℕ → Type 0
-  So counts moved crossed = Told touches j places arcs kind place weight guards before counts moved crossed
+  So counts moved crossed = Told touches n j guards before counts moved crossed
 
   pub told_none : So before 0 0
-  told_none = λ transitions initial capacity rate delay s g. tells_none touches (lent places transitions initial capacity rate delay arcs kind place weight) j (marking places before)
+  told_none = λ s g. tells_none touches n j (marking n.places before)
 
   pub told_same : (counts : List ℕ) (moved crossed : ℕ) → So counts moved crossed
       → (counts' : List ℕ) (moved' crossed' : ℕ) → counts' ≡ counts → moved' ≡ moved → crossed' ≡ crossed → So counts' moved' crossed'
@@ -257,18 +256,15 @@ module _ (touches : ℕ → Transition → Bool) (j places : ℕ) (arcs kind pla
       subst⁻¹ (λ (y : ℕ). So counts' moved' y) ex (subst⁻¹ (λ (y : ℕ). So counts' y crossed) em (subst⁻¹ (λ (y : List ℕ). So y moved crossed) ec told))
 
   -- the count of place p, which the transition touches, becomes d
-  pub told_more : (counts : List ℕ) (moved crossed : ℕ) → So counts moved crossed → Counts counts → (p d low high x : ℕ)
-      → ((transitions : ℕ) (initial capacity : List ℕ) (rate delay : List Float)
-      → touches p (Record.transition (lent places transitions initial capacity rate delay arcs kind place weight) j) ≡ true)
-      → p < places → low ≤ get_or counts p 0 → low ≤ d → get_or counts p 0 ≤ high → d ≤ high → high ≤ 2 ^ 53
+  pub told_more : (counts : List ℕ) (moved crossed : ℕ) → So counts moved crossed → Counts counts → (p d low high x : ℕ) → touches p (Record.transition n j) ≡ true
+      → p < n.places → low ≤ get_or counts p 0 → low ≤ d → get_or counts p 0 ≤ high → d ≤ high → high ≤ 2 ^ 53
       → ((j : ℕ) → bit x j ≡ crossing guards p low high j)
       → (counts' : List ℕ) (moved' crossed' : ℕ) → counts' ≡ set counts p d → moved' ≡ bit_or moved (get_or guards p 0) → crossed' ≡ bit_or crossed x
       → So counts' moved' crossed'
   told_more counts moved crossed told good p d low high x hit i lc ld ch dh small w counts' moved' crossed' ec em ex =
       told_same (set counts p d) (bit_or moved (get_or guards p 0)) (bit_or crossed x)
-      (λ transitions initial capacity rate delay s g.
-      let n = lent places transitions initial capacity rate delay arcs kind place weight in
-      tells_more touches n j (marking places before) (marking places counts) (marking places (set counts p d)) moved crossed (get_or guards p 0) x
-      (told transitions initial capacity rate delay s g)
-      (tells_set n s guards g counts good p d low high x i lc ld ch dh small w touches j (hit transitions initial capacity rate delay)))
+      (λ s g.
+      tells_more touches n j (marking n.places before) (marking n.places counts) (marking n.places (set counts p d)) moved crossed (get_or guards p 0) x
+      (told s g)
+      (tells_set n s guards g counts good p d low high x i lc ld ch dh small w touches j hit))
       counts' moved' crossed' ec em ex

@@ -8,7 +8,6 @@ use Rattle.net.specs.declared.Net.{Net as NetRecord}
 use Rattle.net.specs.Net.{Take, Transition, Net, Marking, pick}
 use Rattle.net.specs.Readable as Record
 use Rattle.net.specs.Readable.{readable}
-use Rattle.net.specs.Record.{lent}
 use Rattle.rules.specs.Enabled.{enabled}
 use Rattle.rules.specs.Propensity.{factored}
 use Rattle.rules.specs.Exact.{some_inexact}
@@ -78,10 +77,7 @@ Tells touches n j m m' moved crossed =
     × Listed (readable n) (λ (p : ℕ). touches p (Record.transition n j)) moved
     × Listed (readable n) (λ (p : ℕ). touches p (Record.transition n j)) crossed
 
--- A function that moves tokens tells it of every net with the fields that it is lent, if the table is that net's.
-abbrev pub Told : (ℕ → Transition → Bool) → ℕ → ℕ → List ℕ → List ℕ → List ℕ → List ℕ → List ℕ → List ℕ → List ℕ → ℕ → ℕ → Type 0
-Told touches j places arcs kind place weight guards before after moved crossed =
-    (transitions : ℕ) (initial capacity : List ℕ) (rate delay : List Float)
-    → Tidy (lent places transitions initial capacity rate delay arcs kind place weight)
-    → Guards (lent places transitions initial capacity rate delay arcs kind place weight) guards
-    → Tells touches (lent places transitions initial capacity rate delay arcs kind place weight) j (marking places before) (marking places after) moved crossed
+-- A function that moves tokens tells it of the net that it is lent, if the net is tidy and the table is the net's.
+abbrev pub Told : (ℕ → Transition → Bool) → NetRecord → ℕ → List ℕ → List ℕ → List ℕ → ℕ → ℕ → Type 0
+Told touches n j guards before after moved crossed =
+    Tidy n → Guards n guards → Tells touches n j (marking n.places before) (marking n.places after) moved crossed

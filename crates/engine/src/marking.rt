@@ -1,5 +1,5 @@
 // The counts: which transitions they enable, in how many ways, and what a transition does to them.
-ghost use Rattle.std.specs.Prelude.{◌≡◌, true, ◌+◌, ◌-◌, ◌*◌, ◌^◌, ◌<◌, ◌≤◌, min, eqb, leb, get_or};
+ghost use Rattle.std.specs.Prelude.{◌≡◌, ◌+◌, ◌^◌, ◌<◌, ◌≤◌, min, eqb, leb, is_some, IfSome};
 ghost use Rattle.std.specs.Float.{binary64};
 ghost use Rattle.std.specs.Float.Ieee.{mul, lt, eq};
 ghost use Rattle.net.specs.Net as Reader;
@@ -13,6 +13,8 @@ ghost use Rattle.rules.specs.Moves as Moves;
 ghost use Rattle.engine.specs.Engine as Engine;
 ghost use Rattle.engine.specs.Guards as Guards;
 ghost use Rattle.engine.specs.Limits as Limits;
+ghost use Rattle.engine.specs.declared.marking.Added.{Added};
+ghost use Rattle.engine.specs.declared.marking.Fired.{Fired};
 
 use crate::{guards, slots};
 use combinations::RealWays;
@@ -36,14 +38,11 @@ pub fn enabled<'a>(net: &LentNet, limit: &'a [u64; 1024], counts: &[u64; 32], j:
 {
     let from = 16 * j;
     let end = from + net.arcs[j];
-    let mut a = from;
-    while a < end {
-        let p = net.place[a];
+    for a in from..end {
         let l = limit[a];
-        if !slot_open(l, counts[p]) {
+        if !slot_open(l, counts[net.place[a]]) {
             return l == slots::STOP;
         }
-        a += 1;
     }
     true
 }
@@ -53,8 +52,7 @@ fn ways(m: u64, w: u64) -> f64
     requires { (m ≤ 2 ^ 53) × (w ≤ 1_000_000) }
     ensures { result ≡ Propensity.ways m w }
 {
-    let answer = combinations::combinations_unflagged(m as i64, w as i64);
-    match answer {
+    match combinations::combinations_unflagged(m as i64, w as i64) {
         RealWays::Value(x) => x,
         RealWays::Refused => 0.0 / 0.0,
     }
@@ -79,7 +77,7 @@ pub fn times(x: f64, kind: u64, limit: u64, count: u64) -> f64
     requires { (count ≤ 2 ^ 53) × (kind ≡ 0 → Limits.at_least 1_000_000 ≤ limit) }
     ensures { result ≡ Reader.pick (eqb kind 0) (mul binary64 x (Propensity.ways count (Limits.at_least limit))) x }
 {
-    if kind == 0 {
+    if kind == net::KINETIC_TAKE {
         if limit == 0xFFFF_FFFF_FFFF_FFFF {
             return x * (count as i64 as f64);
         }
@@ -92,7 +90,7 @@ pub fn times(x: f64, kind: u64, limit: u64, count: u64) -> f64
 fn taken_from(count: u64, kind: u64, weight: u64) -> u64
     ensures { result ≡ min count (Reader.pick (leb kind 1) (Reader.amount weight) 0) }
 {
-    if kind <= 1 {
+    if kind <= net::TAKE {
         let a = slots::amount(weight);
         if count < a {
             return count;
@@ -112,37 +110,33 @@ pub struct Taken {
 
 // Takes what transition j takes.
 pub fn take<'a>(net: &LentNet, guards: &'a [u64; 160], counts: &mut [u64; 32], j: usize) -> Taken
-    requires { (j < 64) × (net.now.places ≤ 32) × Engine.AtMost 16 net.now.arcs.now × Engine.Below net.now.places net.now.place.now × Engine.AtMost 1_000_000 net.now.weight.now × Engine.Counts counts.old }
-    ensures { (Engine.marking net.now.places counts.new ≡ Moves.taking (Engine.marking net.now.places counts.old)
-        (Record.takes_of (Record.slots net.now.kind.now net.now.place.now net.now.weight.now (16 * j) (get_or net.now.arcs.now j 0))))
+    requires { let net = net_of net.now in (j < 64) × (net.places ≤ 32) × Engine.AtMost 16 net.arcs × Engine.Below net.places net.place × Engine.AtMost 1_000_000 net.weight × Engine.Counts counts.old }
+    ensures { let net = net_of net.now in (Engine.marking net.places counts.new ≡ Moves.taking (Engine.marking net.places counts.old) (Record.takes_of (Record.slots_of net j)))
         × Engine.Counts counts.new × (result.less ≤ 16_000_000)
-        × (Moments.sum_of (Engine.marking net.now.places counts.old) ≡ Moments.sum_of (Engine.marking net.now.places counts.new) + result.less)
-        × Guards.Told Guards.takes_on j net.now.places net.now.arcs.now net.now.kind.now net.now.place.now net.now.weight.now guards.now
-        counts.old counts.new result.moved result.crossed }
+        × (Moments.sum_of (Engine.marking net.places counts.old) ≡ Moments.sum_of (Engine.marking net.places counts.new) + result.less)
+        × Guards.Told Guards.takes_on net j guards.now counts.old counts.new result.moved result.crossed }
 {
     let from = 16 * j;
     let end = from + net.arcs[j];
     let mut less: u64 = 0;
     let mut moved: u64 = 0;
     let mut crossed: u64 = 0;
-    let mut a = from;
-    while a < end {
+    for a in from..end {
         let p = net.place[a];
         let c = counts[p];
         let x = taken_from(c, net.kind[a], net.weight[a]);
         if 0 < x {
             let low = c - x;
             counts[p] = low;
-            less = less + x;
-            moved = moved | guards[p];
-            crossed = crossed | guards::crossed(guards, p, low, c);
+            less += x;
+            moved |= guards[p];
+            crossed |= guards::crossed(guards, p, low, c);
         }
-        a += 1;
     }
     Taken {
-        less: less,
-        moved: moved,
-        crossed: crossed,
+        less,
+        moved,
+        crossed,
     }
 }
 
@@ -150,72 +144,65 @@ pub fn take<'a>(net: &LentNet, guards: &'a [u64; 160], counts: &mut [u64; 32], j
 fn given(kind: u64, weight: u64) -> u64
     ensures { result ≡ Reader.pick (Record.is_put kind) (Reader.amount weight) 0 }
 {
-    if kind == 2 {
+    if kind == net::PUT {
         return slots::amount(weight);
     }
     0
 }
 
-// Whether all counts stay at or below 2^53, how much more the places hold, and the transitions as for `Taken`.
+// How much more the places hold, and the transitions as for `Taken`.
 #[derive(Clone, Copy)]
 pub struct Added {
-    pub fits: bool,
     pub more: u64,
     pub moved: u64,
     pub crossed: u64,
 }
 
-// Puts what transition j puts. Where a count would pass 2^53 the counts are of no use.
-pub fn put<'a>(net: &LentNet, guards: &'a [u64; 160], counts: &mut [u64; 32], j: usize) -> Added
-    requires { (j < 64) × (net.now.places ≤ 32) × Engine.AtMost 16 net.now.arcs.now × Engine.Below net.now.places net.now.place.now × Engine.AtMost 1_000_000 net.now.weight.now × Engine.Counts counts.old }
-    ensures { Engine.PutBy result.fits (Moves.putting (Engine.marking net.now.places counts.old)
-        (Record.arcs_of Record.is_put (Record.slots net.now.kind.now net.now.place.now net.now.weight.now (16 * j) (get_or net.now.arcs.now j 0))))
-        (Engine.marking net.now.places counts.new)
-        × Engine.Counts counts.new
-        × (result.fits ≡ true → Moments.sum_of (Engine.marking net.now.places counts.new) ≡ Moments.sum_of (Engine.marking net.now.places counts.old) + result.more)
-        × (result.more ≤ 16_000_000)
-        × (result.fits ≡ true → Guards.Told Guards.puts_on j net.now.places net.now.arcs.now net.now.kind.now net.now.place.now net.now.weight.now guards.now
-        counts.old counts.new result.moved result.crossed) }
+// Puts what transition j puts. Where a count would pass 2^53 it answers None, and the counts are of no use.
+pub fn put<'a>(
+    net: &LentNet,
+    guards: &'a [u64; 160],
+    counts: &mut [u64; 32],
+    j: usize,
+) -> Option<Added>
+    requires { let net = net_of net.now in (j < 64) × (net.places ≤ 32) × Engine.AtMost 16 net.arcs × Engine.Below net.places net.place × Engine.AtMost 1_000_000 net.weight × Engine.Counts counts.old }
+    ensures puts { let net = net_of net.now in Engine.PutBy (is_some result)
+        (Moves.putting (Engine.marking net.places counts.old) (Record.arcs_of Record.is_put (Record.slots_of net j))) (Engine.marking net.places counts.new) }
+    ensures small { Engine.Counts counts.new }
+    ensures told { let net = net_of net.now in IfSome result (λ (x : Added).
+        (Moments.sum_of (Engine.marking net.places counts.new) ≡ Moments.sum_of (Engine.marking net.places counts.old) + x.more) × (x.more ≤ 16_000_000)
+        × Guards.Told Guards.puts_on net j guards.now counts.old counts.new x.moved x.crossed) }
 {
     let from = 16 * j;
     let end = from + net.arcs[j];
-    let mut many: u64 = 0;
+    let mut more: u64 = 0;
     let mut moved: u64 = 0;
     let mut crossed: u64 = 0;
-    let mut a = from;
-    while a < end {
+    for a in from..end {
         let p = net.place[a];
         let x = given(net.kind[a], net.weight[a]);
         if 0 < x {
             let c = counts[p];
             let d = c + x;
             if 9_007_199_254_740_992 < d {
-                return Added {
-                    fits: false,
-                    more: 0,
-                    moved: 0,
-                    crossed: 0,
-                };
+                return None;
             }
             counts[p] = d;
-            many = many + x;
-            moved = moved | guards[p];
-            crossed = crossed | guards::crossed(guards, p, c, d);
+            more += x;
+            moved |= guards[p];
+            crossed |= guards::crossed(guards, p, c, d);
         }
-        a += 1;
     }
-    Added {
-        fits: true,
-        more: many,
-        moved: moved,
-        crossed: crossed,
-    }
+    Some(Added {
+        more,
+        moved,
+        crossed,
+    })
 }
 
-// Whether all counts stay at or below 2^53, how much the places have lost, how much they have got, and the transitions as for `Taken`.
+// How much the places have lost, how much they have got, and the transitions as for `Taken`.
 #[derive(Clone, Copy)]
 pub struct Fired {
-    pub fits: bool,
     pub less: u64,
     pub more: u64,
     pub moved: u64,
@@ -223,19 +210,22 @@ pub struct Fired {
 }
 
 // Transition j fires: it takes, and then it puts. One way through its slots does both, since its puts stand behind all others. Where a count would pass 2^53
-// the counts are of no use.
-pub fn fire<'a>(net: &LentNet, guards: &'a [u64; 160], counts: &mut [u64; 32], j: usize) -> Fired
-    requires { (j < 64) × (net.now.places ≤ 32) × Engine.AtMost 16 net.now.arcs.now × Engine.Below net.now.places net.now.place.now × Engine.AtMost 1_000_000 net.now.weight.now × Engine.Counts counts.old
-        × Engine.PutsLast (Record.slots net.now.kind.now net.now.place.now net.now.weight.now (16 * j) (get_or net.now.arcs.now j 0)) }
-    ensures { Engine.PutBy result.fits (Moves.putting (Moves.taking (Engine.marking net.now.places counts.old)
-        (Record.takes_of (Record.slots net.now.kind.now net.now.place.now net.now.weight.now (16 * j) (get_or net.now.arcs.now j 0))))
-        (Record.arcs_of Record.is_put (Record.slots net.now.kind.now net.now.place.now net.now.weight.now (16 * j) (get_or net.now.arcs.now j 0))))
-        (Engine.marking net.now.places counts.new)
-        × Engine.Counts counts.new
-        × (result.fits ≡ true → Moments.sum_of (Engine.marking net.now.places counts.new) + result.less ≡ Moments.sum_of (Engine.marking net.now.places counts.old) + result.more)
-        × (result.more ≤ 16_000_000)
-        × (result.fits ≡ true → Guards.Told Guards.moves_on j net.now.places net.now.arcs.now net.now.kind.now net.now.place.now net.now.weight.now guards.now
-        counts.old counts.new result.moved result.crossed) }
+// it answers None, and the counts are of no use.
+pub fn fire<'a>(
+    net: &LentNet,
+    guards: &'a [u64; 160],
+    counts: &mut [u64; 32],
+    j: usize,
+) -> Option<Fired>
+    requires { let net = net_of net.now in (j < 64) × (net.places ≤ 32) × Engine.AtMost 16 net.arcs × Engine.Below net.places net.place × Engine.AtMost 1_000_000 net.weight × Engine.Counts counts.old
+        × Engine.PutsLast (Record.slots_of net j) }
+    ensures moves { let net = net_of net.now in Engine.PutBy (is_some result)
+        (Moves.putting (Moves.taking (Engine.marking net.places counts.old) (Record.takes_of (Record.slots_of net j))) (Record.arcs_of Record.is_put (Record.slots_of net j)))
+        (Engine.marking net.places counts.new) }
+    ensures small { Engine.Counts counts.new }
+    ensures told { let net = net_of net.now in IfSome result (λ (x : Fired).
+        (Moments.sum_of (Engine.marking net.places counts.new) + x.less ≡ Moments.sum_of (Engine.marking net.places counts.old) + x.more) × (x.more ≤ 16_000_000)
+        × Guards.Told Guards.moves_on net j guards.now counts.old counts.new x.moved x.crossed) }
 {
     let from = 16 * j;
     let end = from + net.arcs[j];
@@ -243,44 +233,35 @@ pub fn fire<'a>(net: &LentNet, guards: &'a [u64; 160], counts: &mut [u64; 32], j
     let mut more: u64 = 0;
     let mut moved: u64 = 0;
     let mut crossed: u64 = 0;
-    let mut a = from;
-    while a < end {
+    for a in from..end {
         let p = net.place[a];
         let k = net.kind[a];
         let c = counts[p];
-        if k == 2 {
+        if k == net::PUT {
             let x = slots::amount(net.weight[a]);
             let d = c + x;
             if 9_007_199_254_740_992 < d {
-                return Fired {
-                    fits: false,
-                    less: 0,
-                    more: 0,
-                    moved: 0,
-                    crossed: 0,
-                };
+                return None;
             }
             counts[p] = d;
-            more = more + x;
-            moved = moved | guards[p];
-            crossed = crossed | guards::crossed(guards, p, c, d);
+            more += x;
+            moved |= guards[p];
+            crossed |= guards::crossed(guards, p, c, d);
         } else {
             let y = taken_from(c, k, net.weight[a]);
             if 0 < y {
                 let low = c - y;
                 counts[p] = low;
-                less = less + y;
-                moved = moved | guards[p];
-                crossed = crossed | guards::crossed(guards, p, low, c);
+                less += y;
+                moved |= guards[p];
+                crossed |= guards::crossed(guards, p, low, c);
             }
         }
-        a += 1;
     }
-    Fired {
-        fits: true,
-        less: less,
-        more: more,
-        moved: moved,
-        crossed: crossed,
-    }
+    Some(Fired {
+        less,
+        more,
+        moved,
+        crossed,
+    })
 }

@@ -16,7 +16,7 @@ fn inexact_slot(kind: u64, weight: u64, count: u64) -> bool
     requires { count ≤ 2 ^ 53 }
     ensures { result ≡ (eqb kind 0 && not (Exact.exact_ways count (Reader.amount weight))) }
 {
-    if kind == 0 {
+    if kind == net::KINETIC_TAKE {
         if count <= combinations::unrounded(weight) {
             return false;
         }
@@ -32,13 +32,10 @@ fn some_inexact(net: &LentNet, counts: &[u64; 32], j: usize) -> bool
 {
     let from = 16 * j;
     let end = from + net.arcs[j];
-    let mut a = from;
-    while a < end {
-        let p = net.place[a];
-        if inexact_slot(net.kind[a], net.weight[a], counts[p]) {
+    for a in from..end {
+        if inexact_slot(net.kind[a], net.weight[a], counts[net.place[a]]) {
             return true;
         }
-        a += 1;
     }
     false
 }

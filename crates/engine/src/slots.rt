@@ -3,7 +3,7 @@ ghost use Rattle.std.specs.Prelude.{◌≡◌, ℕ, ◌+◌, ◌-◌, ◌*◌, �
 ghost use Rattle.std.proofs.Math.Option.{none};
 ghost use Rattle.net.specs.Net as Reader;
 ghost use Rattle.net.specs.Readable as Record;
-ghost use Rattle.net.specs.Record.{lent, labelled, net_of};
+ghost use Rattle.net.specs.Record.{net_of};
 ghost use Rattle.net.specs.declared.Net.{Net as NetRecord};
 ghost use Rattle.engine.specs.Engine as Engine;
 ghost use Rattle.engine.specs.Limits as Limits;
@@ -21,103 +21,103 @@ fn group(kind: u64) -> u64
     0
 }
 
-// Copies a slot to slot b, if it is of group g, and answers with the next slot to fill.
-fn copy_slot(
-    kind: u64,
-    place: usize,
-    weight: u64,
-    g: u64,
-    b: usize,
-    kinds: &mut [u64; 1024],
-    places: &mut [usize; 1024],
-    weights: &mut [u64; 1024],
-) -> usize
-    requires { (eqb (Arcs.group kind) g ≡ true → b < 1024) × (length kinds.old ≡ 1024) × (length places.old ≡ 1024) × (length weights.old ≡ 1024) }
-    ensures { (result ≡ Reader.pick (eqb (Arcs.group kind) g) (b + 1) b)
-        × (kinds.new ≡ Reader.pick (eqb (Arcs.group kind) g) (set kinds.old b kind) kinds.old)
-        × (places.new ≡ Reader.pick (eqb (Arcs.group kind) g) (set places.old b place) places.old)
-        × (weights.new ≡ Reader.pick (eqb (Arcs.group kind) g) (set weights.old b weight) weights.old) }
-{
-    if group(kind) == g {
-        kinds[b] = kind;
-        places[b] = place;
-        weights[b] = weight;
-        return b + 1;
-    }
-    b
+// A net's slots in order: the puts of a transition stand behind its other arcs, so that a test may end before them, and every slot that is not used is 0, so
+// that the bounds of an accepted net hold in all slots.
+#[derive(Drop)]
+pub struct Slots {
+    pub arcs: [usize; 64],
+    pub kind: [u64; 1024],
+    pub place: [usize; 1024],
+    pub weight: [u64; 1024],
 }
 
-// Copies those of n slots from slot `from` on that are of group g to the slots from `to` on, and answers with the slot behind them.
-fn copy_slots(
-    net: &LentNet,
-    from: usize,
-    n: usize,
-    g: u64,
-    to: usize,
-    kinds: &mut [u64; 1024],
-    places: &mut [usize; 1024],
-    weights: &mut [u64; 1024],
-) -> usize
-    requires { (from + n ≤ 1024) × (to + length (Arcs.of_group g (Record.slots net.now.kind.now net.now.place.now net.now.weight.now from n)) ≤ 1024)
-        × (length kinds.old ≡ 1024) × (length places.old ≡ 1024) × (length weights.old ≡ 1024) }
-    ensures { Arcs.Copied to result (Arcs.of_group g (Record.slots net.now.kind.now net.now.place.now net.now.weight.now from n))
-        kinds.old places.old weights.old kinds.new places.new weights.new }
-{
-    let end = from + n;
-    let mut b = to;
-    let mut a = from;
-    while a < end {
-        let k = net.kind[a];
-        let p = net.place[a];
-        let w = net.weight[a];
-        b = copy_slot(k, p, w, g, b, kinds, places, weights);
-        a += 1;
+impl Slots {
+    // No slot is used.
+    pub fn blank() -> Slots
+        ensures { result ≡ Arcs.blank }
+    {
+        Slots {
+            arcs: [0; 64],
+            kind: [0; 1024],
+            place: [0; 1024],
+            weight: [0; 1024],
+        }
     }
-    b
+
+    // Copies slot a of the net to slot b, if it is of group g, and answers with the next slot to fill.
+    fn copy_slot(&mut self, net: &LentNet, a: usize, g: u64, b: usize) -> usize
+        requires { let kind = get_or net.now.kind.now a 0 in (a < 1024) × (eqb (Arcs.group kind) g ≡ true → b < 1024)
+            × (length self.old.kind ≡ 1024) × (length self.old.place ≡ 1024) × (length self.old.weight ≡ 1024) }
+        ensures { let mine = eqb (Arcs.group (get_or net.now.kind.now a 0)) g in (result ≡ Reader.pick mine (b + 1) b) × (self.new.arcs ≡ self.old.arcs)
+            × (self.new.kind ≡ Reader.pick mine (set self.old.kind b (get_or net.now.kind.now a 0)) self.old.kind)
+            × (self.new.place ≡ Reader.pick mine (set self.old.place b (get_or net.now.place.now a 0)) self.old.place)
+            × (self.new.weight ≡ Reader.pick mine (set self.old.weight b (get_or net.now.weight.now a 0)) self.old.weight) }
+    {
+        if group(net.kind[a]) == g {
+            self.kind[b] = net.kind[a];
+            self.place[b] = net.place[a];
+            self.weight[b] = net.weight[a];
+            return b + 1;
+        }
+        b
+    }
+
+    // Copies those of n slots of the net from slot `from` on that are of group g to the slots from `to` on, and answers with the slot behind them.
+    fn copy_slots(&mut self, net: &LentNet, from: usize, n: usize, g: u64, to: usize) -> usize
+        requires { (from + n ≤ 1024) × (to + length (Arcs.of_group g (Record.slots net.now.kind.now net.now.place.now net.now.weight.now from n)) ≤ 1024)
+            × (length self.old.kind ≡ 1024) × (length self.old.place ≡ 1024) × (length self.old.weight ≡ 1024) }
+        ensures { Arcs.Copied to result (Arcs.of_group g (Record.slots net.now.kind.now net.now.place.now net.now.weight.now from n))
+            self.old.kind self.old.place self.old.weight self.new.kind self.new.place self.new.weight × (self.new.arcs ≡ self.old.arcs) }
+    {
+        let mut b = to;
+        for a in from..from + n {
+            b = self.copy_slot(net, a, g, b);
+        }
+        b
+    }
+
+    // Fills blank slots with those of the net. With them it reads as the same net: the order among takes, reads, blocks and puts stays.
+    pub fn fill(&mut self, net: &LentNet)
+        requires { (Record.fault (net_of net.now) ≡ none) × (self.old ≡ Arcs.blank) }
+        ensures { let net = net_of net.now in Engine.Tidied net (Arcs.with_slots net self.new) }
+    {
+        for j in 0..net.transitions {
+            let n = net.arcs[j];
+            self.arcs[j] = n;
+            let from = 16 * j;
+            let to = self.copy_slots(net, from, n, 0, from);
+            self.copy_slots(net, from, n, 1, to);
+        }
+    }
+
+    // The net with these slots for its own. Of a net whose fields are lent only the slots in use are copied.
+    pub fn of<'a>(&'a self, net: &LentNet<'a>) -> LentNet<'a>
+        ensures { net_of result ≡ Arcs.with_slots (net_of net.now) self.now }
+    {
+        LentNet {
+            arcs: &self.arcs,
+            kind: &self.kind,
+            place: &self.place,
+            weight: &self.weight,
+            ..*net
+        }
+    }
 }
 
-// Writes the slots of the net whose fields are lent into the four tables: the puts of a transition stand behind its other arcs, so that a test may end
-// before them, and every slot that is not used stays 0, so that the bounds of an accepted net hold in all slots. With these tables it reads as the same net:
-// the order among takes, reads, blocks and puts stays. A caller that holds the fields is spared the copies that `tidied` takes.
-pub fn tidy(
-    net: &LentNet,
-    count: &mut [usize; 64],
-    kinds: &mut [u64; 1024],
-    at: &mut [usize; 1024],
-    weights: &mut [u64; 1024],
-)
-    requires { let net = net_of net.now in (Record.fault net ≡ none) × (count.old ≡ replicate 64 0) × (kinds.old ≡ replicate 1024 0) × (at.old ≡ replicate 1024 0)
-        × (weights.old ≡ replicate 1024 0) }
-    ensures { let net = net_of net.now in Engine.Tidied net (labelled net.places net.transitions net.initial net.capacity net.label net.lengths
-        net.rate net.delay count.new kinds.new at.new weights.new) }
-{
-    let mut j: usize = 0;
-    while j < net.transitions {
-        let n = net.arcs[j];
-        count[j] = n;
-        let from = 16 * j;
-        let to = copy_slots(net, from, n, 0, from, kinds, at, weights);
-        copy_slots(net, from, n, 1, to, kinds, at, weights);
-        j += 1;
-    }
-}
-
-// The same net with its slots in order (`tidy`). Labels stay.
+// The same net with its slots in order. Labels stay.
 pub fn tidied(net: Net) -> Net
     requires { Record.fault net ≡ none }
     ensures { (Record.readable result ≡ Record.readable net) × Engine.Tidy result × (result.places ≡ net.places) × (result.initial ≡ net.initial) }
 {
-    let mut arcs = [0usize; 64];
-    let mut kind = [0u64; 1024];
-    let mut place = [0usize; 1024];
-    let mut weight = [0u64; 1024];
-    tidy(&net.lent(), &mut arcs, &mut kind, &mut place, &mut weight);
-    let mut ordered = net;
-    ordered.arcs = arcs;
-    ordered.kind = kind;
-    ordered.place = place;
-    ordered.weight = weight;
-    ordered
+    let mut slots = Slots::blank();
+    slots.fill(&net.lent());
+    Net {
+        arcs: slots.arcs,
+        kind: slots.kind,
+        place: slots.place,
+        weight: slots.weight,
+        ..net
+    }
 }
 
 // "Weight 0 means 1."
@@ -172,19 +172,14 @@ pub fn change_at(net: &LentNet, from: usize, end: usize, p: usize) -> Change
 {
     let mut put = 0;
     let mut taken = 0;
-    let mut a = from;
-    while a < end {
+    for a in from..end {
         let k = net.kind[a];
         let q = net.place[a];
         let w = net.weight[a];
-        put = put + put_slot(k, q, w, p);
-        taken = taken + taken_slot(k, q, w, p);
-        a += 1;
+        put += put_slot(k, q, w, p);
+        taken += taken_slot(k, q, w, p);
     }
-    Change {
-        put: put,
-        taken: taken,
-    }
+    Change { put, taken }
 }
 
 // The counts with room, at a place of capacity q, are those below this.
@@ -235,8 +230,7 @@ fn slot_limit(net: &LentNet, a: usize) -> u64
     let j = a / 16;
     let from = 16 * j;
     let end = from + net.arcs[j];
-    let c = change_at(net, from, end, p);
-    room_limit(q, c)
+    room_limit(q, change_at(net, from, end, p))
 }
 
 // Fills the table with the limit of every slot.
@@ -244,13 +238,8 @@ fn fill_slots(net: &LentNet, limit: &mut [u64; 1024])
     requires { let net = net_of net.now in Engine.Tidy net × (length limit.old ≡ 1024) }
     ensures { let net = net_of net.now in (length limit.new ≡ 1024) × ((a : ℕ) → a < 16 * net.transitions → get_or limit.new a 0 ≡ Limits.limit_at net a) }
 {
-    let end = 16 * net.transitions;
-    let mut a: usize = 0;
-    while a < end {
-        let b = a + 1;
-        let x = slot_limit(net, a);
-        limit[a] = x;
-        a = b;
+    for a in 0..16 * net.transitions {
+        limit[a] = slot_limit(net, a);
     }
 }
 
@@ -259,16 +248,13 @@ fn mark_rest(limit: &mut [u64; 1024], from: usize, end: usize) -> usize
     requires { (from ≤ end) × (end ≤ 1024) × (length limit.old ≡ 1024) }
     ensures { (from ≤ result) × (result ≤ end) × Limits.Rest result end limit.old limit.new }
 {
-    let mut a = end;
-    while from < a {
-        let b = a - 1;
-        if limit[b] != NO_LIMIT {
-            return a;
+    for a in (from..end).rev() {
+        if limit[a] != NO_LIMIT {
+            return a + 1;
         }
-        limit[b] = STOP;
-        a = b;
+        limit[a] = STOP;
     }
-    a
+    from
 }
 
 // Marks them in every transition.
@@ -276,13 +262,9 @@ fn mark_rests(transitions: usize, arcs: &[usize; 64], limit: &mut [u64; 1024])
     requires { (transitions ≤ 64) × Engine.AtMost 16 arcs.now × (length limit.old ≡ 1024) }
     ensures { (a : ℕ) → Limits.Says arcs.now (λ (b : ℕ). get_or limit.old b 0) a (get_or limit.new a 0) }
 {
-    let mut j: usize = 0;
-    while j < transitions {
-        let k = j + 1;
+    for j in 0..transitions {
         let from = 16 * j;
-        let end = from + arcs[j];
-        mark_rest(limit, from, end);
-        j = k;
+        mark_rest(limit, from, from + arcs[j]);
     }
 }
 
@@ -301,12 +283,7 @@ pub fn first_counts(places: usize, initial: &[u64; 32]) -> [u64; 32]
     ensures { (Engine.marking places result ≡ Engine.counts_from initial.now 0 places) × Engine.Counts result }
 {
     let mut counts = [0u64; 32];
-    let mut p: usize = 0;
-    while p < places {
-        let c = initial[p];
-        counts[p] = c;
-        p += 1;
-    }
+    counts[..places].copy_from_slice(&initial[..places]);
     counts
 }
 
@@ -315,12 +292,5 @@ pub fn any_timed(transitions: usize, delay: &[f64; 64]) -> bool
     requires { transitions ≤ 64 }
     ensures { result ≡ Engine.any_timed transitions delay.now }
 {
-    let mut j: usize = 0;
-    while j < transitions {
-        if 0.0 < delay[j] {
-            return true;
-        }
-        j += 1;
-    }
-    false
+    delay[..transitions].iter().any(|d| 0.0 < *d)
 }

@@ -32,7 +32,7 @@ use Rattle.game.proofs.Bound.{few_fault}
 
 pub faults_are : (sides : List ℕ) → count_by (λ (x : ℕ). eqb x 0) sides ≡ owned fault (sides_of sides)
 faults_are [] = refl
-faults_are (x ∷ xs) = go (eqb x 0) (faults_are xs)
+faults_are (x ∷ xs) = sum_by-cons (λ (x : ℕ). cond (eqb x 0) 1 0) x xs ∙ go (eqb x 0) (faults_are xs)
   where
     go : (b : Bool) → count_by (λ (x : ℕ). eqb x 0) xs ≡ owned fault (sides_of xs) → cond b 1 0 + count_by (λ (x : ℕ). eqb x 0) xs ≡ owned fault (pick b fault recovery ∷ sides_of xs)
     go true h = omega arith

@@ -46,8 +46,8 @@ impl Game<'_> {
         if !marking::enabled(self.net, self.limit, &after, j) {
             return None;
         }
-        let f = marking::fire(self.net, self.guards, &mut after, j);
-        if f.fits { Some(after) } else { None }
+        marking::fire(self.net, self.guards, &mut after, j)?;
+        Some(after)
     }
 
     // The fault side moves, with so many turns left.

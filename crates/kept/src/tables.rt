@@ -37,12 +37,8 @@ pub fn rates_of(net: &LentNet, rates: &mut [f64; 64])
     requires { let net = net_of net.now in Engine.Tidy net × (length rates.old ≡ 64) }
     ensures { let net = net_of net.now in Kept.Rates net rates.new × (length rates.new ≡ 64) }
 {
-    let mut j: usize = 0;
-    while j < net.transitions {
-        let k = j + 1;
-        let x = marking::rate_of(net.rate[j], net.delay[j]);
-        rates[j] = x;
-        j = k;
+    for j in 0..net.transitions {
+        rates[j] = marking::rate_of(net.rate[j], net.delay[j]);
     }
 }
 
@@ -51,15 +47,12 @@ fn end_of(kind: &[u64; 1024], from: usize, end: usize) -> usize
     requires { (from ≤ end) × (end ≤ 1024) }
     ensures { (result ≤ end) × ((a : ℕ) → result ≤ a → from ≤ a → a < end → get_or kind.now a 0 ≡ 0 → ⊥) }
 {
-    let mut a = end;
-    while from < a {
-        let b = a - 1;
-        if kind[b] == 0 {
-            return a;
+    for a in (from..end).rev() {
+        if kind[a] == 0 {
+            return a + 1;
         }
-        a = b;
     }
-    a
+    from
 }
 
 // In the table of ends: this and a place, for a transition whose ways are the count of that place.
@@ -69,14 +62,11 @@ pub const ALONE: usize = 2048;
 pub const TWO: usize = 4096;
 
 // Is slot a a kinetic take of one token?
-fn single<'a>(kind: &'a [u64; 1024], weight: &'a [u64; 1024], a: usize) -> bool
+fn single(kind: &[u64; 1024], weight: &[u64; 1024], a: usize) -> bool
     requires { a < 1024 }
     ensures { result ≡ Kept.single kind.now weight.now a }
 {
-    if kind[a] == 0 {
-        return weight[a] <= 1;
-    }
-    false
+    kind[a] == 0 && weight[a] <= 1
 }
 
 // What the table has for a transition whose slots begin at `from`, and whose kinetic takes end at `end`.
@@ -85,17 +75,14 @@ fn told(net: &LentNet, from: usize, end: usize) -> usize
     ensures { (result ≡ end) ⊎ ((result ≡ 2048 + get_or net.now.place.now from 0) × (end ≡ from + 1) × (Kept.single net.now.kind.now net.now.weight.now from ≡ true))
         ⊎ ((result ≡ 4096) × (end ≡ from + 2) × (Kept.single net.now.kind.now net.now.weight.now from ≡ true) × (Kept.single net.now.kind.now net.now.weight.now (from + 1) ≡ true)) }
 {
-    if end == from + 1 {
-        if single(net.kind, net.weight, from) {
-            return ALONE + net.place[from];
-        }
+    if !single(net.kind, net.weight, from) {
+        return end;
     }
-    if end == from + 2 {
-        if single(net.kind, net.weight, from) {
-            if single(net.kind, net.weight, from + 1) {
-                return TWO;
-            }
-        }
+    if end == from + 1 {
+        return ALONE + net.place[from];
+    }
+    if end == from + 2 && single(net.kind, net.weight, from + 1) {
+        return TWO;
     }
     end
 }
@@ -105,13 +92,9 @@ pub fn ends_of(net: &LentNet, ends: &mut [usize; 64])
     requires { let net = net_of net.now in Engine.Tidy net × (length ends.old ≡ 64) }
     ensures { let net = net_of net.now in Kept.Ends net ends.new × (length ends.new ≡ 64) }
 {
-    let mut j: usize = 0;
-    while j < net.transitions {
-        let k = j + 1;
+    for j in 0..net.transitions {
         let from = 16 * j;
-        let e = end_of(net.kind, from, from + net.arcs[j]);
-        let x = told(net, from, e);
-        ends[j] = x;
-        j = k;
+        let end = end_of(net.kind, from, from + net.arcs[j]);
+        ends[j] = told(net, from, end);
     }
 }

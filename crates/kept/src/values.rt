@@ -20,25 +20,16 @@ use engine::marking;
 use net::LentNet;
 
 // That of transition j, enabled or not. Behind the last kinetic take nothing multiplies.
-fn walked<'a>(
-    net: &LentNet,
-    limit: &'a [u64; 1024],
-    rates: &'a [f64; 64],
-    counts: &[u64; 32],
-    j: usize,
-    end: usize,
-) -> f64
-    requires { let net = net_of net.now in (j < net.transitions) × Engine.Tidy net × Limits.Limits net limit.now × Engine.Counts counts.now × Kept.Rates net rates.now
+fn walked(net: &LentNet, tables: &Tables, counts: &[u64; 32], j: usize, end: usize) -> f64
+    requires { let net = net_of net.now in (j < net.transitions) × Engine.Tidy net × Limits.Limits net tables.now.limit × Engine.Counts counts.now × Kept.Rates net tables.now.rates
         × (end ≤ 16 * j + get_or net.arcs j 0) × ((a : ℕ) → end ≤ a → 16 * j ≤ a → a < 16 * j + get_or net.arcs j 0 → get_or net.kind a 0 ≡ 0 → ⊥) }
     ensures { let net = net_of net.now in result ≡ Propensity.factored (Engine.marking net.places counts.now) (Reader.rate_of (Moves.transition (Record.readable net) j))
         (Moves.transition (Record.readable net) j).takes }
 {
-    let mut x = rates[j];
-    let mut a = 16 * j;
-    while a < end {
+    let mut x = tables.rates[j];
+    for a in 16 * j..end {
         let p = net.place[a];
-        x = marking::times(x, net.kind[a], limit[a], counts[p]);
-        a += 1;
+        x = marking::times(x, net.kind[a], tables.limit[a], counts[p]);
     }
     x
 }
@@ -73,7 +64,7 @@ fn value(net: &LentNet, tables: &Tables, counts: &[u64; 32], j: usize) -> f64
         let p = end - tables::ALONE;
         return marking::times(x, 0, ONE_TOKEN, counts[p]);
     }
-    walked(net, &tables.limit, &tables.rates, counts, j, end)
+    walked(net, tables, counts, j, end)
 }
 
 // Works it out again for the transitions in a word, the lowest first. Every other one is as handed in, whatever it holds.

@@ -61,25 +61,23 @@ fn complete<'a>(
     let fewer = tokens - x.taken;
     let j = x.who;
     if j < net.transitions {
-        let p = marking::put(net, guards, counts, j);
-        if p.fits {
-            let many = fewer + p.more;
-            return Ended {
+        return match marking::put(net, guards, counts, j) {
+            Some(p) => Ended {
                 timers: left,
                 rng: rng,
                 fits: true,
-                tokens: many,
+                tokens: fewer + p.more,
                 moved: p.moved,
                 crossed: p.crossed,
-            };
-        }
-        return Ended {
-            timers: left,
-            rng: rng,
-            fits: false,
-            tokens: 0,
-            moved: 0,
-            crossed: 0,
+            },
+            None => Ended {
+                timers: left,
+                rng: rng,
+                fits: false,
+                tokens: 0,
+                moved: 0,
+                crossed: 0,
+            },
         };
     }
     Ended {
@@ -134,26 +132,23 @@ fn race<'a>(
         },
         Choice::Chosen(j) => {
             if j < net.transitions {
-                let f = marking::fire(net, guards, counts, j);
-                if f.fits {
-                    let more = tokens + f.more;
-                    let many = more - f.less;
-                    return Ended {
+                return match marking::fire(net, guards, counts, j) {
+                    Some(f) => Ended {
                         timers: ring,
                         rng: g,
                         fits: true,
-                        tokens: many,
+                        tokens: tokens + f.more - f.less,
                         moved: f.moved,
                         crossed: f.crossed,
-                    };
-                }
-                return Ended {
-                    timers: ring,
-                    rng: g,
-                    fits: false,
-                    tokens: 0,
-                    moved: 0,
-                    crossed: 0,
+                    },
+                    None => Ended {
+                        timers: ring,
+                        rng: g,
+                        fits: false,
+                        tokens: 0,
+                        moved: 0,
+                        crossed: 0,
+                    },
                 };
             }
             Ended {

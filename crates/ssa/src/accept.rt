@@ -13,7 +13,7 @@ ghost use Rattle.ssa.specs.Path as Path;
 ghost use Rattle.refusals.specs.Number.{number_of};
 
 use crate::{PathAnswer, start};
-use engine::slots;
+use engine::slots::{self, Slots};
 use net::LentNet;
 use playing::{PathEnd, tables};
 use refusals::Refusal;
@@ -116,17 +116,9 @@ pub fn accepted_path(
     ensures { let net = net_of net.now in Path.call_of result table.new ≡ Path.played net.places (length instants.now) (Random.words generator.s) table.old
         (Shown.worked (Record.readable net) (Random.words generator.s) instants.now limit) }
 {
-    let mut count = [0usize; 64];
-    let mut kinds = [0u64; 1024];
-    let mut at = [0usize; 1024];
-    let mut weights = [0u64; 1024];
-    slots::tidy(net, &mut count, &mut kinds, &mut at, &mut weights);
-    let tidied = LentNet {
-        arcs: &count,
-        kind: &kinds,
-        place: &at,
-        weight: &weights,
-        ..*net
-    };
-    lent_path(&tidied, instants, limit, generator, table)
+    let mut slots = Slots::blank();
+    slots.fill(net);
+    // Lent anew, for no longer than the slots.
+    let fields = *net;
+    lent_path(&slots.of(&fields), instants, limit, generator, table)
 }

@@ -20,7 +20,7 @@ ghost use Rattle.playing.specs.Stepping as Stepping;
 ghost use Rattle.refusals.specs.Number.{number_of};
 
 use crate::{Halted, Onward, start};
-use engine::slots;
+use engine::slots::{self, Slots};
 use net::LentNet;
 use playing::run::{Standing, Walked};
 use playing::{PathEnd, begin, peak, run, tables};
@@ -110,20 +110,12 @@ pub fn resume(
         net.places instants.now s.next table.old table.new
         (Stepping.state_of net counts.new ats.new owners.new result.timers result.clock result.rng.s) result result.end }
 {
-    let mut count = [0usize; 64];
-    let mut kinds = [0u64; 1024];
-    let mut at = [0usize; 1024];
-    let mut weights = [0u64; 1024];
-    slots::tidy(net, &mut count, &mut kinds, &mut at, &mut weights);
-    let tidied = LentNet {
-        arcs: &count,
-        kind: &kinds,
-        place: &at,
-        weight: &weights,
-        ..*net
-    };
+    let mut slots = Slots::blank();
+    slots.fill(net);
+    // Lent anew, for no longer than the slots.
+    let fields = *net;
     lent_on(
-        &tidied, counts, ats, owners, instants, halts, steps, s, table,
+        &slots.of(&fields), counts, ats, owners, instants, halts, steps, s, table,
     )
 }
 

@@ -5,7 +5,4 @@ use lib.ListN.{get_or}
 use Rattle.kept.proofs.tables.end_of.Given as goal
 
 abbrev pub invariant-loop-a : goal.invariant-loop-a
-invariant-loop-a l = (l.a ≤ l.end) × (l.from ≤ l.a) × ((b : ℕ) → l.a ≤ b → l.from ≤ b → b < l.end → get_or l.kind b 0 ≡ 0 → ⊥)
-
-abbrev pub decreases-loop-a : goal.decreases-loop-a
-decreases-loop-a l = l.a
+invariant-loop-a l = (l.from ≤ l.a) × ((b : ℕ) → l.a ≤ b → l.from ≤ b → b < l.end → get_or l.kind b 0 ≡ 0 → ⊥)
