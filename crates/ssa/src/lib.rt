@@ -57,8 +57,8 @@ pub struct Onward {
     pub state: Halted,
 }
 
-// How many paths of an ensemble were spent, and whether there are deviations; or the number by which the call was turned down; or the number by which a
-// path was refused, and the path's own.
+// How many paths of an ensemble were spent, and whether there are deviations; or the refusal by which the call was turned down; or the refusal of a path, and
+// the path's own number. Three ways that callers tell apart (cild_ensemble): as a Result its error would be an enum of the last two.
 #[derive(Clone, Copy)]
 pub enum EnsembleAnswer {
     Averaged(u64, bool),
