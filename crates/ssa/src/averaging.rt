@@ -3,13 +3,13 @@ ghost use Rattle.std.specs.Prelude.{◌≡◌, not, ℕ, ◌*◌, ◌^◌, ◌<�
 ghost use Rattle.std.proofs.Math.Option.{none};
 ghost use Rattle.net.specs.Net.{pick};
 ghost use Rattle.net.specs.Readable as Record;
-ghost use Rattle.net.specs.Record.{lent, net_of};
+ghost use Rattle.net.specs.Record.{net_of};
 ghost use Rattle.net.specs.declared.Net.{Net as NetRecord};
 ghost use Rattle.rules.specs.Propensity.{float};
 ghost use Rattle.averages.specs.Front as Front;
 ghost use Rattle.averages.specs.Moments as Moments;
 ghost use Rattle.averages.specs.Request as Request;
-ghost use Rattle.averages.specs.Tables as Tables;
+ghost use Rattle.averages.specs.Tables as Calls;
 ghost use Rattle.engine.specs.Engine as Engine;
 ghost use Rattle.playing.specs.Cells as Cells;
 ghost use Rattle.ssa.specs.Ensemble as Ensemble;
@@ -138,7 +138,7 @@ pub fn call_fault(
     deviation: &[f64],
     path: &[f64],
 ) -> Result<(), Refusal>
-    ensures { Record.meaning result ≡ Tables.call_fault net (record { samples = samples; realizations = realizations; seed = seed; horizon = horizon })
+    ensures { Record.meaning result ≡ Calls.call_fault net (record { samples = samples; realizations = realizations; seed = seed; horizon = horizon })
         (record { mean = mean.now; deviation = deviation.now; path = path.now }) }
 {
     net::test_net(net)?;

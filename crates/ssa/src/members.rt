@@ -1,7 +1,7 @@
 // The paths of an ensemble, one after the other on the lent path table, and the sums over them in the lent mean and deviation tables.
 ghost use Rattle.std.specs.Prelude.{◌≡◌, ◌*◌, ◌<◌, ◌≤◌, length};
 ghost use Rattle.net.specs.Readable as Record;
-ghost use Rattle.net.specs.Record.{lent, net_of};
+ghost use Rattle.net.specs.Record.{net_of};
 ghost use Rattle.net.specs.declared.Net.{Net as NetRecord};
 ghost use Rattle.rng.specs.Splitmix as Seeding;
 ghost use Rattle.averages.specs.Request as Request;

@@ -1,5 +1,6 @@
 -- Each answer is that of the tests before it (Accepted). A net without a fault has at most 32 places, so the product of places and instants fits.
-use Rattle.std.proofs.Common.{refl, sym, ◌∙◌, le-leb, lt-leb}
+use Rattle.std.proofs.Common.{refl, sym, ◌∙◌, le-leb}
+use borrow.Author.Tests.{lt-leb}
 use Rattle.std.proofs.lemmas.Result.{err_from_is_err_and}
 use Rattle.net.specs.Record.{net_of}
 use Rattle.net.proofs.Sound.{sound}
@@ -23,8 +24,8 @@ returns-then-not-limit_fits c =
     sym (fault_by (net_of a.net.now) a.instants.now a.limit a.table.now (sym c.in_ok-fields_fault.ensures) (sym c.instants_fit.ensures ∙ c.if-not-instants_fit.false)
     (sym c.limit_fits.ensures ∙ c.if-not-limit_fits.true) refl)
 
-pub overflow_mul-if : goal.overflow_mul-if
-overflow_mul-if c =
+pub overflow_mul-net : goal.overflow_mul-net
+overflow_mul-net c =
     record { fits = cells_fit _ _ (sound (net_of c.args.net.now) (sym c.in_ok-fields_fault.ensures)).places
         (fitting c.args.instants.now (sym c.instants_fit.ensures ∙ c.if-not-instants_fit.false)).few }
 

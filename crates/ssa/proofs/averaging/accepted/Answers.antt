@@ -5,6 +5,7 @@ use Rattle.net.specs.declared.Net.{Net as NetRecord}
 use Rattle.net.specs.Readable.{readable}
 use Rattle.net.proofs.Sound.{sound}
 use Rattle.averages.specs.Request.{Request, request_fault}
+use Rattle.averages.specs.Tables.{Tables}
 use Rattle.engine.specs.Engine.{Tidy}
 use Rattle.ssa.specs.Ensemble.{call_of, tabulated, members_from}
 use Rattle.ssa.proofs.Accepted.{first_small, same_room}
@@ -35,7 +36,7 @@ returns c =
     let e = c.tidied-n.ensures in
     let l = c.lent_ensemble in
     let q : Request = record { samples = a.samples; realizations = a.realizations; seed = a.seed; horizon = a.horizon } in
-    let t = record { mean = a.mean.now; deviation = a.deviation.now; path = a.path.now } in
+    let t : Tables = record { mean = a.mean.now; deviation = a.deviation.now; path = a.path.now } in
     let Said : NetRecord → Type 0
     = λ n. call_of l.result l.new.mean l.new.deviation l.new.path ≡ tabulated n.places a.samples t (members_from (readable n) q 0 a.realizations) in
     same_ensemble c.tidied-n.result a.net q t e.2 e.0 (subst Said c.lent.ensures l.ensures)

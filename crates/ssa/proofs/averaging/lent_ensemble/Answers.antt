@@ -1,8 +1,9 @@
 -- The tables that the paths ask for are those that the calls before them make, and the instants are the request's grid (proofs/Requested).
 -- Assumes nothing.
 use native.Mathlib.Omega.{arith}
-use Rattle.std.proofs.Common.{◌≡◌, ◌≤◌, List, length, take, replicate, length-replicate, sym}
+use Rattle.std.proofs.Common.{◌≡◌, ◌≤◌, List, length, take, replicate, sym}
 use Rattle.std.proofs.Math.Option.{none}
+use lib.ListN.{length-replicate}
 use lib.Ieee.{Float}
 use Rattle.net.specs.Net.{zero64}
 use Rattle.net.specs.Readable.{readable}
@@ -25,8 +26,8 @@ overflow_cast-few c =
     let f = passing (record { samples = a.samples; realizations = a.realizations; seed = a.seed; horizon = a.horizon }) c.requires.2 in
     omega (arith, f.few)
 
-pub slice_bounds-averaged-end : goal.slice_bounds-averaged-end
-slice_bounds-averaged-end c =
+pub slice_bounds-grid-end : goal.slice_bounds-grid-end
+slice_bounds-grid-end c =
     let a = c.args in
     let q : Request = record { samples = a.samples; realizations = a.realizations; seed = a.seed; horizon = a.horizon } in
     grid_room q c.interval.result blank c.fill_grid.new.instants c.interval.ensures c.fill_grid.ensures (long q c.requires.2)

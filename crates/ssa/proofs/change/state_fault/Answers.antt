@@ -1,7 +1,7 @@
 -- Each refusal is the definition's by the tests that led to it (Changed). The table holds counts for as many instants as are recorded, so 12 goes by their
 -- number.
-use Rattle.std.proofs.Common.{ℕ, Bool, not, List, length, sym, ap, ◌∙◌, le-leb, lt-leb, leb-true}
-use borrow.Author.Tests.{not-true, not-false}
+use Rattle.std.proofs.Common.{ℕ, Bool, not, List, length, sym, ap, ◌∙◌, le-leb, leb-true}
+use borrow.Author.Tests.{lt-leb, not-true, not-false}
 use lib.Ieee.{Float}
 use Rattle.rng.specs.State.{words}
 use Rattle.rules.specs.Carried.{Carried}
