@@ -6,18 +6,19 @@
 
 ghost use Rattle.std.specs.Prelude.{◌+◌, ◌<◌, ◌≤◌, length};
 
-use game::{First, GameAnswer};
+use game::{FaultFound, First};
 use net::Net;
 use net_io::arguments::{number_argument, number_of};
 use net_io::{read_full, say, write, write_number, write_refused};
+use refusals::Refusal;
 use std::env::Env;
 
-fn write_first(rt: &HostRuntime, first: First) {
+fn write_first(rt: &HostRuntime, first: Option<First>) {
     match first {
-        First::Never => write(rt, b"(game no "),
-        First::Already => write(rt, b"(game already "),
-        First::Passes => write(rt, b"(game pass "),
-        First::Fires(j) => {
+        None => write(rt, b"(game no "),
+        Some(First::Already) => write(rt, b"(game already "),
+        Some(First::Passes) => write(rt, b"(game pass "),
+        Some(First::Fires(j)) => {
             write(rt, b"(game fires ");
             write_number(rt, j as u64);
             write(rt, b" ");
@@ -25,12 +26,12 @@ fn write_first(rt: &HostRuntime, first: First) {
     }
 }
 
-fn write_answer(rt: &HostRuntime, answer: GameAnswer) {
+fn write_answer(rt: &HostRuntime, answer: Result<FaultFound, Refusal>) {
     match answer {
-        GameAnswer::Refused(c) => write_refused(rt, c.number(), 0),
-        GameAnswer::Answered(first, examined) => {
-            write_first(rt, first);
-            write_number(rt, examined);
+        Err(c) => write_refused(rt, c.number(), 0),
+        Ok(found) => {
+            write_first(rt, found.first);
+            write_number(rt, found.examined);
             write(rt, b")\n");
         }
     }

@@ -1,7 +1,7 @@
 -- The tables that the run asks for are lent, the counts are made here, and the generator is that of the path's own seed. Assumes nothing.
 use mathlib.Core.Path.{ap, ◌∙◌}
 use Rattle.net.specs.Readable.{readable}
-use Rattle.net.specs.Record.{lent, net_of}
+use Rattle.net.specs.Record.{net_of}
 use Rattle.rng.specs.State.{words}
 use Rattle.rng.specs.Splitmix.{seeded}
 use Rattle.engine.proofs.Lists.{initial_is}
