@@ -62,14 +62,11 @@ pub const ALONE: usize = 2048;
 pub const TWO: usize = 4096;
 
 // Is slot a a kinetic take of one token?
-fn single<'a>(kind: &'a [u64; 1024], weight: &'a [u64; 1024], a: usize) -> bool
+fn single(kind: &[u64; 1024], weight: &[u64; 1024], a: usize) -> bool
     requires { a < 1024 }
     ensures { result ≡ Kept.single kind.now weight.now a }
 {
-    if kind[a] == 0 {
-        return weight[a] <= 1;
-    }
-    false
+    kind[a] == 0 && weight[a] <= 1
 }
 
 // What the table has for a transition whose slots begin at `from`, and whose kinetic takes end at `end`.
@@ -78,17 +75,14 @@ fn told(net: &LentNet, from: usize, end: usize) -> usize
     ensures { (result ≡ end) ⊎ ((result ≡ 2048 + get_or net.now.place.now from 0) × (end ≡ from + 1) × (Kept.single net.now.kind.now net.now.weight.now from ≡ true))
         ⊎ ((result ≡ 4096) × (end ≡ from + 2) × (Kept.single net.now.kind.now net.now.weight.now from ≡ true) × (Kept.single net.now.kind.now net.now.weight.now (from + 1) ≡ true)) }
 {
-    if end == from + 1 {
-        if single(net.kind, net.weight, from) {
-            return ALONE + net.place[from];
-        }
+    if !single(net.kind, net.weight, from) {
+        return end;
     }
-    if end == from + 2 {
-        if single(net.kind, net.weight, from) {
-            if single(net.kind, net.weight, from + 1) {
-                return TWO;
-            }
-        }
+    if end == from + 1 {
+        return ALONE + net.place[from];
+    }
+    if end == from + 2 && single(net.kind, net.weight, from + 1) {
+        return TWO;
     }
     end
 }

@@ -57,8 +57,8 @@ fn drawn_pair(rng: Xoshiro256) -> Pair
     let u1 = a.value;
     let u2 = b.value;
     Pair {
-        u1: u1,
-        u2: u2,
+        u1,
+        u2,
         sq: u1 * u1 + u2 * u2,
         rng: g2,
     }
@@ -68,10 +68,7 @@ fn drawn_pair(rng: Xoshiro256) -> Pair
 fn accepted(sq: f64) -> bool
     ensures { result ≡ Spec.accepted sq }
 {
-    if 0.0 < sq {
-        return sq < 1.0;
-    }
-    false
+    0.0 < sq && sq < 1.0
 }
 
 fn scale(sq: f64) -> f64
@@ -85,7 +82,7 @@ fn first_accepted(rng: Xoshiro256) -> Option<Pair>
     ensures { Spec.found_of result ≡ Spec.first_accepted 128 (Rng.words rng.s) }
 {
     let mut g = rng;
-    for i in 0..MOST_PAIRS {
+    for _ in 0..MOST_PAIRS {
         let p = drawn_pair(g);
         if accepted(p.sq) {
             return Some(p);

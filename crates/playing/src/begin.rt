@@ -16,10 +16,8 @@ pub fn sum(counts: &[u64; 32], places: usize) -> u64
     ensures { result ≡ Moments.sum_of (Engine.marking places counts.now) }
 {
     let mut total: u64 = 0;
-    let mut p: usize = 0;
-    while p < places {
-        total = total + counts[p];
-        p += 1;
+    for p in 0..places {
+        total += counts[p];
     }
     total
 }
@@ -37,15 +35,14 @@ pub fn begin(
         × (result.clock ≡ zero64) × Turning.NoTimers result.timers × (result.tokens ≡ Moments.sum_of (Engine.marking places counts.now))
         × (result.peak ≡ result.tokens) × (result.rng ≡ rng) }
 {
-    let first = shown::show(instants, table, counts, places, 0.0, 0);
+    let next = shown::show(instants, table, counts, places, 0.0, 0);
     let tokens = sum(counts, places);
-    let none = timers::empty();
     Standing {
         clock: 0.0,
-        timers: none,
-        next: first,
-        tokens: tokens,
+        timers: timers::empty(),
+        next,
+        tokens,
         peak: tokens,
-        rng: rng,
+        rng,
     }
 }

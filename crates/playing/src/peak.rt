@@ -23,15 +23,10 @@ fn some_ready<'a>(net: &LentNet, limit: &'a [u64; 1024], counts: &[u64; 32]) -> 
     ensures { let net = net_of net.now in result ≡ Tests.any (λ (t : Net.Transition). Net.timed t && Enabled.enabled (Record.readable net) (Engine.marking net.places counts.now) t)
         (Record.readable net).transitions }
 {
-    let mut j: usize = 0;
-    while j < net.transitions {
-        let k = j + 1;
-        if 0.0 < net.delay[j] {
-            if marking::enabled(net, limit, counts, j) {
-                return true;
-            }
+    for j in 0..net.transitions {
+        if 0.0 < net.delay[j] && marking::enabled(net, limit, counts, j) {
+            return true;
         }
-        j = k;
     }
     false
 }

@@ -11,15 +11,12 @@ fn reached(instants: &[f64], clock: f64, next: usize) -> usize
     requires { next ≤ length instants.now }
     ensures { result ≡ next + Cells.reached_by clock (ListN.drop next instants.now) }
 {
-    let mut i = next;
-    while i < instants.len() {
-        if instants[i] <= clock {
-            i += 1;
-        } else {
+    for i in next..instants.len() {
+        if !(instants[i] <= clock) {
             return i;
         }
     }
-    i
+    instants.len()
 }
 
 // Writes the counts into the cells of instant i. A count fits a signed number, of which a float is made in one instruction.
@@ -27,10 +24,8 @@ fn fill_column(table: &mut [f64], counts: &[u64; 32], places: usize, n: usize, i
     requires { (places ≤ 32) × (i < n) × (n ≤ 1024) × (places * n ≤ length table.old) × Engine.Counts counts.now }
     ensures { Cells.Filled places n i (i + 1) counts.now table.old table.new }
 {
-    let mut p: usize = 0;
-    while p < places {
+    for p in 0..places {
         table[p * n + i] = counts[p] as i64 as f64;
-        p += 1;
     }
 }
 
@@ -39,10 +34,8 @@ pub fn fill(table: &mut [f64], counts: &[u64; 32], places: usize, n: usize, from
     requires { (places ≤ 32) × (to ≤ n) × (n ≤ 1024) × (places * n ≤ length table.old) × Engine.Counts counts.now }
     ensures { Cells.Filled places n from to (Engine.marking places counts.now) table.old table.new }
 {
-    let mut i = from;
-    while i < to {
+    for i in from..to {
         fill_column(table, counts, places, n, i);
-        i += 1;
     }
 }
 
@@ -51,11 +44,7 @@ pub fn clear(table: &mut [f64], cells: usize)
     requires { cells ≤ length table.old }
     ensures { table.new ≡ Cells.cleared cells table.old }
 {
-    let mut c: usize = 0;
-    while c < cells {
-        table[c] = 0.0;
-        c += 1;
-    }
+    table[..cells].fill(0.0);
 }
 
 // Shows the counts at every instant that the clock has reached and that has not been shown, and answers how many have been.
@@ -96,9 +85,9 @@ pub fn finish(
     ensures { Cells.FinishedBy places n next (Engine.marking places counts.now) table.old table.new end }
 {
     match end {
-        PathEnd::Quiet => fill(table, counts, places, n, next, n),
-        PathEnd::Spent => fill(table, counts, places, n, next, n),
-        PathEnd::Reached => fill(table, counts, places, n, next, n),
+        PathEnd::Quiet | PathEnd::Spent | PathEnd::Reached => {
+            fill(table, counts, places, n, next, n)
+        }
         PathEnd::Halted => {}
         PathEnd::Refused(_) => clear(table, places * n),
     }

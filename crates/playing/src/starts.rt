@@ -193,8 +193,7 @@ pub fn start_all(
     let mut any = false;
     let mut moved: u64 = 0;
     let mut crossed: u64 = 0;
-    let mut i: usize = 0;
-    while i <= room {
+    for _i in 0..room + 1 {
         let s = pass(net, tables, counts, ats, owners, room, k, t, asked);
         if s.full {
             return s;
@@ -213,7 +212,6 @@ pub fn start_all(
         }
         asked = asked | (s.crossed & tables.timed);
         any = true;
-        i += 1;
     }
     Started {
         timers: k,

@@ -5,7 +5,6 @@
 
 use net_io::{read_input, say, text_room, write_front};
 use net_text::Judged;
-use reason::ReasonAnswer;
 
 fn show(rt: &HostRuntime, out: &[u8], n: usize) {
     if !write_front(rt, out, n) {
@@ -23,11 +22,11 @@ fn show_refused(rt: &HostRuntime, number: u64, line: u64) {
 fn show_reason(rt: &HostRuntime, net: net::Net) {
     let mut out = [0u8; 2080];
     match reason::reason(net, &mut out) {
-        ReasonAnswer::Length(n) => {
+        Ok(n) => {
             show(rt, &out, n);
             show(rt, b"\n", 1);
         }
-        ReasonAnswer::TurnedDown(number) => show_refused(rt, number, 0),
+        Err(c) => show_refused(rt, c.number(), 0),
     }
 }
 

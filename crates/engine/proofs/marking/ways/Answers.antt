@@ -10,7 +10,7 @@ returns-in-Value c =
     let k = c in
     let s = k in
     ap (λ (z : RealWays). alone (meaning z)) (sym c.in-Value.is)
-    ∙ ways_answer s.args.m s.args.w s.requires.0 s.requires.1 k.combinations_unflagged-answer.result k.combinations_unflagged-answer.ensures
+    ∙ ways_answer s.args.m s.args.w s.requires.0 s.requires.1 k.combinations_unflagged.result k.combinations_unflagged.ensures
 
 pub returns-in-Refused : goal.returns-in-Refused
 returns-in-Refused c =
@@ -18,4 +18,4 @@ returns-in-Refused c =
     let s = k in
     no_number
     ∙ ap (λ (z : RealWays). alone (meaning z)) (sym c.in-Refused.is)
-    ∙ ways_answer s.args.m s.args.w s.requires.0 s.requires.1 k.combinations_unflagged-answer.result k.combinations_unflagged-answer.ensures
+    ∙ ways_answer s.args.m s.args.w s.requires.0 s.requires.1 k.combinations_unflagged.result k.combinations_unflagged.ensures

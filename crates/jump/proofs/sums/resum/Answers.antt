@@ -1,6 +1,5 @@
 -- The sums before j are good, and the sum in hand is that of the first j (Summing). Assumes nothing.
-use native.Mathlib.Omega.{arith}
-use Rattle.jump.proofs.Summing.{summing_none, summing_more, summing_all}
+use Rattle.jump.proofs.Summing.{summing_none, summing_more}
 use Rattle.jump.proofs.sums.resum.Goals as goal
 
 pub loop-j-init : goal.loop-j-init
@@ -12,8 +11,3 @@ pub loop-j-preserved : goal.loop-j-preserved
 loop-j-preserved c =
     let l = c.loop-j in
     summing_more c.args.transitions c.args.props.now c.requires.0 c.requires.2 l.sums l.sum l.j l.invariant c.loop-j-test.true
-
-pub returns : goal.returns
-returns c =
-    let l = c.loop-j in
-    summing_all c.args.transitions c.args.props.now c.requires.0 c.requires.2 l.sums l.sum l.j l.invariant c.loop-j-test.false
