@@ -9,7 +9,6 @@ ghost use Rattle.std.specs.Prelude.{◌≤◌, length};
 use net::Net;
 use net_io::arguments::number_of;
 use net_io::{read_input, say, text_room, write, write_number, write_refused};
-use net_text::Judged;
 use refusals::Refusal;
 use std::env::Env;
 
@@ -66,11 +65,9 @@ fn weigh(rt: &HostRuntime, net: Net, n: usize, weights: &[u64]) {
 }
 
 fn ask(rt: &HostRuntime, text: &[u8], n: usize, weights: &[u64]) {
-    let read = net_text::read_net(text);
-    let judged = read.judged;
-    match judged {
-        Judged::Refused(c, line) => write_refused(rt, c, line),
-        Judged::Given => weigh(rt, read.net, n, weights),
+    match net_text::read_net(text) {
+        Ok(read) => weigh(rt, read.net, n, weights),
+        Err(down) => write_refused(rt, down.refusal.number(), down.line),
     }
 }
 

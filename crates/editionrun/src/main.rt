@@ -20,7 +20,7 @@ use averages::request;
 use net::Net;
 use net_io::arguments::{is_given, number_argument};
 use net_io::{read_input, say, write_refused};
-use net_text::{Judged, RunLine};
+use net_text::RunLine;
 use rng::Xoshiro256;
 use ssa::{Halted, PathEnd};
 use std::env::Env;
@@ -72,11 +72,9 @@ fn change_to(
     instants: &[f64],
     table: &mut [f64],
 ) {
-    let read = net_text::read_net(new);
-    let judged = read.judged;
-    match judged {
-        Judged::Refused(c, line) => write_refused(rt, c, line),
-        Judged::Given => change(rt, old, read.net, pairs, path, instants, table),
+    match net_text::read_net(new) {
+        Ok(read) => change(rt, old, read.net, pairs, path, instants, table),
+        Err(down) => write_refused(rt, down.refusal.number(), down.line),
     }
 }
 
@@ -182,15 +180,9 @@ fn run(
 }
 
 fn play(rt: &HostRuntime, old: &[u8], steps: u64, carries: bool, pairs: &[u64], new: &[u8]) {
-    let read = net_text::read_net(old);
-    let judged = read.judged;
-    match judged {
-        Judged::Refused(c, line) => write_refused(rt, c, line),
-        Judged::Given => {
-            let net = read.net;
-            let asked = read.run;
-            run(rt, net, asked, steps, carries, pairs, new)
-        }
+    match net_text::read_net(old) {
+        Ok(read) => run(rt, read.net, read.run, steps, carries, pairs, new),
+        Err(down) => write_refused(rt, down.refusal.number(), down.line),
     }
 }
 

@@ -10,7 +10,6 @@ use game::{First, GameAnswer};
 use net::Net;
 use net_io::arguments::{number_argument, number_of};
 use net_io::{read_full, say, write, write_number, write_refused};
-use net_text::Judged;
 use std::env::Env;
 
 fn write_first(rt: &HostRuntime, first: First) {
@@ -149,11 +148,9 @@ fn read_and_search(
 ) {
     let mut text = [0u8; 8193];
     let t = read_full(rt, &mut text);
-    let r = net_text::read_net(&text[..t]);
-    let judged = r.judged;
-    match judged {
-        Judged::Refused(c, line) => write_refused(rt, c, line),
-        Judged::Given => search(rt, r.net, n, letters, name, count, turns),
+    match net_text::read_net(&text[..t]) {
+        Ok(read) => search(rt, read.net, n, letters, name, count, turns),
+        Err(down) => write_refused(rt, down.refusal.number(), down.line),
     }
 }
 

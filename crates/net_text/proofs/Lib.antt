@@ -13,4 +13,3 @@ pub mod Cut
 pub mod Taking
 pub mod Written
 pub mod Turns
-pub mod Whole

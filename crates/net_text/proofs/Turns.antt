@@ -2,7 +2,7 @@
 -- text; a line at each stage, and the text's end, keep it or give the answer. Assumes nothing.
 use Prim.Native.Nat.{ℕ, suc, ◌+◌, ◌≤◌, ◌<◌}
 use mathlib.Core.Path.{◌≡◌, refl, sym, ap, ap₂, subst, ◌∙◌}
-use mathlib.Core.Bool.{Bool, true, false, ◌&&◌}
+use mathlib.Core.Bool.{Bool, true, false, ◌&&◌, false≢true}
 use mathlib.Core.List.{[], ◌∷◌}
 use mathlib.Core.Option.{none}
 use native.Mathlib.Omega.{arith}
@@ -11,6 +11,7 @@ use lib.Dec.{eqb}
 use lib.ListN.{length}
 use borrow.Author.Tests.{eq-eqb, eqb-true}
 use Rattle.std.proofs.Common.{◌≢◌, Result, Ok, Err}
+use Rattle.std.specs.Bool.{Decides}
 use Rattle.refusals.specs.Number.{number_of}
 use Rattle.refusals.specs.declared.Refusal.{Refusal}
 use Rattle.refusals.specs.declared.Refusal.TheVariants.{WrongForm}
@@ -48,41 +49,9 @@ not_same [] (c ∷ w) n = refl
 not_same (b ∷ l) [] n = refl
 not_same (b ∷ l) (c ∷ w) n = other_by (eqb b c) (same l w) b c l w refl (not_same l w) n
 
-module _ (line : Bytes) (n : NetRecord) where
-  pub opened : Standing Opening n → line ≡ bytes "(net" → LineTaken (due_of Opening n) n line n (Ok Inside)
-  opened s e =
-      let empty : inside_of n ≡ inside no_net [] = rw (s.at_stage.0, s.at_stage.1) in
-      record {
-        is = ap go_on empty ∙ sym (ap (λ (b : Bool). pick b (go_on (inside no_net [])) (fault 1)) (ap (λ (l : Bytes). same l (bytes "(net")) e ∙ same_all (bytes "(net")));
-        holds = record { room = s.room; at_stage = tt };
-        fills = sym (ap (λ (l : Bytes). with_line n (line_of l)) e);
-      }
-
-  pub not_opened : (n' : NetRecord) → line ≢ bytes "(net" → LineTaken (due_of Opening n) n line n' (Err WrongForm)
-  not_opened n' w =
-      record {
-        is = sym (ap (λ (b : Bool). pick b (go_on (inside no_net [])) (fault 1)) (not_same line (bytes "(net") w));
-        holds = tt;
-        fills = tt;
-      }
-
-  pub closed : (r : RunRecord) → Standing (Closing r) n → line ≡ bytes ")" → LineTaken (due_of (Closing r) n) n line n (Ok (Nothing r))
-  closed r s e =
-      record {
-        is =
-            sym (ap (λ (b : Bool). pick b (go_on (nothing (readable n) (labels n) (run_of r))) (fault 1))
-            (ap (λ (l : Bytes). same l (bytes ")")) e ∙ same_all (bytes ")")));
-        holds = record { room = s.room; at_stage = s.at_stage };
-        fills = sym (ap (λ (l : Bytes). with_line n (line_of l)) e);
-      }
-
-  pub not_closed : (r : RunRecord) (n' : NetRecord) → line ≢ bytes ")" → LineTaken (due_of (Closing r) n) n line n' (Err WrongForm)
-  not_closed r n' w =
-      record {
-        is = sym (ap (λ (b : Bool). pick b (go_on (nothing (readable n) (labels n) (run_of r))) (fault 1)) (not_same line (bytes ")") w));
-        holds = tt;
-        fills = tt;
-      }
+pub same_if : (l w : Bytes) (r : Bool) → Decides r (l ≡ w) → r ≡ same l w
+same_if l w true d = sym (ap (same l) (sym (d.0 refl)) ∙ same_all l)
+same_if l w false d = sym (not_same l w (λ e. false≢true (d.1 e)))
 
 -- ---- all lines
 

@@ -1,6 +1,6 @@
 // The lines in their order, and what each adds to the net.
 ghost use Rattle.std.specs.Prelude.{◌≡◌, ◌+◌, ◌*◌, ◌<◌, ◌≤◌, eqb, position};
-ghost use Rattle.text.specs.Text.{newline};
+ghost use Rattle.text.specs.Text.{newline, same};
 ghost use Rattle.net.specs.Tests as Tests;
 ghost use Rattle.net.specs.Readable as Readable;
 ghost use Rattle.net.specs.Record.{blank};
@@ -122,15 +122,22 @@ fn inside_line(line: &[u8], net: &mut Net) -> Result<Stage, Refusal>
     Ok(Stage::Inside)
 }
 
+// Is the line this word and nothing else?
+fn is_word(line: &[u8], w: &[u8]) -> bool
+    ensures { result ≡ same line.now w.now }
+{
+    line == w
+}
+
 // One line, at whatever stage.
 fn one_line(line: &[u8], stage: Stage, net: &mut Net) -> Result<Stage, Refusal>
     requires { Spec.Standing stage net.old }
     ensures { Spec.LineTaken (Spec.due_of stage net.old) net.old line.now net.new result }
 {
     match stage {
-        Stage::Opening if line == b"(net".as_slice() => Ok(Stage::Inside),
+        Stage::Opening if is_word(line, b"(net") => Ok(Stage::Inside),
         Stage::Inside => inside_line(line, net),
-        Stage::Closing(run) if line == b")".as_slice() => Ok(Stage::Nothing(run)),
+        Stage::Closing(run) if is_word(line, b")") => Ok(Stage::Nothing(run)),
         _ => Err(Refusal::WrongForm),
     }
 }

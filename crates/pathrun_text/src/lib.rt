@@ -9,7 +9,7 @@ ghost use Rattle.pathrun_text.specs.Pathrun as Pathrun;
 ghost use Rattle.pathrun_text.specs.Printing.{in_front};
 
 use net::Net;
-use net_text::{Judged, RunLine};
+use net_text::RunLine;
 use ssa::EnsembleAnswer;
 
 mod lines;
@@ -68,14 +68,8 @@ pub fn played(text: &[u8], out: &mut [u8]) -> usize
     if out.len() < LONGEST {
         return 0;
     }
-    let read = net_text::read_net(text);
-    let judged = read.judged;
-    match judged {
-        Judged::Refused(number, line) => lines::refused(out, number, line),
-        Judged::Given => {
-            let net = read.net;
-            let asked = read.run;
-            run(net, asked, out)
-        }
+    match net_text::read_net(text) {
+        Ok(read) => run(read.net, read.run, out),
+        Err(down) => lines::refused(out, down.refusal.number(), down.line),
     }
 }

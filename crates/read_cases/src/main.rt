@@ -5,7 +5,7 @@
 ghost use Rattle.std.specs.Prelude.{◌≡◌, ◌<◌, ◌≤◌, length};
 
 use net::Net;
-use net_text::{Judged, RunLine};
+use net_text::RunLine;
 use std::io::{self, Read};
 
 fn word(rt: &impl Print, text: &[u8]) -> io::Result<()> {
@@ -123,16 +123,12 @@ fn given(rt: &impl Print, net: Net, run: RunLine) -> io::Result<()> {
 }
 
 fn answer(rt: &impl Print, text: &[u8]) -> io::Result<()> {
-    let r = net_text::read_net(text);
-    let judged = r.judged;
-    let net = r.net;
-    let run = r.run;
-    match judged {
-        Judged::Given => given(rt, net, run),
-        Judged::Refused(c, line) => {
+    match net_text::read_net(text) {
+        Ok(read) => given(rt, read.net, read.run),
+        Err(down) => {
             word(rt, b"refused")?;
-            number(rt, c)?;
-            number(rt, line)?;
+            number(rt, down.refusal.number())?;
+            number(rt, down.line)?;
             word(rt, b"\n")
         }
     }

@@ -9,7 +9,7 @@ ghost use Rattle.std.specs.Prelude.{◌≤◌};
 use averages::request;
 use net::Net;
 use net_io::{read_input, say, text_room, write, write_refused};
-use net_text::{Judged, RunLine};
+use net_text::RunLine;
 use rng::Xoshiro256;
 use ssa::{PathAnswer, PathEnd};
 
@@ -80,15 +80,9 @@ fn run(rt: &HostRuntime, net: Net, asked: RunLine) {
 }
 
 fn tell(rt: &HostRuntime, text: &[u8]) {
-    let read = net_text::read_net(text);
-    let judged = read.judged;
-    match judged {
-        Judged::Refused(c, line) => write_refused(rt, c, line),
-        Judged::Given => {
-            let net = read.net;
-            let asked = read.run;
-            run(rt, net, asked)
-        }
+    match net_text::read_net(text) {
+        Ok(read) => run(rt, read.net, read.run),
+        Err(down) => write_refused(rt, down.refusal.number(), down.line),
     }
 }
 

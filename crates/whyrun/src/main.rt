@@ -4,7 +4,6 @@
 #![tactic(auto)]
 
 use net_io::{read_input, say, text_room, write_front};
-use net_text::Judged;
 
 fn show(rt: &HostRuntime, out: &[u8], n: usize) {
     if !write_front(rt, out, n) {
@@ -31,11 +30,9 @@ fn show_reason(rt: &HostRuntime, net: net::Net) {
 }
 
 fn ask(rt: &HostRuntime, text: &[u8]) {
-    let read = net_text::read_net(text);
-    let judged = read.judged;
-    match judged {
-        Judged::Refused(number, line) => show_refused(rt, number, line),
-        Judged::Given => show_reason(rt, read.net),
+    match net_text::read_net(text) {
+        Ok(read) => show_reason(rt, read.net),
+        Err(down) => show_refused(rt, down.refusal.number(), down.line),
     }
 }
 
