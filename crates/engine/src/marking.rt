@@ -171,7 +171,7 @@ pub fn put<'a>(
 {
     let from = 16 * j;
     let end = from + net.arcs[j];
-    let mut more: u64 = 0;
+    let mut many: u64 = 0;
     let mut moved: u64 = 0;
     let mut crossed: u64 = 0;
     for a in from..end {
@@ -184,13 +184,13 @@ pub fn put<'a>(
                 return None;
             }
             counts[p] = d;
-            more += x;
+            many += x;
             moved |= guards[p];
             crossed |= guards::crossed(guards, p, c, d);
         }
     }
     Some(Added {
-        more,
+        more: many,
         moved,
         crossed,
     })

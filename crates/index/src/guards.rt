@@ -89,8 +89,10 @@ fn begun(words: &[u64; 32]) -> [u64; 160]
     ensures { Spec.Begun words.now result }
 {
     let mut guards = [0u64; 160];
-    guards[64..96].copy_from_slice(words);
-    guards[96..128].fill(0xFFFF_FFFF_FFFF_FFFF);
+    for (p, w) in words.iter().enumerate() {
+        guards[64 + p] = *w;
+        guards[96 + p] = 0xFFFF_FFFF_FFFF_FFFF;
+    }
     guards
 }
 

@@ -9,22 +9,46 @@ mod run;
 mod substep;
 mod walk;
 
-ghost use Rattle.std.specs.Prelude.{◌≡◌};
+ghost use Rattle.std.specs.Prelude.{◌≡◌, ◌*◌};
+ghost use Rattle.net.specs.Readable as Readable;
+ghost use Rattle.net.specs.Record.{net_of};
+ghost use Rattle.net.specs.Tests as Tests;
+ghost use Rattle.averages.specs.Request as Request;
 ghost use Rattle.sde.specs.Call as Call;
 
 use averages::request;
 use gates::Gates;
-use net::Net;
+use net::{LentNet, Net};
 use refusals::Refusal;
 
-// Whether there are deviations; or what gates the net; or the number by which the call was turned down; or the number by which a path was refused, and
-// the path's own.
+// Whether there are deviations; or what gates the net; or the refusal that turned the call down; or the one that stopped a path, and the path's number.
 #[derive(Clone, Copy)]
 pub enum DiffusionAnswer {
     Averaged(bool),
     Gated(Gates),
     TurnedDown(Refusal),
     Stopped(Refusal, u64),
+}
+
+// The first refusal of the net, of the request, and of tables of these lengths.
+fn call_fault(
+    net: &LentNet,
+    samples: u64,
+    realizations: u64,
+    seed: u64,
+    horizon: f64,
+    mean: usize,
+    deviation: usize,
+    path: usize,
+) -> Result<(), Refusal>
+    ensures { let net = net_of net.now in Readable.meaning result ≡ Tests.or_else (Readable.fault net)
+        (Tests.or_else (Request.request_fault (record { samples = samples; realizations = realizations; seed = seed; horizon = horizon }))
+        (Request.tables_fault (net.places * samples) mean deviation path)) }
+{
+    net::fields_fault(net)?;
+    request::request_fault(samples, realizations, seed, horizon)?;
+    let cells = net.places * (samples as usize);
+    request::tables_fault(cells, mean, deviation, path)
 }
 
 // Paths of the chemical Langevin equation from consecutive seeds over a grid of instants, their means and deviations: place p at instant i is cell
@@ -44,19 +68,21 @@ pub fn diffuse(
         ≡ Call.called net (record { samples = samples; realizations = realizations; seed = seed; horizon = horizon })
         (record { mean = mean.old; deviation = deviation.old; path = path.old }) }
 {
-    if let Err(c) = net::test_net(net) {
-        return DiffusionAnswer::TurnedDown(c);
-    }
-    if let Err(c) = request::request_fault(samples, realizations, seed, horizon) {
-        return DiffusionAnswer::TurnedDown(c);
-    }
-    let places = net.places;
-    let cells = places * (samples as usize);
-    if let Err(c) = request::tables_fault(cells, mean.len(), deviation.len(), path.len()) {
+    let lent = net.lent();
+    if let Err(c) = call_fault(
+        &lent,
+        samples,
+        realizations,
+        seed,
+        horizon,
+        mean.len(),
+        deviation.len(),
+        path.len(),
+    ) {
         return DiffusionAnswer::TurnedDown(c);
     }
     paths::accepted(
-        net,
+        &lent,
         samples,
         realizations,
         seed,

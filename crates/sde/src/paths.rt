@@ -1,6 +1,5 @@
 // The paths of a call, their means and deviations. The sums stand in the mean and the deviation table while the paths run.
 ghost use Rattle.std.specs.Prelude.{◌≡◌, not, ◌*◌, ◌≤◌, eqb, Float, length};
-ghost use Rattle.std.proofs.Math.Option.{none};
 ghost use Rattle.net.specs.Net as Reader;
 ghost use Rattle.net.specs.Readable as Record;
 ghost use Rattle.net.specs.Record.{net_of};
@@ -16,7 +15,7 @@ ghost use Rattle.sde.specs.Summed as Summed;
 use crate::run::Run;
 use crate::{DiffusionAnswer, change, propensity, walk};
 use averages::{moments, request};
-use net::{LentNet, Net};
+use net::LentNet;
 use refusals::Refusal;
 
 // The width of a substep.
@@ -117,7 +116,7 @@ fn averaged(
 }
 
 // A call that no test turned down, over the net whose fields are lent: gated, or the paths.
-pub fn lent_run(
+pub fn accepted(
     net: &LentNet,
     samples: u64,
     realizations: u64,
@@ -163,36 +162,4 @@ pub fn lent_run(
         root: root::sqrt(dt),
     };
     averaged(&run, realizations, seed, mean, deviation, path)
-}
-
-// The same for a net record.
-pub fn accepted(
-    net: Net,
-    samples: u64,
-    realizations: u64,
-    seed: u64,
-    horizon: f64,
-    mean: &mut [f64],
-    deviation: &mut [f64],
-    path: &mut [f64],
-) -> DiffusionAnswer
-    requires { (Record.fault net ≡ none)
-        × (2 ≤ samples) × (samples ≤ 1024) × (1 ≤ realizations) × (realizations ≤ 65_535)
-        × (net.places * samples ≤ length mean.old) × (net.places * samples ≤ length deviation.old) × (net.places * samples ≤ length path.old) }
-    ensures { Call.call_of result mean.new deviation.new path.new
-        ≡ Call.unless_gated (Gated.gated (Gated.gates (Record.readable net))) (Gated.gates (Record.readable net))
-        (record { mean = mean.old; deviation = deviation.old; path = path.old })
-        (Call.tabulated (net.places * samples) (record { mean = mean.old; deviation = deviation.old; path = path.old })
-        (Call.members_from (Record.readable net) (record { samples = samples; realizations = realizations; seed = seed; horizon = horizon }) 0 realizations)) }
-{
-    lent_run(
-        &net.lent(),
-        samples,
-        realizations,
-        seed,
-        horizon,
-        mean,
-        deviation,
-        path,
-    )
 }

@@ -85,12 +85,9 @@ then_joined out i v w h =
 pub front_fits : (i : ℕ) (v w : Bytes) {n : ℕ} → i + length (v ++ w) ≤ n → i + length v ≤ n
 front_fits i v w h = omega (arith, length-append v w)
 
--- behind what was written before
-pub then_next : (out : Bytes) (w : Bytes) {b : Option ℕ} {i : ℕ} (s : Bytes × Option ℕ) → b ≡ Some i → s ≡ written out i w → s ≡ and_then (out, b) w
-then_next out w s e done = done ∙ ap (λ (b : Option ℕ). and_then (out, b) w) (sym e)
-
-pub then_short : (out : Bytes) (w : Bytes) {b : Option ℕ} → b ≡ None → (out, None) ≡ and_then (out, b) w
-then_short out w e = ap (λ (b : Option ℕ). and_then (out, b) w) (sym e)
+-- nothing is written behind what did not fit
+pub then_short : (out w : Bytes) → and_then (out, None) w ≡ (out, None)
+then_short out w = refl
 
 -- what has a position behind it fitted
 landed : (b : Bool) (p out later : Bytes) (n k : ℕ) → ◌≡◌ {A = Bytes × Option ℕ} (later, Some k) (cond b (p, Some n) (out, None)) → b ≡ true

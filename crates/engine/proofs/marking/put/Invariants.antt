@@ -11,5 +11,5 @@ abbrev pub invariant-loop-a : goal.invariant-loop-a
 invariant-loop-a l =
     let n = net_of l.net in
     let before = marking n.places l.initial.counts in
-    Putting n.places n.kind n.place n.weight l.end before (putting_of before (slots_of n l.j)) l.counts l.more l.a
+    Putting n.places n.kind n.place n.weight l.end before (putting_of before (slots_of n l.j)) l.counts l.many l.a
     × Told puts_on n l.j l.guards l.initial.counts l.counts l.moved l.crossed

@@ -12,11 +12,11 @@ returns-then-k-ne-PUT c =
     let s = c.args in
     lists_arc s.net.now.capacity.now (span s.net.now.kind.now s.net.now.place.now s.net.now.weight.now s.from s.end) _ _ c.if-k-ne-PUT.true
 
-pub offset_bounds-capacity-p : goal.offset_bounds-capacity-p
-offset_bounds-capacity-p c = let s = c in omega (arith, s.requires.2 s.args.a)
+pub offset_bounds-net-p : goal.offset_bounds-net-p
+offset_bounds-net-p c = let s = c in omega (arith, s.requires.2 s.args.a)
 
-pub bounds-capacity-p : goal.bounds-capacity-p
-bounds-capacity-p c = let s = c in s.requires.2 s.args.a
+pub bounds-net-p : goal.bounds-net-p
+bounds-net-p c = let s = c in s.requires.2 s.args.a
 
 pub returns-then-q-eq0 : goal.returns-then-q-eq0
 returns-then-q-eq0 c =

@@ -1,8 +1,26 @@
--- An accepted net is sound, and its fields lent without its labels read as the net. Assumes nothing.
-use Rattle.net.proofs.Sound.{sound, unlabelled}
+-- What gates the net, or the paths with its rates tidied, the tables of changes, skips and ends and the width of a substep. Assumes nothing.
+use Rattle.std.proofs.Common.{◌*◌, refl, ap, ◌∙◌, arith}
+use Rattle.net.specs.Record.{net_of}
+use Rattle.sde.specs.Call.{tabulated}
+use Rattle.sde.proofs.Rates.{rated, tidied_sound, members_made}
+use Rattle.sde.proofs.Tested.{by_gated, by_free}
 use Rattle.sde.proofs.paths.accepted.Goals as goal
 
-pub lent_run-requires : goal.lent_run-requires
-lent_run-requires c =
-    let s = c in
-    (unlabelled s.args.net (sound s.args.net s.requires.0), s.requires.1, s.requires.2, s.requires.3, s.requires.4, s.requires.5, s.requires.6, s.requires.7)
+pub returns-then-is_gated : goal.returns-then-is_gated
+returns-then-is_gated c = by_gated c.gates_of-g.result _ c.gates_of-g.ensures c.is_gated.result c.is_gated.ensures _ _ c.if-is_gated.true
+
+pub fill_changes-requires : goal.fill_changes-requires
+fill_changes-requires c = tidied_sound (net_of c.args.net.now) c.fill_rates.new.rates c.fill_rates.ensures c.requires.0
+
+pub invariant_of-run : goal.invariant_of-run
+invariant_of-run c = ?
+
+pub returns : goal.returns
+returns c =
+    let g = c.args in
+    let n = net_of g.net.now in
+    by_free c.gates_of-g.result _ c.gates_of-g.ensures c.is_gated.result c.is_gated.ensures _ _ c.if-is_gated.false
+    (c.averaged.ensures
+    ∙ ap (tabulated (n.places * g.samples) (record { mean = g.mean.now; deviation = g.deviation.now; path = g.path.now }))
+    (members_made n c.fill_rates.new.rates c.fill_rates.ensures (record { samples = g.samples; realizations = g.realizations; seed = g.seed; horizon = g.horizon }) c.width-dt.ensures
+    0 g.realizations))
