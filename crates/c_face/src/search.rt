@@ -5,41 +5,38 @@ ghost use Rattle.game.specs.Call.{called, call_of};
 ghost use Rattle.game.specs.Play.{first_of};
 ghost use Rattle.c_face.specs.Searched.{answer_number, fired_first, told_of};
 
-use game::{First, GameAnswer};
+use game::{FaultFound, First};
 use net::Net;
+use refusals::Refusal;
 
 // The number of an answer: 100 for no, 101 for already there, 102 for a pass, 103 for a transition.
-fn answer_number(first: First) -> u64
+fn answer_number(first: Option<First>) -> u64
     ensures { result ≡ answer_number (first_of first) }
 {
     match first {
-        First::Never => 100,
-        First::Already => 101,
-        First::Passes => 102,
-        First::Fires(_) => 103,
+        None => 100,
+        Some(First::Already) => 101,
+        Some(First::Passes) => 102,
+        Some(First::Fires(_)) => 103,
     }
 }
 
 // The transition of an answer, 0 where it has none.
-fn fired_first(first: First) -> u64
+fn fired_first(first: Option<First>) -> u64
     ensures { result ≡ fired_first (first_of first) }
 {
     match first {
-        First::Fires(j) => j as u64,
-        First::Already => 0,
-        First::Passes => 0,
-        First::Never => 0,
+        Some(First::Fires(j)) => j as u64,
+        _ => 0,
     }
 }
 
-fn numbers(answer: GameAnswer) -> [u64; 3]
+fn numbers(answer: Result<FaultFound, Refusal>) -> [u64; 3]
     ensures { result ≡ told_of (call_of answer) }
 {
     match answer {
-        GameAnswer::Refused(c) => [c.number(), 0, 0],
-        GameAnswer::Answered(first, examined) => {
-            [answer_number(first), fired_first(first), examined]
-        }
+        Err(c) => [c.number(), 0, 0],
+        Ok(r) => [answer_number(r.first), fired_first(r.first), r.examined],
     }
 }
 

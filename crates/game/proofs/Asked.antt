@@ -1,7 +1,7 @@
 -- The tests of a call, in their order: each answer of the call is the definition's by the tests that led to it. Assumes nothing.
 use Prim.Native.Nat.{ℕ, zero, suc, ◌+◌, ◌-◌, ◌^◌, ◌≤◌, ◌<◌}
 use mathlib.Core.Path.{◌≡◌, refl, sym, ap, ◌∙◌, subst}
-use mathlib.Core.Bool.{Bool, true, false, ◌&&◌, ◌||◌}
+use mathlib.Core.Bool.{Bool, true, false, ◌&&◌, ◌||◌, cond}
 use mathlib.Core.List.{List, [], ◌∷◌}
 use mathlib.Core.Option.{Option, none, some}
 use native.Mathlib.Omega.{arith}
@@ -11,6 +11,8 @@ use lib.ListN.{length, get_or, drop, drop_of_length-le}
 use lib.Seq.{drop-cons}
 use lib.Ieee.{nan, lt}
 use borrow.Author.Tests.{eq-eqb, ne_eqb, eqb-true, le-leb, lt-leb, leb-true, lt-ltb, le-ltb}
+use Rattle.std.specs.List.{list_all, count_by}
+use Rattle.std.proofs.lemmas.List.Sums.{sum_by-cons}
 use Rattle.refusals.specs as Refusal
 use Rattle.net.specs.declared.Net.{Net as NetRecord}
 use Rattle.net.specs.Net.{Net, pick, zero64}
@@ -24,25 +26,18 @@ use Rattle.game.specs.Game.{Side, fault, recovery, Answer, Exactly}
 use Rattle.game.specs.Search.{Counted, fault_move}
 use Rattle.game.specs.Play.{sides_of, owned, game_of, Sided}
 use Rattle.game.specs.Call.{delayed, each_side, sides_fit, turns_fit, Called, refused, found, after_net, unless_fault, called, Exact}
-use Rattle.game.proofs.Tries.{left_of, left_step}
 use Rattle.game.proofs.Right.{exactly}
 use Rattle.game.proofs.Bound.{few_fault}
 
 -- ---- the sides
 
-owned_one : (b : Bool) (ss : List Side) → owned fault (pick b fault recovery ∷ ss) ≡ pick b 1 0 + owned fault ss
-owned_one true ss = omega arith
-owned_one false ss = omega arith
-
-pub owned_turn : (sides : List ℕ) (j : ℕ) → j < length sides → owned fault (left_of sides j) ≡ pick (eqb (get_or sides j 0) 0) 1 0 + owned fault (left_of sides (j + 1))
-owned_turn sides j h = ap (owned fault) (left_step sides j h) ∙ owned_one (eqb (get_or sides j 0) 0) (left_of sides (j + 1))
-
-pub owned_end : (sides : List ℕ) (j : ℕ) → length sides ≤ j → owned fault (left_of sides j) ≡ 0
-owned_end sides j h = ap (λ (xs : List ℕ). owned fault (sides_of xs)) (drop_of_length-le sides h)
-
-pub at_most_one : (b : Bool) → pick b 1 0 ≤ 1
-at_most_one true = omega arith
-at_most_one false = omega arith
+pub faults_are : (sides : List ℕ) → count_by (λ (x : ℕ). eqb x 0) sides ≡ owned fault (sides_of sides)
+faults_are [] = refl
+faults_are (x ∷ xs) = sum_by-cons (λ (x : ℕ). cond (eqb x 0) 1 0) x xs ∙ go (eqb x 0) (faults_are xs)
+  where
+    go : (b : Bool) → count_by (λ (x : ℕ). eqb x 0) xs ≡ owned fault (sides_of xs) → cond b 1 0 + count_by (λ (x : ℕ). eqb x 0) xs ≡ owned fault (pick b fault recovery ∷ sides_of xs)
+    go true h = omega arith
+    go false h = omega arith
 
 two_sides : (ss : List Side) → owned fault ss + owned recovery ss ≡ length ss
 two_sides [] = refl
@@ -56,18 +51,9 @@ sides_long (x ∷ xs) = ap suc (sides_long xs)
 pub other_side : (sides : List ℕ) (f : ℕ) → f ≡ owned fault (sides_of sides) → length sides - f ≡ owned recovery (sides_of sides)
 other_side sides f e = omega (arith, two_sides (sides_of sides), sides_long sides)
 
-module _ (sides : List ℕ) (j : ℕ) (h : j < length sides) {t : Bool} (inv : each_side (drop j sides) ≡ t) where
-  each_turn : t ≡ (leb (get_or sides j 0) 1 && each_side (drop (j + 1) sides))
-  each_turn = sym inv ∙ ap each_side (drop-cons sides j 0 h) ∙ ap (λ (i : ℕ). leb (get_or sides j 0) 1 && each_side (drop i sides)) (sym (add-one j))
-
-  pub each_stop : 1 < get_or sides j 0 → false ≡ t
-  each_stop k = sym (each_turn ∙ ap (λ (b : Bool). b && each_side (drop (j + 1) sides)) (lt-leb (get_or sides j 0) 1 k))
-
-  pub each_go : get_or sides j 0 ≤ 1 → each_side (drop (j + 1) sides) ≡ t
-  each_go k = sym (each_turn ∙ ap (λ (b : Bool). b && each_side (drop (j + 1) sides)) (le-leb (get_or sides j 0) 1 k))
-
-pub each_end : (sides : List ℕ) (j : ℕ) {t : Bool} → length sides ≤ j → each_side (drop j sides) ≡ t → true ≡ t
-each_end sides j h inv = sym (ap each_side (drop_of_length-le sides h)) ∙ inv
+pub each_is : (sides : List ℕ) → list_all (λ (x : ℕ). leb x 1) sides ≡ each_side sides
+each_is [] = refl
+each_is (x ∷ xs) = ap (λ (b : Bool). leb x 1 && b) (each_is xs)
 
 -- the test of the list, part by part; f of its sides are the fault side
 module _ (n : ℕ) (sides : List ℕ) where

@@ -12,9 +12,9 @@ use Rattle.net.specs.Net.{Marking, pick, held}
 use Rattle.net.specs.Readable.{readable}
 use Rattle.engine.specs.Engine.{marking}
 use Rattle.engine.proofs.Marks.{held_marking}
-use Rattle.game.specs.Game.{Game, firing, Answer, already, fire_first, pass_first, never}
+use Rattle.game.specs.Game.{Game, firing, may_fire, Answer, already, fire_first, pass_first, never}
 use Rattle.game.specs.Search.{Counted, counted, plus, met, won, as_won, fault_tries, recovery_tries, fault_move, recovery_move}
-use Rattle.game.specs.Play.{game_of, Table, FiredBy}
+use Rattle.game.specs.Play.{game_of, Table}
 use Rattle.game.proofs.Bound.{few_fault, few_recovery}
 use Rattle.game.proofs.Tries as Tries
 
@@ -91,32 +91,32 @@ module _ {g : Game} {left : ℕ} {m : Marking} {sides : List ℕ} {k examined : 
   pub fault_other : j < k → (get_or sides j 0 ≡ 0 → ⊥) → FaultTurn g left m sides k examined moved (j + 1)
   fault_other h o = record { long = t.long; within = omega arith; whole = Tries.fault_other g behind m sides examined moved j (fault_move left g m) t.whole (omega (arith, h, t.long)) o }
 
-  module _ (h : j < k) (o : get_or sides j 0 ≡ 0) {may : Bool} {after : Marking} (f : FiredBy g.net m j may after) where
-    pub fault_shut : may ≡ false → FaultTurn g left m sides k examined moved (j + 1)
+  module _ (h : j < k) (o : get_or sides j 0 ≡ 0) where
+    pub fault_shut : may_fire g.net m j ≡ false → FaultTurn g left m sides k examined moved (j + 1)
     fault_shut e =
         record {
           long = t.long;
           within = omega arith;
-          whole = Tries.fault_shut g behind m sides examined moved j (fault_move left g m) t.whole (omega (arith, h, t.long)) o (sym f.says ∙ e);
+          whole = Tries.fault_shut g behind m sides examined moved j (fault_move left g m) t.whole (omega (arith, h, t.long)) o e;
         }
 
-    module _ (e : may ≡ true) (r : Counted Bool) (s : r ≡ recovery_move (left - 1) g after) where
+    module _ (e : may_fire g.net m j ≡ true) {after : Marking} (f : after ≡ firing g.net m j) (r : Counted Bool) (s : r ≡ recovery_move (left - 1) g after) where
       found : r ≡ behind (firing g.net m j)
-      found = s ∙ ap behind (f.gives e)
+      found = s ∙ ap behind f
 
       pub fault_settled : r.answer ≡ true → counted (fire_first j) (examined + r.examined) ≡ fault_move left g m
-      fault_settled y = Tries.fault_settled g behind m sides examined moved j (fault_move left g m) t.whole (omega (arith, h, t.long)) o r found (sym f.says ∙ e) y
+      fault_settled y = Tries.fault_settled g behind m sides examined moved j (fault_move left g m) t.whole (omega (arith, h, t.long)) o r found e y
 
       pub fault_goes_on : r.answer ≡ false → FaultTurn g left m sides k (examined + r.examined) true (j + 1)
       fault_goes_on y =
           record {
             long = t.long;
             within = omega arith;
-            whole = Tries.fault_goes_on g behind m sides examined moved j (fault_move left g m) t.whole (omega (arith, h, t.long)) o r found (sym f.says ∙ e) y;
+            whole = Tries.fault_goes_on g behind m sides examined moved j (fault_move left g m) t.whole (omega (arith, h, t.long)) o r found e y;
           }
 
       pub fault_room : examined + r.examined ≤ (fault_move left g m).examined
-      fault_room = Tries.fault_room g behind m sides examined moved j (fault_move left g m) t.whole (omega (arith, h, t.long)) o r found (sym f.says ∙ e)
+      fault_room = Tries.fault_room g behind m sides examined moved j (fault_move left g m) t.whole (omega (arith, h, t.long)) o r found e
 
   module _ (h : k ≤ j) where
     pub fault_tired : moved ≡ true → counted never examined ≡ fault_move left g m
@@ -163,33 +163,33 @@ module _ {g : Game} {left : ℕ} {m : Marking} {sides : List ℕ} {k examined : 
   recovery_other h o =
       record { long = t.long; within = omega arith; whole = Tries.recovery_other g behind_it m sides examined moved j (recovery_move left g m) t.whole (omega (arith, h, t.long)) o }
 
-  module _ (h : j < k) (o : get_or sides j 0 ≡ 0 → ⊥) {may : Bool} {after : Marking} (f : FiredBy g.net m j may after) where
-    pub recovery_shut : may ≡ false → RecoveryTurn g left m sides k examined moved (j + 1)
+  module _ (h : j < k) (o : get_or sides j 0 ≡ 0 → ⊥) where
+    pub recovery_shut : may_fire g.net m j ≡ false → RecoveryTurn g left m sides k examined moved (j + 1)
     recovery_shut e =
         record {
           long = t.long;
           within = omega arith;
-          whole = Tries.recovery_shut g behind_it m sides examined moved j (recovery_move left g m) t.whole (omega (arith, h, t.long)) o (sym f.says ∙ e);
+          whole = Tries.recovery_shut g behind_it m sides examined moved j (recovery_move left g m) t.whole (omega (arith, h, t.long)) o e;
         }
 
-    module _ (e : may ≡ true) (r : Counted Answer) (s : r ≡ fault_move (left - 1) g after) where
+    module _ (e : may_fire g.net m j ≡ true) {after : Marking} (f : after ≡ firing g.net m j) (r : Counted Answer) (s : r ≡ fault_move (left - 1) g after) where
       found_it : as_won r ≡ behind_it (firing g.net m j)
-      found_it = ap as_won s ∙ ap behind_it (f.gives e)
+      found_it = ap as_won s ∙ ap behind_it f
 
       pub recovery_settled : won r.answer ≡ false → counted false (examined + r.examined) ≡ recovery_move left g m
       recovery_settled y =
-          Tries.recovery_settled g behind_it m sides examined moved j (recovery_move left g m) t.whole (omega (arith, h, t.long)) o (as_won r) found_it (sym f.says ∙ e) y
+          Tries.recovery_settled g behind_it m sides examined moved j (recovery_move left g m) t.whole (omega (arith, h, t.long)) o (as_won r) found_it e y
 
       pub recovery_goes_on : won r.answer ≡ true → RecoveryTurn g left m sides k (examined + r.examined) true (j + 1)
       recovery_goes_on y =
           record {
             long = t.long;
             within = omega arith;
-            whole = Tries.recovery_goes_on g behind_it m sides examined moved j (recovery_move left g m) t.whole (omega (arith, h, t.long)) o (as_won r) found_it (sym f.says ∙ e) y;
+            whole = Tries.recovery_goes_on g behind_it m sides examined moved j (recovery_move left g m) t.whole (omega (arith, h, t.long)) o (as_won r) found_it e y;
           }
 
       pub recovery_room : examined + r.examined ≤ (recovery_move left g m).examined
-      recovery_room = Tries.recovery_room g behind_it m sides examined moved j (recovery_move left g m) t.whole (omega (arith, h, t.long)) o (as_won r) found_it (sym f.says ∙ e)
+      recovery_room = Tries.recovery_room g behind_it m sides examined moved j (recovery_move left g m) t.whole (omega (arith, h, t.long)) o (as_won r) found_it e
 
   module _ (h : k ≤ j) where
     pub recovery_tired : moved ≡ true → counted true examined ≡ recovery_move left g m

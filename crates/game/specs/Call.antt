@@ -1,8 +1,9 @@
 -- The call of a game: its refusals in their order, and else what the search finds from the initial counts. Document 02, order 13: "Answers: 23 a delayed
 -- transition, 24 an ownership list that doesn't give each transition one side with at most 8 on each, or a turn number out of range, 25 no such place; in
 -- this order."
-use Rattle.std.specs.Prelude.{ℕ, ◌-◌, ◌≤◌, ◌≡◌, Bool, true, false, ◌&&◌, ◌||◌, List, [], ◌∷◌, eqb, leb, ltb, length}
+use Rattle.std.specs.Prelude.{ℕ, ◌-◌, ◌≤◌, ◌≡◌, Bool, true, false, ◌&&◌, ◌||◌, List, [], ◌∷◌, eqb, leb, ltb, length, Result, Ok, Err}
 use Rattle.refusals.specs.Number.{number_of}
+use Rattle.refusals.specs.declared.Refusal.{Refusal as RefusalEnum}
 use Rattle.std.proofs.Math.Option.{Option, none, some}
 use Rattle.refusals.specs as Refusal
 use Rattle.net.specs.declared.Net.{Net as NetRecord}
@@ -10,10 +11,9 @@ use Rattle.net.specs.Net.{Transition, Net, pick, timed}
 use Rattle.net.specs.Readable.{readable, fault as net_fault}
 use Rattle.rules.specs.Moves.{initial_counts}
 use Rattle.game.specs.Game.{fault, recovery, Answer, Exactly}
-use Rattle.game.specs.Search.{Counted, counted, fault_move}
-use Rattle.game.specs.Play.{sides_of, owned, game_of, first_of}
-use Rattle.game.specs.declared.GameAnswer.{GameAnswer}
-use Rattle.game.specs.declared.GameAnswer.TheVariants.{Answered, Refused}
+use Rattle.game.specs.Search.{Counted, fault_move}
+use Rattle.game.specs.Play.{sides_of, owned, game_of, fault_of}
+use Rattle.game.specs.declared.FaultFound.{FaultFound}
 
 -- one of them is delayed
 abbrev pub delayed : List Transition → Bool
@@ -55,9 +55,9 @@ unfoldable pub called : NetRecord → List ℕ → ℕ → ℕ → ℕ → Calle
 called n sides p c turns = unless_fault (net_fault n) (after_net (readable n) sides p c turns)
 
 -- what the program answers
-abbrev pub call_of : GameAnswer → Called
-call_of (Answered a n) = found (counted (first_of a) n)
-call_of (Refused c) = refused (number_of c)
+abbrev pub call_of : Result FaultFound RefusalEnum → Called
+call_of (Ok r) = found (fault_of r)
+call_of (Err c) = refused (number_of c)
 
 -- "each exactly when the game's definition says so": an answer that a call gives is right by the rules of the game, and no other is; and it examines at
 -- most the positions of a tree of 8 turns with 8 moves at each.

@@ -1,14 +1,17 @@
 -- What the program's tables and answers stand for. Nothing here adds to the game or to the search.
-use Rattle.std.specs.Prelude.{ℕ, suc, ◌≤◌, ◌<◌, ◌≡◌, Bool, true, false, List, [], ◌∷◌, eqb, length}
+use Rattle.std.specs.Prelude.{ℕ, suc, ◌≤◌, ◌<◌, ◌≡◌, Bool, true, false, List, [], ◌∷◌, eqb, length, Option, Some, None}
 use Rattle.net.specs.declared.Net.{Net as NetRecord}
 use Rattle.net.specs.Net.{Net, Marking, pick}
+use Rattle.net.specs.Readable.{readable}
+use Rattle.net.specs.Record.{net_of}
 use Rattle.engine.specs.Engine as Engine
 use Rattle.engine.specs.Limits as Limits
 use Rattle.game.specs.Game.{Side, fault, recovery, Game, firing, may_fire, Answer, already, fire_first, pass_first, never}
 use Rattle.game.specs.Search.{Counted, counted}
 use Rattle.game.specs.declared.First.{First}
-use Rattle.game.specs.declared.First.TheVariants.{Already, Fires, Passes, Never}
-use Rattle.game.specs.declared.search.FaultFound.{FaultFound}
+use Rattle.game.specs.declared.First.TheVariants.{Already, Fires, Passes}
+use Rattle.game.specs.declared.FaultFound.{FaultFound}
+use Rattle.game.specs.declared.search.Game.{Game as Tables}
 use Rattle.game.specs.declared.search.RecoveryFound.{RecoveryFound}
 
 -- ---- the game
@@ -48,13 +51,19 @@ pub record Table (n : NetRecord) (limit sides : List ℕ) (p : ℕ) : Type 0 whe
   pub sided : Sided n.transitions sides
   pub place : p < n.places
 
+abbrev pub Ready : Tables → Type 0
+Ready t = Table (net_of t.net.now) t.limit.now t.sides.now t.wanted
+
+abbrev pub game_in : Tables → Game
+game_in t = game_of (readable (net_of t.net.now)) t.sides.now t.wanted t.count
+
 -- ---- answers
 
-abbrev pub first_of : First → Answer
-first_of Already = already
-first_of (Fires j) = fire_first j
-first_of Passes = pass_first
-first_of Never = never
+abbrev pub first_of : Option First → Answer
+first_of (Some Already) = already
+first_of (Some (Fires j)) = fire_first j
+first_of (Some Passes) = pass_first
+first_of None = never
 
 abbrev pub fault_of : FaultFound → Counted Answer
 fault_of r = counted (first_of r.first) r.examined
@@ -62,7 +71,7 @@ fault_of r = counted (first_of r.first) r.examined
 abbrev pub recovery_of : RecoveryFound → Counted Bool
 recovery_of r = counted r.won r.examined
 
--- a firing: whether it may, and where it may, that these are the counts after it
-pub record FiredBy (n : Net) (m : Marking) (j : ℕ) (may : Bool) (after : Marking) : Type 0 where
-  pub says : may ≡ may_fire n m j
-  pub gives : may ≡ true → after ≡ firing n m j
+-- a firing over so many places: whether it may, and where it may, that these are the counts after it
+abbrev pub FiredBy : Net → Marking → ℕ → ℕ → Option (List ℕ) → Type 0
+FiredBy n m places j None = may_fire n m j ≡ false
+FiredBy n m places j (Some after) = (may_fire n m j ≡ true) × (Engine.marking places after ≡ firing n m j) × Engine.Counts after

@@ -1,19 +1,19 @@
 // What a game's call tests after its net, and the game of a call that is accepted.
-ghost use Rattle.std.specs.Prelude.{◌≡◌, ℕ, ◌^◌, ◌<◌, ◌≤◌, eqb, length, get_or};
+ghost use Rattle.std.specs.Prelude.{◌≡◌, ℕ, ◌^◌, ◌<◌, ◌≤◌, length, get_or};
 ghost use Rattle.std.proofs.Math.Option.{none};
-ghost use Rattle.net.specs.Net as Reader;
 ghost use Rattle.net.specs.Readable as Record;
-ghost use Rattle.net.specs.Record.{lent, net_of};
+ghost use Rattle.net.specs.Record.{net_of};
 ghost use Rattle.net.specs.declared.Net.{Net as NetRecord};
 ghost use Rattle.rules.specs.Moves as Moves;
 ghost use Rattle.engine.specs.Engine as Engine;
-ghost use Rattle.game.specs.Game as Game;
+ghost use Rattle.game.specs.Game as Rules;
 ghost use Rattle.game.specs.Search as Search;
 ghost use Rattle.game.specs.Play as Play;
 ghost use Rattle.game.specs.Call as Call;
 
+use crate::FaultFound;
 use crate::search;
-use crate::search::FaultFound;
+use crate::search::Game;
 use engine::slots;
 use net::{LentNet, Net};
 
@@ -22,38 +22,18 @@ const MOST_OF_A_SIDE: usize = 8;
 
 const MOST_TURNS: u64 = 8;
 
-// 1 for the fault side, else 0.
-fn one_if_fault(side: u64) -> usize
-    ensures { result ≡ Reader.pick (eqb side 0) 1 0 }
-{
-    if side == search::FAULT { 1 } else { 0 }
-}
-
 // How many transitions the fault side has.
 fn faults(sides: &[u64]) -> usize
-    ensures { (result ≡ Play.owned Game.fault (Play.sides_of sides.now)) × (result ≤ length sides.now) }
+    ensures { (result ≡ Play.owned Rules.fault (Play.sides_of sides.now)) × (result ≤ length sides.now) }
 {
-    let mut n: usize = 0;
-    let mut j: usize = 0;
-    while j < sides.len() {
-        n = n + one_if_fault(sides[j]);
-        j += 1;
-    }
-    n
+    sides.iter().filter(|side| **side == search::FAULT).count()
 }
 
 // Is each number a side's?
 fn each_side(sides: &[u64]) -> bool
     ensures { result ≡ Call.each_side sides.now }
 {
-    let mut j: usize = 0;
-    while j < sides.len() {
-        if 1 < sides[j] {
-            return false;
-        }
-        j += 1;
-    }
-    true
+    sides.iter().all(|side| *side <= search::RECOVERY)
 }
 
 // Does the list give each transition one side, and each side at most 8?
@@ -94,7 +74,15 @@ fn lent_game(net: &LentNet, sides: &[u64], wanted: usize, count: u64, turns: u64
     slots::fill_limits(net, &mut limit);
     let guards = [0u64; 160];
     let counts = slots::first_counts(net.places, net.initial);
-    search::fault_move(net, &limit, &guards, sides, wanted, count, counts, turns)
+    let game = Game {
+        net,
+        limit: &limit,
+        guards: &guards,
+        sides,
+        wanted,
+        count,
+    };
+    game.fault_move(counts, turns)
 }
 
 // The game of a call that no test turns down.

@@ -4,22 +4,24 @@
 // are missing, too long or no numbers are spoken of on standard error, and nothing else is.
 #![tactic(auto)]
 
-use game::{First, GameAnswer};
+use game::{FaultFound, First};
 use net::Net;
 use net_io::arguments::{number_argument, number_of};
 use net_io::{read_full, say, text_room, write_refused};
+use refusals::Refusal;
 use std::env::Env;
 
 // That the line cannot be written goes unsaid.
-fn write_answer(rt: &HostRuntime, answer: GameAnswer) {
+fn write_answer(rt: &HostRuntime, answer: Result<FaultFound, Refusal>) {
     match answer {
-        GameAnswer::Refused(c) => write_refused(rt, c.number(), 0),
-        GameAnswer::Answered(first, examined) => {
-            let _ = match first {
-                First::Never => println!(rt; "(game no {examined})"),
-                First::Already => println!(rt; "(game already {examined})"),
-                First::Passes => println!(rt; "(game pass {examined})"),
-                First::Fires(j) => println!(rt; "(game fires {j} {examined})"),
+        Err(c) => write_refused(rt, c.number(), 0),
+        Ok(r) => {
+            let examined = r.examined;
+            let _ = match r.first {
+                None => println!(rt; "(game no {examined})"),
+                Some(First::Already) => println!(rt; "(game already {examined})"),
+                Some(First::Passes) => println!(rt; "(game pass {examined})"),
+                Some(First::Fires(j)) => println!(rt; "(game fires {j} {examined})"),
             };
         }
     }

@@ -18,14 +18,16 @@ use Rattle.net.specs.declared.Net.{Net as NetRecord}
 use Rattle.net.specs.Net.{Net, pick, zero64}
 use Rattle.net.specs.Readable.{readable, fault}
 use Rattle.net.specs.Sound.{Sound}
+use Rattle.net.specs.Tests.{or_else}
 use Rattle.net.proofs.Lengths.{places_length}
 use Rattle.rng.specs.State.{State as Generator}
 use Rattle.rules.specs.Shown.{rising, instants_fit, limit_fits, worked}
 use Rattle.rules.specs.Carried.{play_on, begun}
 use Rattle.rules.proofs.Order.{both}
-use Rattle.ssa.specs.Path.{Call, turned_down, played, table_fits, after_net, unless_fault, called}
+use Rattle.rules.proofs.TakesOnce.{no_some}
+use Rattle.ssa.specs.Path.{Call, turned_down, played, table_fits, call_fault, unless_fault, called}
 use Rattle.ssa.specs.Halted as Naming
-use Rattle.ssa.specs.Halted.{unbegun, naming_after_net, naming}
+use Rattle.ssa.specs.Halted.{unbegun, naming}
 use Rattle.engine.proofs.Arcs.{and_stop, and_go}
 
 -- ---- the instants
@@ -97,72 +99,85 @@ pub same_run : {x : Call} (places : ℕ) (g : Generator) (xs : List Float) (k : 
     → x ≡ played places (length xs) g table (worked m g xs k) → x ≡ played places (length xs) g table (worked n g xs k)
 same_run places g xs k table e h = h ∙ ap (λ (z : Net). played places (length xs) g table (worked z g xs k)) e
 
--- ---- the call
+-- ---- the tests of a call
 
--- what a path call answers by its tests: turned down by a number, or the run over so many places
-pub record Tested {A : Type 0} (down run : ℕ → A) (n : NetRecord) (xs : List Float) (k : ℕ) (table : List Float) (call : A) : Type 0 where
-  pub by_net : {c : ℕ} → fault n ≡ some c → call ≡ down c
-  pub by_instants : fault n ≡ none → instants_fit xs ≡ false → call ≡ down Refusal.bad_instants
-  pub by_limit : fault n ≡ none → instants_fit xs ≡ true → limit_fits k ≡ false → call ≡ down Refusal.bad_limit
-  pub by_table : fault n ≡ none → instants_fit xs ≡ true → limit_fits k ≡ true → length table < n.places * length xs → call ≡ down Refusal.short_table
-  pub by_run : fault n ≡ none → instants_fit xs ≡ true → limit_fits k ≡ true → n.places * length xs ≤ length table → call ≡ run n.places
+module _ (n : NetRecord) (xs : List Float) (k : ℕ) (table : List Float) where
+  abbrev pub tested : Option ℕ → Bool → Bool → Bool → Option ℕ
+  tested f a b d =
+      or_else f (pick a (pick b (pick d none (some Refusal.short_table)) (some Refusal.bad_limit)) (some Refusal.bad_instants))
 
-module _ {A : Type 0} (down run : ℕ → A) (n : NetRecord) (xs : List Float) (k : ℕ) (table : List Float) where
-  -- the answer by the tests of instants, limit and table, over so many places
-  abbrev answer : ℕ → Bool → Bool → Bool → A
-  answer places a b c = pick a (pick b (pick c (run places) (down Refusal.short_table)) (down Refusal.bad_limit)) (down Refusal.bad_instants)
+  pub fault_by : {f : Option ℕ} {a b d : Bool} → fault n ≡ f → instants_fit xs ≡ a → limit_fits k ≡ b → table_fits n.places (length xs) table ≡ d
+      → call_fault n xs k table ≡ tested f a b d
+  fault_by e f g h = λ i. tested (e i) (f i) (g i) (h i)
 
-  abbrev testing : Option ℕ → A
-  testing none = answer (length (readable n).places) (instants_fit xs) (limit_fits k) (table_fits (length (readable n).places) (length xs) table)
-  testing (some c) = down c
+  -- what is known of a call that meets none
+  pub record Passed : Type 0 where
+    pub sound : fault n ≡ none
+    pub instants : instants_fit xs ≡ true
+    pub limits : limit_fits k ≡ true
+    pub room : n.places * length xs ≤ length table
 
-  module _ {call : A} (is : call ≡ testing (fault n)) where
-    answered : fault n ≡ none → {a b c : Bool} → instants_fit xs ≡ a → limit_fits k ≡ b → table_fits n.places (length xs) table ≡ c
-        → call ≡ answer n.places a b c
-    answered e f l t =
-        is
-        ∙ ap testing e
-        ∙ ap (λ (p : ℕ). answer p (instants_fit xs) (limit_fits k) (table_fits p (length xs) table)) (places_length n)
-        ∙ (λ i. answer n.places (f i) (l i) (t i))
+  pub passed : none ≡ call_fault n xs k table → Passed
+  passed e = go (fault n) (instants_fit xs) (limit_fits k) (table_fits n.places (length xs) table) refl refl refl refl (sym e)
+    where
+      go : (f : Option ℕ) (a b d : Bool) → fault n ≡ f → instants_fit xs ≡ a → limit_fits k ≡ b → table_fits n.places (length xs) table ≡ d
+          → tested f a b d ≡ none → Passed
+      go none true true true x y z v q = record { sound = x; instants = y; limits = z; room = leb-true _ _ v }
+      go none true true false x y z v q = no_some q
+      go none true false d x y z v q = no_some q
+      go none false b d x y z v q = no_some q
+      go (some c) a b d x y z v q = no_some q
 
-    tests_of : Tested down run n xs k table call
-    tests_of =
-        record {
-          by_net = λ e. is ∙ ap testing e;
-          by_instants = λ e f. answered e f refl refl;
-          by_limit = λ e f l. answered e f l refl;
-          by_table = λ e f l h. answered e f l (lt-leb (n.places * length xs) (length table) h);
-          by_run = λ e f l h. answered e f l (le-leb (n.places * length xs) (length table) h);
-        }
+-- ---- the call, by the first test that it meets
 
--- a path call
+module _ (n : NetRecord) (g : Generator) (xs : List Float) (k : ℕ) (table : List Float) where
+  abbrev run : ℕ → Call
+  run places = played places (length xs) g table (worked (readable n) g xs k)
 
-abbrev pub path_run : NetRecord → Generator → List Float → ℕ → List Float → ℕ → Call
-path_run n g xs k table places = played places (length xs) g table (worked (readable n) g xs k)
+  abbrev answer : Option ℕ → Bool → Bool → ℕ → Bool → Call
+  answer f a b places d =
+      unless_fault f g table
+      (pick a (pick b (pick d (run places) (turned_down Refusal.short_table g table)) (turned_down Refusal.bad_limit g table)) (turned_down Refusal.bad_instants g table))
 
-pub called_tests : (n : NetRecord) (g : Generator) (xs : List Float) (k : ℕ) (table : List Float)
-    → Tested (λ (c : ℕ). turned_down c g table) (path_run n g xs k table) n xs k table (called n g xs k table)
-unfolding called
-called_tests n g xs k table = tests_of _ _ n xs k table (go (fault n))
-  where
-    go : (f : Option ℕ) → unless_fault f g table (after_net (readable n) g xs k table)
-        ≡ testing (λ (c : ℕ). turned_down c g table) (path_run n g xs k table) n xs k table f
-    go none = refl
-    go (some c) = refl
+  pub called_by : {o : Option ℕ} → o ≡ call_fault n xs k table → unless_fault o g table (run n.places) ≡ called n g xs k table
+  unfolding called
+  called_by e =
+      ap (λ (o : Option ℕ). unless_fault o g table (run n.places)) e
+      ∙ sym (go (fault n) (instants_fit xs) (limit_fits k) (table_fits n.places (length xs) table))
+      ∙ sym (ap (λ (p : ℕ). answer (fault n) (instants_fit xs) (limit_fits k) p (table_fits p (length xs) table)) (places_length n))
+    where
+      go : (f : Option ℕ) (a b d : Bool) → answer f a b n.places d ≡ unless_fault (tested n xs k table f a b d) g table (run n.places)
+      go none true true true = refl
+      go none true true false = refl
+      go none true false d = refl
+      go none false b d = refl
+      go (some c) a b d = refl
 
 -- one that names a number of steps
+module _ (n : NetRecord) (g : Generator) (xs : List Float) (limit named : ℕ) (table : List Float) where
+  abbrev nothing : Naming.Standing
+  nothing = unbegun n.places g
 
-abbrev pub naming_run : NetRecord → Generator → List Float → (limit named : ℕ) → List Float → ℕ → Naming.Call
-naming_run n g xs limit named table places =
-    Naming.played places (length xs) 0 (unbegun n.places g) table (play_on 256 (readable n) (begun (readable n) g xs limit) named)
+  abbrev naming_run : ℕ → Naming.Call
+  naming_run places = Naming.played places (length xs) 0 nothing table (play_on 256 (readable n) (begun (readable n) g xs limit) named)
 
-pub naming_tests : (n : NetRecord) (g : Generator) (xs : List Float) (limit named : ℕ) (table : List Float)
-    → Tested (λ (c : ℕ). Naming.turned_down c (unbegun n.places g) table) (naming_run n g xs limit named table) n xs limit table
-    (naming n g xs limit named table)
-unfolding naming
-naming_tests n g xs limit named table = tests_of _ _ n xs limit table (go (fault n))
-  where
-    go : (f : Option ℕ) → Naming.unless_fault f (unbegun n.places g) table (naming_after_net n.places (readable n) g xs limit named table)
-        ≡ testing (λ (c : ℕ). Naming.turned_down c (unbegun n.places g) table) (naming_run n g xs limit named table) n xs limit table f
-    go none = refl
-    go (some c) = refl
+  abbrev naming_answer : Option ℕ → Bool → Bool → ℕ → Bool → Naming.Call
+  naming_answer f a b places d =
+      Naming.unless_fault f nothing table
+      (pick a
+      (pick b (pick d (naming_run places) (Naming.turned_down Refusal.short_table nothing table)) (Naming.turned_down Refusal.bad_limit nothing table))
+      (Naming.turned_down Refusal.bad_instants nothing table))
+
+  pub naming_by : {o : Option ℕ} → o ≡ call_fault n xs limit table → Naming.unless_fault o nothing table (naming_run n.places) ≡ naming n g xs limit named table
+  unfolding naming
+  naming_by e =
+      ap (λ (o : Option ℕ). Naming.unless_fault o nothing table (naming_run n.places)) e
+      ∙ sym (go (fault n) (instants_fit xs) (limit_fits limit) (table_fits n.places (length xs) table))
+      ∙ sym (ap (λ (p : ℕ). naming_answer (fault n) (instants_fit xs) (limit_fits limit) p (table_fits p (length xs) table)) (places_length n))
+    where
+      go : (f : Option ℕ) (a b d : Bool) → naming_answer f a b n.places d ≡ Naming.unless_fault (tested n xs limit table f a b d) nothing table (naming_run n.places)
+      go none true true true = refl
+      go none true true false = refl
+      go none true false d = refl
+      go none false b d = refl
+      go (some c) a b d = refl

@@ -10,6 +10,7 @@ use mathlib.Core.Logic.{◌≢◌, ⊎_elim}
 use native.Mathlib.Omega.{arith}
 use lib.ListN.{length, drop, length-append, length-drop}
 use lib.Ieee.{Float}
+use Rattle.refusals.specs.Number.{number_of}
 use Rattle.net.specs.Net.{Net, Marking, zero64}
 use Rattle.rng.specs.State.{State as Generator, words}
 use Rattle.rules.specs.Moves.{initial_counts}
@@ -118,7 +119,7 @@ module _ (n : Net) (g : Generator) (xs : List Float) (k places next most : ℕ) 
     pub path_answered : (end : PathEnd) → PlayedBy to_come places xs next t₁ t₂ left w end
         → answer_of w (length xs) g t₂ end ≡ played places (length xs) g t₀ (worked n g xs k)
     path_answered end (refuses c p z) =
-        ap (λ (t : List Float). record { end = refused c; steps = 0; settled = 0; peak = 0; rounded = 0; generator = g; table = t })
+        ap (λ (t : List Float). record { end = refused (number_of c); steps = 0; settled = 0; peak = 0; rounded = 0; generator = g; table = t })
         (z ∙ cleared_stay (places * length xs) t₀ t₁ v.cells.long v.cells.further)
         ∙ sym (ap (played places (length xs) g t₀) (whole_path ∙ ap in_front_lem p))
     path_answered end (ends _ e sh p count inside z h) =

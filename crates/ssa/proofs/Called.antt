@@ -92,7 +92,7 @@ module _ (old new : NetRecord) (ps : List Pair) (s : Standing) (xs t : List Floa
   abbrev answered : Option ℕ → Option ℕ → Option ℕ → ℕ → Answer Onward → Call
   answered a b f places r = unless_fault a s t (unless_fault b s t (unless_fault f s t (played places (length xs) s.recorded s t r)))
 
-  carrying_is : (h : ℕ) → carrying old new ps s xs h t
+  pub carrying_is : (h : ℕ) → carrying old new ps s xs h t
       ≡ answered (fault old) (fault new) (fault_over old.places) old.places (played_over old.places h)
   unfolding carrying
   carrying_is h = ap (λ (p : ℕ). answered (fault old) (fault new) (fault_over p) p (played_over p h)) (places_length old)

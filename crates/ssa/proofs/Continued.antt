@@ -11,6 +11,8 @@ use lib.Dec.{ltb}
 use lib.ListN.{length, drop}
 use lib.Ieee.{Float}
 use borrow.Author.Tests.{eqb-true, not-false}
+use Rattle.refusals.specs.Number.{number_of}
+use Rattle.refusals.specs.declared.Refusal.{Refusal}
 use Rattle.net.specs.declared.Net.{Net as NetRecord}
 use Rattle.net.specs.Net.{Net}
 use Rattle.net.specs.Readable.{readable, fault}
@@ -22,7 +24,7 @@ use Rattle.rules.specs.Run.{End, Run, Outcome, outcome, run_within, entries, ste
 use Rattle.rules.specs.Shown.{last_of}
 use Rattle.rules.specs.Carried.{Carried, play_on}
 use Rattle.rules.specs.Change.{Pair, carried_tests, renaming_tests, renamed}
-use Rattle.rules.proofs.TakesOnce.{none_applies}
+use Rattle.rules.proofs.TakesOnce.{none_applies, neither_fault}
 use Rattle.rules.proofs.Runs.{steps_most, rounded_most}
 use Rattle.rules.proofs.Play.{Played, told, told_run, higher, play_within, as_played, Rises}
 use Rattle.rules.proofs.PlayedOn.{steps_for}
@@ -36,8 +38,9 @@ use Rattle.playing.specs.declared.run.Walked.{Walked}
 use Rattle.ssa.specs.Path.{end_of, table_fits}
 use Rattle.playing.specs.Playing.{out_of, PlayedBy, refuses, ends}
 use Rattle.ssa.specs.Told.{settled_at}
-use Rattle.ssa.specs.Halted.{Standing, Call, standing_of, carried_from, turned_down, played, unless_fault, after_nets, carrying, call_of}
+use Rattle.ssa.specs.Halted.{Standing, Call, standing_of, carried_from, turned_down, played, unless_fault, carrying_fault, carrying, call_of}
 use Rattle.ssa.proofs.Answered.{NotRefused}
+use Rattle.ssa.proofs.Called.{carrying_is}
 use Rattle.ssa.proofs.Resumed.{told_on, refused_on, played_to}
 
 -- ---- no more steps than were left, and of these no more are rounded
@@ -86,7 +89,7 @@ module _ (n : Net) (places : ℕ) (ps : List Pair) (h : Halted) (xs t : List Flo
     rise' : Rises (drop (length moved.recorded) xs)
     rise' = subst (λ (k : ℕ). Rises (drop k xs)) (sym long) rise
 
-    pub continued_refused : {k : ℕ} → end ≡ Refused k → turned_down k (standing_of places h) t' ≡ answer
+    pub continued_refused : {k : Refusal} → end ≡ Refused k → turned_down (number_of k) (standing_of places h) t' ≡ answer
     continued_refused e = sym (refused_on n moved named rise' b m (sym long) refl same (standing_of places h) e run)
 
     pub continued_to : NotRefused end → (r : OnwardAnswer) → r.end ≡ end → r.settled ≡ settled_at end w.next (length xs)
@@ -107,49 +110,36 @@ module _ (n : Net) (places : ℕ) (ps : List Pair) (h : Halted) (xs t : List Flo
 
 -- ---- the call
 
+-- Its answer by the first test that it meets.
 module _ (old new : NetRecord) (ps : List Pair) (s : Standing) (xs : List Float) (named : ℕ) (table : List Float) where
-  pub by_old : {k : ℕ} → fault old ≡ some k → turned_down k s table ≡ carrying old new ps s xs named table
-  unfolding carrying
-  by_old e =
-      sym (ap (λ (f : Option ℕ). unless_fault f s table (unless_fault (fault new) s table (after_nets (readable old) (readable new) ps s xs named table))) e)
+  abbrev run : Call
+  run = played old.places (length xs) s.recorded s table (play_on 256 (readable new) (renamed ps (carried_from old.places s xs table)) named)
 
-  module _ (e : fault old ≡ none) where
-    past_old : unless_fault (fault new) s table (after_nets (readable old) (readable new) ps s xs named table) ≡ carrying old new ps s xs named table
-    unfolding carrying
-    past_old =
-        sym (ap (λ (f : Option ℕ). unless_fault f s table (unless_fault (fault new) s table (after_nets (readable old) (readable new) ps s xs named table))) e)
+  pub carrying_by : {o : Option ℕ} → o ≡ carrying_fault old.places old new ps s xs table → unless_fault o s table run ≡ carrying old new ps s xs named table
+  carrying_by e =
+      ap (λ (o : Option ℕ). unless_fault o s table run) e
+      ∙ go (fault old) (fault new) _
+      ∙ sym (carrying_is old new ps s xs table named)
+    where
+      go : (a b f : Option ℕ) → unless_fault (or_else a (or_else b f)) s table run ≡ unless_fault a s table (unless_fault b s table (unless_fault f s table run))
+      go none none f = refl
+      go none (some k) f = refl
+      go (some k) b f = refl
 
-    pub by_new : {k : ℕ} → fault new ≡ some k → turned_down k s table ≡ carrying old new ps s xs named table
-    by_new d = sym (ap (λ (f : Option ℕ). unless_fault f s table (after_nets (readable old) (readable new) ps s xs named table)) d) ∙ past_old
+-- What is known of a call that meets none of its tests.
+pub record Passing (places : ℕ) (old new : NetRecord) (ps : List Pair) (s : Standing) (xs table : List Float) : Type 0 where
+  pub old_sound : fault old ≡ none
+  pub new_sound : fault new ≡ none
+  pub state : first_of (carried_tests 256 (not (table_fits places (length xs) table)) (record_strange places (length xs) s.recorded table) (carried_from places s xs table)) ≡ none
+  pub list : first_of (renaming_tests (readable old) (readable new) (carried_from places s xs table) ps) ≡ none
 
-    module _ (d : fault new ≡ none) where
-      abbrev tests : ℕ → Option ℕ
-      tests p = first_of (carried_tests 256 (not (table_fits p (length xs) table)) (record_strange p (length xs) s.recorded table) (carried_from p s xs table))
-
-      abbrev on_list : ℕ → Option ℕ
-      on_list p = first_of (renaming_tests (readable old) (readable new) (carried_from p s xs table) ps)
-
-      abbrev run : ℕ → Call
-      run p = played p (length xs) s.recorded s table (play_on 256 (readable new) (renamed ps (carried_from p s xs table)) named)
-
-      past_new : unless_fault (or_else (tests old.places) (on_list old.places)) s table (run old.places) ≡ carrying old new ps s xs named table
-      past_new =
-          ap (λ (p : ℕ). unless_fault (or_else (tests p) (on_list p)) s table (run p)) (sym (places_length old))
-          ∙ sym (ap (λ (f : Option ℕ). unless_fault f s table (after_nets (readable old) (readable new) ps s xs named table)) d)
-          ∙ past_old
-
-      pub by_state : {k : ℕ} → tests old.places ≡ some k → turned_down k s table ≡ carrying old new ps s xs named table
-      by_state f = sym (ap (λ (o : Option ℕ). unless_fault (or_else o (on_list old.places)) s table (run old.places)) f) ∙ past_new
-
-      module _ (f : tests old.places ≡ none) where
-        past_state : unless_fault (on_list old.places) s table (run old.places) ≡ carrying old new ps s xs named table
-        past_state = sym (ap (λ (o : Option ℕ). unless_fault (or_else o (on_list old.places)) s table (run old.places)) f) ∙ past_new
-
-        pub by_list : {k : ℕ} → on_list old.places ≡ some k → turned_down k s table ≡ carrying old new ps s xs named table
-        by_list g = sym (ap (λ (o : Option ℕ). unless_fault o s table (run old.places)) g) ∙ past_state
-
-        pub by_run : on_list old.places ≡ none → run old.places ≡ carrying old new ps s xs named table
-        by_run g = sym (ap (λ (o : Option ℕ). unless_fault o s table (run old.places)) g) ∙ past_state
+pub passing_all : (places : ℕ) (old new : NetRecord) (ps : List Pair) (s : Standing) (xs table : List Float) → none ≡ carrying_fault places old new ps s xs table
+    → Passing places old new ps s xs table
+passing_all places old new ps s xs table e =
+    let outer = neither_fault (fault old) _ (sym e) in
+    let inner = neither_fault (fault new) _ outer.1 in
+    let last = neither_fault _ _ inner.1 in
+    record { old_sound = outer.0; new_sound = inner.0; state = last.0; list = last.1 }
 
 -- nets of as many places
 pub same_places : (old new : NetRecord) (c : Carried) (ps : List Pair) → first_of (renaming_tests (readable old) (readable new) c ps) ≡ none

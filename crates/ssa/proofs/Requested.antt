@@ -2,22 +2,22 @@
 -- first cells of the table that is filled for it are that grid. Each answer of the call is the definition's by the tests that led to it.
 -- Assumes nothing.
 use Prim.Native.Nat.{ℕ, zero, suc, ◌*◌, ◌≤◌}
-use mathlib.Core.Path.{◌≡◌, refl, ap, ◌∙◌}
+use mathlib.Core.Path.{◌≡◌, refl, sym, ap, ◌∙◌}
 use mathlib.Core.Bool.{true}
 use mathlib.Core.List.{List}
-use mathlib.Core.Option.{Option}
+use mathlib.Core.Option.{Option, none}
 use native.Mathlib.Omega.{arith}
 use lib.ListN.{length, take}
 use lib.Ieee.{Float}
 use Rattle.net.specs.declared.Net.{Net as NetRecord}
 use Rattle.net.specs.Net.{Net}
-use Rattle.net.specs.Tests.{or_else}
 use Rattle.net.specs.Readable.{readable, fault}
 use Rattle.rules.specs.Shown.{instants_fit}
+use Rattle.rules.proofs.TakesOnce.{neither_fault}
 use Rattle.averages.specs.Front.{by_number}
 use Rattle.averages.specs.Request.{Request, request_fault, tables_fault, interval, instant, instants_from, grid}
 use Rattle.averages.specs.Members.{unless_refused, paths_from}
-use Rattle.averages.specs.Tables.{Tables}
+use Rattle.averages.specs.Tables.{Tables, call_fault}
 use Rattle.averages.proofs.Fronts.{by_number_length}
 use Rattle.averages.proofs.Grid.{take_instants, grid_length, grid_fits}
 use Rattle.averages.proofs.Passes.{Passing}
@@ -63,9 +63,16 @@ same_ensemble r n q t e f h =
 
 -- ---- the call
 
-pub by_tests : (n : NetRecord) (q : Request) (t : Tables) {a b c : Option ℕ} → fault n ≡ a → request_fault q ≡ b
-    → tables_fault (n.places * q.samples) (length t.mean) (length t.deviation) (length t.path) ≡ c
-    → called n q t ≡ unless_fault (or_else a (or_else b c)) t (tabulated n.places q.samples t (members_from (readable n) q 0 q.realizations))
-unfolding called
-by_tests n q t e f g =
-    λ i. unless_fault (or_else (e i) (or_else (f i) (g i))) t (tabulated n.places q.samples t (members_from (readable n) q 0 q.realizations))
+module _ (n : NetRecord) (q : Request) (t : Tables) where
+  -- by the first test that it meets
+  pub called_by : {o : Option ℕ} → o ≡ call_fault n q t → unless_fault o t (tabulated n.places q.samples t (members_from (readable n) q 0 q.realizations)) ≡ called n q t
+  unfolding called
+  called_by e = ap (λ (o : Option ℕ). unless_fault o t (tabulated n.places q.samples t (members_from (readable n) q 0 q.realizations))) e
+
+  -- what is known where it meets none
+  pub passed : none ≡ call_fault n q t
+      → (fault n ≡ none) × (request_fault q ≡ none) × (tables_fault (n.places * q.samples) (length t.mean) (length t.deviation) (length t.path) ≡ none)
+  passed e =
+      let outer = neither_fault (fault n) _ (sym e) in
+      let inner = neither_fault (request_fault q) _ outer.1 in
+      (outer.0, inner.0, inner.1)

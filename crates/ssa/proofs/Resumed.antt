@@ -10,6 +10,8 @@ use lib.Dec.{ltb}
 use lib.ListN.{length, take, drop, length-append, length-take, length-drop, length-map}
 use lib.Seq.{take_at, drop-append_seam}
 use lib.Ieee.{Float, le}
+use Rattle.refusals.specs.Number.{number_of}
+use Rattle.refusals.specs.declared.Refusal.{Refusal}
 use Rattle.net.specs.Net.{Net, Marking, pick, zero64}
 use Rattle.rng.specs.State.{State as Generator}
 use Rattle.rules.specs.Moves.{reading, initial_counts}
@@ -173,13 +175,13 @@ module _ (n : Net) (c : Carried) (named : ℕ) (rise : Rises (unrecorded c)) {ha
         })
 
   -- refused on the way: the cells of the answer are cleared, and this state is given back
-  pub refused_on : {places : ℕ} {t t' : List Float} {left : State} {w : Walked} {end : PathEnd} {k : ℕ} (back : Standing) → end ≡ Refused k
+  pub refused_on : {places : ℕ} {t t' : List Float} {left : State} {w : Walked} {end : PathEnd} {k : Refusal} (back : Standing) → end ≡ Refused k
       → PlayedBy (ahead n c.instants halts steps next peak s) places c.instants next t t' left w end
-      → played places (length c.instants) next back t (play_on 256 n c named) ≡ turned_down k back t'
+      → played places (length c.instants) next back t (play_on 256 n c named) ≡ turned_down (number_of k) back t'
   refused_on {places} {t} {k = k} back r (refuses d p q) =
       let z : d ≡ k = cc in
       ap (played places (length c.instants) next back t) (on ∙ ap (onward_from c) p)
-      ∙ ap₂ (λ (j : ℕ) (l : List Float). turned_down j back l) z (sym q)
+      ∙ ap₂ (λ (j : Refusal) (l : List Float). turned_down (number_of j) back l) z (sym q)
   refused_on back r (ends end e sh a b i x p) = let z : ◌≡◌ {A = ℕ} 0 1 = cc (ap end_of r) in absurd (omega arith)
 
   -- any other end
@@ -282,9 +284,9 @@ module _ (places : ℕ) (n : Net) (g : Generator) (xs : List Float) (limit named
       in_front_lem places n (begun n g xs limit) named back t room begun_short
       ∙ (λ i. played places (length xs) (sym begun_next i) back (sym begun_table i) (play_on 256 n (begun n g xs limit) named))
 
-  pub refused_first : {t' : List Float} {left : State} {w : Walked} {end : PathEnd} {d : ℕ} (back : Standing) → end ≡ Refused d
+  pub refused_first : {t' : List Float} {left : State} {w : Walked} {end : PathEnd} {d : Refusal} (back : Standing) → end ≡ Refused d
       → PlayedBy (ahead n xs halts steps next peak s) places xs next t₁ t' left w end
-      → played places (length xs) 0 back t (play_on 256 n (begun n g xs limit) named) ≡ turned_down d back t'
+      → played places (length xs) 0 back t (play_on 256 n (begun n g xs limit) named) ≡ turned_down (number_of d) back t'
   refused_first back r p =
       from_first back ∙ refused_on n (begun n g xs limit) named (begun_rises n g xs limit rise) so_halts so_many begun_next most now back r p
 

@@ -12,6 +12,9 @@ use lib.Dec.{eqb}
 use lib.ListN.{length, drop, replicate, length-append, length-drop, length-map, length-replicate}
 use lib.Seq.{drop_at}
 use lib.Ieee.{Float}
+use Rattle.std.proofs.Common.{Result, Ok, Err}
+use Rattle.refusals.specs.Number.{number_of}
+use Rattle.refusals.specs.declared.Refusal.{Refusal}
 use Rattle.net.specs.Net.{Net, Marking, pick, zero64}
 use Rattle.rng.specs.State.{State as Generator}
 use Rattle.rng.specs.Splitmix.{seeded}
@@ -31,8 +34,6 @@ use Rattle.ssa.specs.declared.EnsembleAnswer.TheVariants.{Averaged, Stopped}
 use Rattle.playing.specs.declared.PathEnd.{PathEnd}
 use Rattle.playing.specs.declared.PathEnd.TheVariants.{Quiet, Spent, Reached, Halted, Refused}
 use Rattle.ssa.specs.declared.PathAnswer.{PathAnswer}
-use Rattle.ssa.specs.declared.members.Turn.{Turn}
-use Rattle.ssa.specs.declared.members.Summed.{Summed}
 use Rattle.playing.specs.Cells.{rows_from, table_of, cleared}
 use Rattle.ssa.specs.Path as Path
 use Rattle.ssa.specs.Path.{end_of, call_of, played}
@@ -155,20 +156,20 @@ one_by_spent_lem (Refused c) = omega arith
 
 -- A path's answer r, and what is done with it.
 module _ (places n many : ℕ) (g : Generator) (mean mean' deviation deviation' path path' : List Float) (r : PathAnswer) where
-  pub turn_stops : (c : ℕ) (w : Answer Path) → call_of r path' ≡ played places n g path w → r.end ≡ Refused c
-      → mean' ≡ mean → deviation' ≡ deviation → TurnBy w places n many mean mean' deviation deviation' path path' (Turn.Stopped c)
+  pub turn_stops : (c : Refusal) (w : Answer Path) → call_of r path' ≡ played places n g path w → r.end ≡ Refused c
+      → mean' ≡ mean → deviation' ≡ deviation → TurnBy w places n many mean mean' deviation deviation' path path' (Err c)
   turn_stops c (refused d) e f m s =
-      let i : refused c ≡ refused d = sym (ap end_of f) ∙ ap (λ (x : Path.Call). x.end) e in
-      let b : d ≡ c = cc in
+      let i : refused (number_of c) ≡ refused d = sym (ap end_of f) ∙ ap (λ (x : Path.Call). x.end) e in
+      let b : d ≡ number_of c = cc in
       Summing.stops c (ap refused b) m s (ap (λ (x : Path.Call). x.table) e)
   turn_stops c (given a) e f m s =
-      let i : refused c ≡ given a.end = sym (ap end_of f) ∙ ap (λ (x : Path.Call). x.end) e in
+      let i : refused (number_of c) ≡ given a.end = sym (ap end_of f) ∙ ap (λ (x : Path.Call). x.end) e in
       let z : ◌≡◌ {A = ℕ} 0 1 = cc in
       absurd (omega arith)
 
   pub turn_goes : (one s : ℕ) (w : Answer Path) → call_of r path' ≡ played places n g path w → NotRefused r.end → one ≡ one_by_spent r.end
       → s ≡ many + one → mean' ≡ with_front plus (places * n) path' mean → deviation' ≡ with_front plus_square (places * n) path' deviation
-      → TurnBy w places n many mean mean' deviation deviation' path path' (Turn.Went s)
+      → TurnBy w places n many mean mean' deviation deviation' path path' (Ok s)
   turn_goes one s (refused d) e nr o q m v = absurd (none r.end nr (ap (λ (x : Path.Call). x.end) e))
     where
       none : (end : PathEnd) → NotRefused end → end_of end ≡ refused d → ⊥
@@ -242,7 +243,7 @@ module _ (w : ℕ → Answer Path) (places n r : ℕ) (mean deviation path : Lis
 
     -- path k is added
     pub one_added : (many' : ℕ) (mean'' deviation'' path'' : List Float) → places * n ≤ length path → ((a : Path) → w k ≡ given a → length a.shown ≡ n)
-        → (t : Turn) → t ≡ Turn.Went many' → TurnBy (w k) places n many mean' mean'' deviation' deviation'' path' path'' t
+        → (t : Result ℕ Refusal) → t ≡ Ok many' → TurnBy (w k) places n many mean' mean'' deviation' deviation'' path' path'' t
         → SumsAt w places n r (k + 1) many' mean mean'' deviation deviation'' path path''
     one_added many' mean'' deviation'' path'' room long t q (Summing.stops c e m d p) =
         let z : ◌≡◌ {A = ℕ} 0 1 = cc in absurd (omega arith)
@@ -278,22 +279,22 @@ module _ (w : ℕ → Answer Path) (places n r : ℕ) (mean deviation path : Lis
             ∙ sym (ap (λ (l : List (List Float)). table_by (λ (c : ℕ). summed_up f c zero64 l) (places * n) base) (map-append (cells_of places) s.paths (a ∷ [])))
 
     -- path k is refused
-    pub one_refused : (c : ℕ) (mean'' deviation'' path'' : List Float)
-        → (t : Turn) → t ≡ Turn.Stopped c → TurnBy (w k) places n many mean' mean'' deviation' deviation'' path' path'' t
-        → SummedBy (paths_from w 0 r) places n r mean mean'' deviation deviation'' path path'' (Summed.Stopped c k)
+    pub one_refused : (c : Refusal) (mean'' deviation'' path'' : List Float)
+        → (t : Result ℕ Refusal) → t ≡ Err c → TurnBy (w k) places n many mean' mean'' deviation' deviation'' path' path'' t
+        → SummedBy (paths_from w 0 r) places n r mean mean'' deviation deviation'' path path'' (Err (c, k))
     one_refused c mean'' deviation'' path'' t q (Summing.goes a u e number sum squares last) =
         let z : ◌≡◌ {A = ℕ} 0 1 = cc in absurd (omega arith)
     one_refused c mean'' deviation'' path'' t q (Summing.stops b e m d p) =
         let cells = places * n in
         let same : b ≡ c = cc in
         Summing.stops c k
-        (sym (turned (refused c) (e ∙ ap refused same)) ∙ with_refused s.paths c k)
+        (sym (turned (refused (number_of c)) (e ∙ ap (λ (x : Refusal). refused (number_of x)) same)) ∙ with_refused s.paths (number_of c) k)
         (ap (drop cells) (m ∙ s.sums.sum) ∙ by_further (sum_at plus places s.paths) cells mean)
         (ap (drop cells) (d ∙ s.sums.squares) ∙ by_further (sum_at plus_square places s.paths) cells deviation)
         (p ∙ cleared_alike cells path path' s.sums.further)
 
   pub all_added : (k many : ℕ) (mean' deviation' path' : List Float) → SumsAt w places n r k many mean mean' deviation deviation' path path' → r ≤ k
-      → SummedBy (paths_from w 0 r) places n r mean mean' deviation deviation' path path' (Summed.Done many)
+      → SummedBy (paths_from w 0 r) places n r mean mean' deviation deviation' path path' (Ok many)
   all_added k many mean' deviation' path' s h =
       let z : r - k ≡ 0 = omega arith in
       let e : k ≡ r = omega (arith, s.within) in
@@ -325,14 +326,13 @@ module _ (whole : Members Path) (places n r : ℕ) (mean deviation path : List F
   deviation_further : drop cells deviation₁ ≡ drop cells deviation
   deviation_further = ap (drop cells) d₁ ∙ cleared_further cells deviation
 
-  pub stopped_call : (c k : ℕ) (mean₃ deviation₃ : List Float) (x : Summed) → x ≡ Summed.Stopped c k
+  pub stopped_call : (c : Refusal) (k : ℕ) (mean₃ deviation₃ : List Float) (x : Result ℕ (Refusal × ℕ)) → x ≡ Err (c, k)
       → SummedBy whole places n r mean₁ mean₂ deviation₁ deviation₂ path path₂ x → mean₃ ≡ cleared cells mean₂ → deviation₃ ≡ cleared cells deviation₂
       → Ensemble.call_of (Stopped c k) mean₃ deviation₃ path₂ ≡ tabulated places n lent whole
   stopped_call c k mean₃ deviation₃ x e (Summing.done ps s w l q f) m d = let z : ◌≡◌ {A = ℕ} 0 1 = cc in absurd (omega arith)
   stopped_call c k mean₃ deviation₃ x e (Summing.stops b j w f g p) m d =
-      let u : c ≡ b = cc in
-      let v : k ≡ j = cc in
-      same_call (λ i. Ensemble.stopped (u i) (v i))
+      let u : ◌≡◌ {A = Refusal × ℕ} (c, k) (b, j) = cc in
+      same_call (λ i. Ensemble.stopped (number_of (u i).0) (u i).1)
       (m ∙ cleared_alike cells mean mean₂ (f ∙ mean_further))
       (d ∙ cleared_alike cells deviation deviation₂ (g ∙ deviation_further))
       p
@@ -363,7 +363,7 @@ module _ (whole : Members Path) (places n r : ℕ) (mean deviation path : List F
           ∙ ap (with_front (deviation_of (float r)) cells (table_by (mean_at each) cells mean)) s
           ∙ Sums.deviations_made (float r) each (ap float (sym number)) cells (λ h. eqb-false r 1 e (sym number ∙ h)) mean deviation
 
-  pub finished_call : (s : ℕ) (deviates : Bool) (mean₃ deviation₃ : List Float) (x : Summed) → x ≡ Summed.Done s → cells ≤ length deviation
+  pub finished_call : (s : ℕ) (deviates : Bool) (mean₃ deviation₃ : List Float) (x : Result ℕ (Refusal × ℕ)) → x ≡ Ok s → cells ≤ length deviation
       → SummedBy whole places n r mean₁ mean₂ deviation₁ deviation₂ path path₂ x → deviates ≡ not (eqb r 1)
       → mean₃ ≡ on_front (mean_of (float r)) cells mean₂
       → deviation₃ ≡ pick (eqb r 1) (cleared cells deviation₂) (with_front (deviation_of (float r)) cells mean₃ deviation₂)

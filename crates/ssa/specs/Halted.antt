@@ -6,7 +6,7 @@ use Rattle.refusals.specs as Refusal
 use Rattle.net.specs.declared.Net.{Net as NetRecord}
 use Rattle.net.specs.Net.{Net, pick, zero64}
 use Rattle.net.specs.Readable.{readable, fault}
-use Rattle.net.specs.Tests.{first_of}
+use Rattle.net.specs.Tests.{first_of, or_else}
 use Rattle.rng.specs.State.{State as Generator, words}
 use Rattle.rules.specs.Step.{State, state, Answer, refused, given}
 use Rattle.rules.specs.Run.{End}
@@ -127,6 +127,14 @@ after_nets old new ps s xs named table =
     let strange = record_strange places (length xs) s.recorded table in
     let answer = played places (length xs) s.recorded s table (play_on 256 new (renamed ps c) named) in
     unless_fault (carry_fault 256 old new short strange c ps) s table answer
+
+-- the first test that a call meets, over so many places
+abbrev pub carrying_fault : ℕ → NetRecord → NetRecord → List Pair → Standing → List Float → List Float → Option ℕ
+carrying_fault places old new ps s xs table =
+    let c = carried_from places s xs table in
+    let short = not (table_fits places (length xs) table) in
+    let strange = record_strange places (length xs) s.recorded table in
+    or_else (fault old) (or_else (fault new) (carry_fault 256 (readable old) (readable new) short strange c ps))
 
 -- "after the old net and then the new one"
 unfoldable pub carrying : NetRecord → NetRecord → List Pair → Standing → List Float → ℕ → List Float → Call

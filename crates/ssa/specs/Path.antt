@@ -5,6 +5,7 @@ use Rattle.refusals.specs as Refusal
 use Rattle.net.specs.declared.Net.{Net as NetRecord}
 use Rattle.net.specs.Net.{Net, pick}
 use Rattle.net.specs.Readable.{readable, fault}
+use Rattle.net.specs.Tests.{or_else}
 use Rattle.rng.specs.State.{State as Generator, words}
 use Rattle.playing.specs.Cells.{table_of, cleared}
 use Rattle.rules.specs.Step.{Answer, refused, given}
@@ -38,6 +39,16 @@ played places n g table (given a) =
 -- "11 table too short"
 abbrev pub table_fits : ℕ → ℕ → List Float → Bool
 table_fits places n table = leb (places * n) (length table)
+
+-- the first test that a call meets
+abbrev pub call_fault : NetRecord → List Float → ℕ → List Float → Option ℕ
+call_fault n xs k table =
+    or_else (fault n)
+    (pick (instants_fit xs)
+    (pick (limit_fits k)
+    (pick (table_fits n.places (length xs) table) none (some Refusal.short_table))
+    (some Refusal.bad_limit))
+    (some Refusal.bad_instants))
 
 -- "12 …; 13 …; 11 …; these touch nothing"
 abbrev pub after_net : Net → Generator → List Float → ℕ → List Float → Call

@@ -1,5 +1,5 @@
 -- What the loop over an ensemble's paths leaves, in the words of Ensemble. Nothing here adds to the rules.
-use Rattle.std.specs.Prelude.{ℕ, ◌+◌, ◌*◌, ◌^◌, ◌≤◌, ◌<◌, ◌≡◌, true, List, map, length, get_or, drop, Float}
+use Rattle.std.specs.Prelude.{ℕ, ◌+◌, ◌*◌, ◌^◌, ◌≤◌, ◌<◌, ◌≡◌, true, List, map, length, get_or, drop, Float, Result, Ok, Err}
 use Rattle.refusals.specs.Number.{number_of}
 use Rattle.refusals.specs.declared.Refusal.{Refusal as RefusalEnum}
 use Rattle.net.specs.declared.Net.{Net as NetRecord}
@@ -14,8 +14,6 @@ use Rattle.averages.specs.Members.{Members, refused_at, members}
 pub use Rattle.averages.specs.Members.{paths_from}
 use Rattle.playing.specs.declared.PathEnd.{PathEnd}
 use Rattle.playing.specs.declared.PathEnd.TheVariants.{Quiet, Spent, Reached, Halted, Refused}
-use Rattle.ssa.specs.declared.members.Turn.{Turn}
-use Rattle.ssa.specs.declared.members.Summed.{Summed}
 use Rattle.engine.specs.Engine.{Tidy}
 use Rattle.engine.specs.Limits.{Limits}
 use Rattle.playing.specs.Keeping.{Tables}
@@ -42,12 +40,12 @@ one_by_spent Halted = 0
 one_by_spent (Refused c) = 0
 
 -- the path w: refused, with its cells cleared and the sums as they were; or shown, and added to the sums, with s spent paths from then on
-pub data TurnBy (w : Answer Path) (places n spent : ℕ) (mean mean' deviation deviation' path path' : List Float) : Turn → Type 0 where
+pub data TurnBy (w : Answer Path) (places n spent : ℕ) (mean mean' deviation deviation' path path' : List Float) : Result ℕ RefusalEnum → Type 0 where
   stops : (c : RefusalEnum) → w ≡ refused (number_of c) → mean' ≡ mean → deviation' ≡ deviation → path' ≡ cleared (places * n) path
-      → TurnBy w places n spent mean mean' deviation deviation' path path' (Turn.Stopped c)
+      → TurnBy w places n spent mean mean' deviation deviation' path path' (Err c)
   goes : (a : Path) (s : ℕ) → w ≡ given a → s ≡ spent + one_if_spent a.end → mean' ≡ with_front plus (places * n) path' mean
       → deviation' ≡ with_front plus_square (places * n) path' deviation → path' ≡ table_of places a.shown path
-      → TurnBy w places n spent mean mean' deviation deviation' path path' (Turn.Went s)
+      → TurnBy w places n spent mean mean' deviation deviation' path path' (Ok s)
 
 -- the sum over the paths, cell by cell
 abbrev pub sum_at : (Float → Float → Float) → ℕ → List Path → ℕ → Float
@@ -61,8 +59,8 @@ pub record Sums (places n : ℕ) (ps : List Path) (mean mean' deviation deviatio
   pub further : drop (places * n) path' ≡ drop (places * n) path
 
 -- all r paths: one was refused, and only the answer's cells differ; or these were added
-pub data SummedBy (whole : Members Path) (places n r : ℕ) (mean mean' deviation deviation' path path' : List Float) : Summed → Type 0 where
+pub data SummedBy (whole : Members Path) (places n r : ℕ) (mean mean' deviation deviation' path path' : List Float) : Result ℕ (RefusalEnum × ℕ) → Type 0 where
   stops : (c : RefusalEnum) (k : ℕ) → whole ≡ refused_at (number_of c) k → drop (places * n) mean' ≡ drop (places * n) mean → drop (places * n) deviation' ≡ drop (places * n) deviation
-      → path' ≡ cleared (places * n) path → SummedBy whole places n r mean mean' deviation deviation' path path' (Summed.Stopped c k)
+      → path' ≡ cleared (places * n) path → SummedBy whole places n r mean mean' deviation deviation' path path' (Err (c, k))
   done : (ps : List Path) (s : ℕ) → whole ≡ members ps → length ps ≡ r → s ≡ spent_of ps → Sums places n ps mean mean' deviation deviation' path path'
-      → SummedBy whole places n r mean mean' deviation deviation' path path' (Summed.Done s)
+      → SummedBy whole places n r mean mean' deviation deviation' path path' (Ok s)

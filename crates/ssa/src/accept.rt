@@ -31,10 +31,7 @@ const MOST_TIME: f64 = 2147483648.0;
 fn instant_fits(low: f64, x: f64) -> bool
     ensures { result ≡ (le low x && le x (of_bits binary64 0x41E0_0000_0000_0000)) }
 {
-    if low <= x {
-        return x <= MOST_TIME;
-    }
-    false
+    low <= x && x <= MOST_TIME
 }
 
 // Do the instants pass 12: 1 to 1,024 of them, from 0 to 2^31, none below the one before it?
@@ -49,14 +46,12 @@ pub fn instants_fit(instants: &[f64]) -> bool
         return false;
     }
     let mut low = 0.0;
-    let mut i: usize = 0;
-    while i < n {
+    for i in 0..n {
         let x = instants[i];
         if !instant_fits(low, x) {
             return false;
         }
         low = x;
-        i += 1;
     }
     true
 }
@@ -65,10 +60,24 @@ pub fn instants_fit(instants: &[f64]) -> bool
 pub fn limit_fits(limit: u64) -> bool
     ensures { result ≡ Shown.limit_fits limit }
 {
-    if 1 <= limit {
-        return limit <= MOST_STEPS;
+    1 <= limit && limit <= MOST_STEPS
+}
+
+// The first test that a path's call meets: those of its net, then 12, 13 and 11.
+pub fn call_fault(net: &LentNet, instants: &[f64], limit: u64, table: &[f64]) -> Result<(), Refusal>
+    ensures { Record.meaning result ≡ Path.call_fault (net_of net.now) instants.now limit table.now }
+{
+    net::fields_fault(net)?;
+    if !instants_fit(instants) {
+        return Err(Refusal::BadInstants);
     }
-    false
+    if !limit_fits(limit) {
+        return Err(Refusal::BadLimit);
+    }
+    if table.len() < net.places * instants.len() {
+        return Err(Refusal::ShortTable);
+    }
+    Ok(())
 }
 
 // The answer of a call that is turned down by c.

@@ -9,19 +9,20 @@ ghost use Rattle.rules.specs.Propensity.{float};
 ghost use Rattle.averages.specs.Front as Front;
 ghost use Rattle.averages.specs.Moments as Moments;
 ghost use Rattle.averages.specs.Request as Request;
+ghost use Rattle.averages.specs.Tables as Tables;
 ghost use Rattle.engine.specs.Engine as Engine;
 ghost use Rattle.playing.specs.Cells as Cells;
 ghost use Rattle.ssa.specs.Ensemble as Ensemble;
 ghost use Rattle.ssa.specs.Path as Path;
 ghost use Rattle.ssa.specs.Summing as Summing;
 
-use crate::members::Summed;
 use crate::{EnsembleAnswer, members};
 use averages::{moments, request};
 use engine::slots;
 use kept::tables::Tables;
 use net::{LentNet, Net};
 use playing::{shown, tables};
+use refusals::Refusal;
 
 // The step limit of an ensemble's paths.
 const MOST_STEPS: u64 = 1_000_000;
@@ -66,7 +67,7 @@ fn averaged(
     let cells = net.places * instants.len();
     shown::clear(mean, cells);
     shown::clear(deviation, cells);
-    let s = members::sum_paths(
+    match members::sum_paths(
         net,
         tables,
         instants,
@@ -76,14 +77,13 @@ fn averaged(
         mean,
         deviation,
         path,
-    );
-    match s {
-        Summed::Stopped(c, k) => {
+    ) {
+        Err((c, k)) => {
             shown::clear(mean, cells);
             shown::clear(deviation, cells);
             EnsembleAnswer::Stopped(c, k)
         }
-        Summed::Done(spent) => {
+        Ok(spent) => {
             let deviates = finish(cells, realizations, mean, deviation);
             EnsembleAnswer::Averaged(spent, deviates)
         }
@@ -125,6 +125,26 @@ fn lent_ensemble(
         deviation,
         path,
     )
+}
+
+// The first test that an ensemble's call meets: those of its net, of its request, and of its tables.
+pub fn call_fault(
+    net: Net,
+    samples: u64,
+    realizations: u64,
+    seed: u64,
+    horizon: f64,
+    mean: &[f64],
+    deviation: &[f64],
+    path: &[f64],
+) -> Result<(), Refusal>
+    ensures { Record.meaning result ≡ Tables.call_fault net (record { samples = samples; realizations = realizations; seed = seed; horizon = horizon })
+        (record { mean = mean.now; deviation = deviation.now; path = path.now }) }
+{
+    net::test_net(net)?;
+    request::request_fault(samples, realizations, seed, horizon)?;
+    let cells = net.places * (samples as usize);
+    request::tables_fault(cells, mean.len(), deviation.len(), path.len())
 }
 
 // The ensemble of a call that no test turns down.

@@ -33,53 +33,46 @@ use timers::queue;
 use timers::queue::Queue;
 
 // The first of 4, 12, 13, 11 and, for the recorded cells, 4 that a carried path meets, over a net of so many places. No test looks at its generator, its peak or
-// the transitions of its timers; what is looked at is lent, since the path itself is 7 KB.
-pub fn state_fault<'a>(
+// the transitions of its timers. The path is lent, since it is 7 KB.
+pub fn state_fault(
     places: usize,
-    clock: f64,
-    counts: &'a [u64; 32],
-    steps: u64,
-    limit: u64,
-    rounded: u64,
-    recorded: usize,
-    ats: &'a [f64; 256],
-    takens: &'a [u64; 256],
-    len: usize,
+    path: &Halted,
     instants: &[f64],
     table: &[f64],
 ) -> Result<(), Refusal>
     requires { places ≤ 32 }
-    ensures { (whos : List ℕ) (g : Random.State) (peak : ℕ) → Record.meaning result
-        ≡ Tests.first_of (Change.carried_tests 256 (not (Path.table_fits places (length instants.now) table.now))
-        (Records.record_strange places (length instants.now) recorded table.now)
-        (Spec.carried_from places (record {
-          now = Step.state clock (Engine.marking places counts.now) (Timers.timers_in ats.now whos takens.now len) g;
-          steps = steps;
-          limit = limit;
-          peak = peak;
-          rounded = rounded;
-          recorded = recorded;
-        }) instants.now table.now)) }
+    ensures { Record.meaning result ≡ Tests.first_of (Change.carried_tests 256 (not (Path.table_fits places (length instants.now) table.now))
+        (Records.record_strange places (length instants.now) path.now.recorded table.now)
+        (Spec.carried_from places (Spec.standing_of places path.now) instants.now table.now)) }
 {
+    let timers = &path.timers;
     if !state::state_fits(
-        places, counts, steps, limit, rounded, clock, ats, takens, len,
+        places,
+        &path.counts,
+        path.steps,
+        path.limit,
+        path.rounded,
+        path.clock,
+        &timers.ats,
+        &timers.takens,
+        timers.len,
     ) {
         return Err(Refusal::OutsideDomain);
     }
     if !accept::instants_fit(instants) {
         return Err(Refusal::BadInstants);
     }
-    if !records::records_fit(instants, recorded, clock) {
+    if !records::records_fit(instants, path.recorded, path.clock) {
         return Err(Refusal::BadInstants);
     }
-    if !accept::limit_fits(limit) {
+    if !accept::limit_fits(path.limit) {
         return Err(Refusal::BadLimit);
     }
     let n = instants.len();
     if table.len() < places * n {
         return Err(Refusal::ShortTable);
     }
-    if !records::cells_fit(table, places, n, recorded) {
+    if !records::cells_fit(table, places, n, path.recorded) {
         return Err(Refusal::OutsideDomain);
     }
     Ok(())
@@ -96,32 +89,47 @@ fn timers_fit<'a>(net: &LentNet, names: &'a [u64; 64], whos: &'a [usize; 256], n
     renaming::timers_fit(whos, n, names, delayed)
 }
 
-// The first of 20, 21 and 22 that a renaming list meets, from a net of so many places and transitions to the accepted net whose fields are lent; of the path it
-// looks at the transitions of its timers alone.
-pub fn list_fault<'a>(
-    old_places: usize,
-    old_transitions: usize,
+// The first of 20, 21 and 22 that a renaming list meets, from an accepted net to another; of the path it looks at the transitions of its timers alone.
+pub fn list_fault(
+    old: &LentNet,
     net: &LentNet,
     pairs: &[u64],
-    whos: &'a [usize; 256],
-    len: usize,
+    timers: &Queue,
 ) -> Result<(), Refusal>
-    requires { let net = net_of net.now in (Record.fault net ≡ none) × (old_transitions ≤ 64) × (len ≤ 256) }
-    ensures { let net = net_of net.now in (old : Net.Net) (path : Rule.Carried) (ats : List Float) (takens : List ℕ) → length old.places ≡ old_places
-        → length old.transitions ≡ old_transitions → path.now.timers ≡ Timers.timers_in ats whos.now takens len
-        → Record.meaning result ≡ Tests.first_of (Change.renaming_tests old (Record.readable net) path (pairs_of pairs.now)) }
+    requires { let net = net_of net.now in (Record.fault net ≡ none) × (old.now.transitions ≤ 64) × (timers.now.len ≤ 256) }
+    ensures { let net = net_of net.now in (path : Rule.Carried)
+        → path.now.timers ≡ Timers.timers_in timers.now.ats timers.now.whos timers.now.takens timers.now.len
+        → Record.meaning result ≡ Tests.first_of (Change.renaming_tests (Record.readable (net_of old.now)) (Record.readable net) path (pairs_of pairs.now)) }
 {
-    if old_places != net.places {
+    if old.places != net.places {
         return Err(Refusal::UnequalPlaces);
     }
-    if !renaming::list_fits(pairs, old_transitions, net.transitions) {
+    if !renaming::list_fits(pairs, old.transitions, net.transitions) {
         return Err(Refusal::BadRenaming);
     }
     let names = renaming::names_of(pairs);
-    if timers_fit(net, &names, whos, len) {
+    if timers_fit(net, &names, &timers.whos, timers.len) {
         return Ok(());
     }
     Err(Refusal::BadTimer)
+}
+
+// The first test that a carrying call meets: those of the old net and of the new one, of the path's state, and of the renaming list.
+pub fn carry_fault(
+    old: &LentNet,
+    net: &LentNet,
+    pairs: &[u64],
+    path: &Halted,
+    instants: &[f64],
+    table: &[f64],
+) -> Result<(), Refusal>
+    ensures { Record.meaning result ≡ Spec.carrying_fault old.now.places (net_of old.now) (net_of net.now) (pairs_of pairs.now)
+        (Spec.standing_of old.now.places path.now) instants.now table.now }
+{
+    net::fields_fault(old)?;
+    net::fields_fault(net)?;
+    state_fault(old.places, path, instants, table)?;
+    list_fault(old, net, pairs, &path.timers)
 }
 
 // The weights that so many timers took.
@@ -130,10 +138,8 @@ fn taken(takens: &[u64; 256], n: usize) -> u64
     ensures { (result ≤ 4_096_000_000) × ((ats : List Float) (whos : List ℕ) → result ≡ Moments.taken_by_timers (Timers.timers_in ats whos takens.now n)) }
 {
     let mut total: u64 = 0;
-    let mut i: usize = 0;
-    while i < n {
-        total = total + takens[i];
-        i += 1;
+    for i in 0..n {
+        total += takens[i];
     }
     total
 }
@@ -182,7 +188,7 @@ pub fn accepted_carry(
         &mut owners,
         instants,
         named < left,
-        until::fewer(named, left),
+        named.min(left),
         s,
         table,
     );

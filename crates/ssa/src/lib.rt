@@ -16,7 +16,6 @@ ghost use Rattle.carried.specs.Pairs.{pairs_of};
 ghost use Rattle.ssa.specs.Halted as Halting;
 ghost use Rattle.ssa.specs.Path as Path;
 
-use averages::request;
 use net::{LentNet, Net};
 pub use playing::PathEnd;
 use refusals::Refusal;
@@ -58,8 +57,8 @@ pub struct Onward {
     pub state: Halted,
 }
 
-// How many paths of an ensemble were spent, and whether there are deviations; or the number by which the call was turned down; or the number by which a
-// path was refused, and the path's own.
+// How many paths of an ensemble were spent, and whether there are deviations; or the refusal by which the call was turned down; or the refusal of a path, and
+// the path's own number. Three ways that callers tell apart (cild_ensemble): as a Result its error would be an enum of the last two.
 #[derive(Clone, Copy)]
 pub enum EnsembleAnswer {
     Averaged(u64, bool),
@@ -80,20 +79,10 @@ pub fn fields_path(
 ) -> PathAnswer
     ensures { Path.call_of result table.new ≡ Path.called (net_of net.now) (Random.words generator.s) instants.now limit table.old }
 {
-    if let Err(c) = net::fields_fault(net) {
-        return accept::turned_down(c, generator);
+    match accept::call_fault(net, instants, limit, table) {
+        Ok(()) => accept::accepted_path(net, generator, instants, limit, table),
+        Err(c) => accept::turned_down(c, generator),
     }
-    if !accept::instants_fit(instants) {
-        return accept::turned_down(Refusal::BadInstants, generator);
-    }
-    if !accept::limit_fits(limit) {
-        return accept::turned_down(Refusal::BadLimit, generator);
-    }
-    let n = instants.len();
-    if table.len() < net.places * n {
-        return accept::turned_down(Refusal::ShortTable, generator);
-    }
-    accept::accepted_path(net, generator, instants, limit, table)
 }
 
 // The same of a net that is given whole.
@@ -122,20 +111,10 @@ pub fn fields_path_until(
 ) -> Onward
     ensures { Halting.call_of net.now.places result table.new ≡ Halting.naming (net_of net.now) (Random.words generator.s) instants.now limit named table.old }
 {
-    if let Err(c) = net::fields_fault(net) {
-        return until::refused(c, generator);
+    match accept::call_fault(net, instants, limit, table) {
+        Ok(()) => until::accepted_until(net, generator, instants, limit, named, table),
+        Err(c) => until::refused(c, generator),
     }
-    if !accept::instants_fit(instants) {
-        return until::refused(Refusal::BadInstants, generator);
-    }
-    if !accept::limit_fits(limit) {
-        return until::refused(Refusal::BadLimit, generator);
-    }
-    let n = instants.len();
-    if table.len() < net.places * n {
-        return until::refused(Refusal::ShortTable, generator);
-    }
-    until::accepted_until(net, generator, instants, limit, named, table)
 }
 
 // The same of a net that is given whole.
@@ -168,33 +147,10 @@ pub fn fields_carry(
     ensures { Halting.call_of old.now.places result table.new ≡ Halting.carrying (net_of old.now) (net_of net.now)
         (pairs_of pairs.now) (Halting.standing_of old.now.places path) instants.now named table.old }
 {
-    if let Err(c) = net::fields_fault(old) {
-        return until::turned_down(c, path);
+    match change::carry_fault(old, net, pairs, &path, instants, table) {
+        Ok(()) => change::accepted_carry(net, pairs, path, instants, named, table),
+        Err(c) => until::turned_down(c, path),
     }
-    if let Err(c) = net::fields_fault(net) {
-        return until::turned_down(c, path);
-    }
-    let q = path.timers;
-    if let Err(c) = change::state_fault(
-        old.places,
-        path.clock,
-        &path.counts,
-        path.steps,
-        path.limit,
-        path.rounded,
-        path.recorded,
-        &q.ats,
-        &q.takens,
-        q.len,
-        instants,
-        table,
-    ) {
-        return until::turned_down(c, path);
-    }
-    if let Err(c) = change::list_fault(old.places, old.transitions, net, pairs, &q.whos, q.len) {
-        return until::turned_down(c, path);
-    }
-    change::accepted_carry(net, pairs, path, instants, named, table)
 }
 
 // The same of nets that are given whole.
@@ -239,18 +195,7 @@ pub fn ensemble(
         ≡ Ensemble.called net (record { samples = samples; realizations = realizations; seed = seed; horizon = horizon })
         (record { mean = mean.old; deviation = deviation.old; path = path.old }) }
 {
-    if let Err(c) = net::test_net(net) {
-        return EnsembleAnswer::TurnedDown(c);
-    }
-    if let Err(c) = request::request_fault(samples, realizations, seed, horizon) {
-        return EnsembleAnswer::TurnedDown(c);
-    }
-    let places = net.places;
-    let cells = places * (samples as usize);
-    if let Err(c) = request::tables_fault(cells, mean.len(), deviation.len(), path.len()) {
-        return EnsembleAnswer::TurnedDown(c);
-    }
-    averaging::accepted(
+    match averaging::call_fault(
         net,
         samples,
         realizations,
@@ -259,5 +204,17 @@ pub fn ensemble(
         mean,
         deviation,
         path,
-    )
+    ) {
+        Ok(()) => averaging::accepted(
+            net,
+            samples,
+            realizations,
+            seed,
+            horizon,
+            mean,
+            deviation,
+            path,
+        ),
+        Err(c) => EnsembleAnswer::TurnedDown(c),
+    }
 }

@@ -18,20 +18,6 @@ use playing::PathEnd;
 use refusals::Refusal;
 use rng::Xoshiro256;
 
-// A path was refused by that number, or it was added, and so many are spent so far.
-#[derive(Clone, Copy)]
-pub enum Turn {
-    Stopped(Refusal),
-    Went(u64),
-}
-
-// A path was refused by a number, and its own number; or all were added, and so many are spent.
-#[derive(Clone, Copy)]
-pub enum Summed {
-    Stopped(Refusal, u64),
-    Done(u64),
-}
-
 // Path k: from its own seed, with at most so many steps, on the path table.
 fn one_path(
     net: &LentNet,
@@ -56,15 +42,12 @@ fn one_if_spent(end: PathEnd) -> u64
     ensures { result ≡ Summing.one_by_spent end }
 {
     match end {
-        PathEnd::Quiet => 0,
         PathEnd::Spent => 1,
-        PathEnd::Reached => 0,
-        PathEnd::Halted => 0,
-        PathEnd::Refused(_) => 0,
+        PathEnd::Quiet | PathEnd::Reached | PathEnd::Halted | PathEnd::Refused(_) => 0,
     }
 }
 
-// Path k, and its cells added to the sums.
+// Path k, its cells added to the sums: so many are spent so far.
 fn member_turn(
     net: &LentNet,
     tables: &Tables,
@@ -76,7 +59,7 @@ fn member_turn(
     mean: &mut [f64],
     deviation: &mut [f64],
     path: &mut [f64],
-) -> Turn
+) -> Result<u64, Refusal>
     requires { let net = net_of net.now in Summing.Lent net tables.now.limit tables.now.rates tables.now.ends tables.now.guards tables.now.timed tables.now.heavy instants.now × (net.places * length instants.now ≤ length path.old) × (spent < 65_535) }
     ensures { let net = net_of net.now in Summing.TurnBy (Summing.drawn (Record.readable net) seed instants.now steps k) net.places (length instants.now) spent
         mean.old mean.new deviation.old deviation.new path.old path.new result }
@@ -84,16 +67,15 @@ fn member_turn(
     let r = one_path(net, tables, instants, steps, seed, k, path);
     let end = r.end;
     if let PathEnd::Refused(c) = end {
-        return Turn::Stopped(c);
+        return Err(c);
     }
     let cells = net.places * instants.len();
     moments::add(cells, path, mean);
     moments::add_squares(cells, path, deviation);
-    let many = spent + one_if_spent(end);
-    Turn::Went(many)
+    Ok(spent + one_if_spent(end))
 }
 
-// All paths, from number 0 on, until one is refused.
+// All paths, from number 0 on: so many are spent. Or the refusal of one, with its number.
 pub fn sum_paths(
     net: &LentNet,
     tables: &Tables,
@@ -104,7 +86,7 @@ pub fn sum_paths(
     mean: &mut [f64],
     deviation: &mut [f64],
     path: &mut [f64],
-) -> Summed
+) -> Result<u64, (Refusal, u64)>
     requires { let net = net_of net.now in Summing.Lent net tables.now.limit tables.now.rates tables.now.ends tables.now.guards tables.now.timed tables.now.heavy instants.now × (realizations ≤ 65_535) × (net.places * length instants.now ≤ length path.old)
         × (mean.old ≡ Cells.cleared (net.places * length instants.now) mean.old)
         × (deviation.old ≡ Cells.cleared (net.places * length instants.now) deviation.old) }
@@ -113,17 +95,13 @@ pub fn sum_paths(
         mean.old mean.new deviation.old deviation.new path.old path.new result }
 {
     let mut spent: u64 = 0;
-    let mut k: u64 = 0;
-    while k < realizations {
-        let next = k + 1;
-        let t = member_turn(
+    for k in 0..realizations {
+        match member_turn(
             net, tables, instants, steps, seed, k, spent, mean, deviation, path,
-        );
-        match t {
-            Turn::Went(s) => spent = s,
-            Turn::Stopped(c) => return Summed::Stopped(c, k),
+        ) {
+            Ok(s) => spent = s,
+            Err(c) => return Err((c, k)),
         }
-        k = next;
     }
-    Summed::Done(spent)
+    Ok(spent)
 }

@@ -1,9 +1,9 @@
 // Playing a path on over a net whose fields are lent, and a path call that names a number of steps.
-ghost use Rattle.std.specs.Prelude.{◌≡◌, true, List, ℕ, ◌+◌, ◌*◌, ◌^◌, ◌<◌, ◌≤◌, min, Float, length};
+ghost use Rattle.std.specs.Prelude.{◌≡◌, true, List, ℕ, ◌+◌, ◌*◌, ◌^◌, ◌<◌, ◌≤◌, Float, length};
 ghost use Rattle.std.proofs.Math.Option.{none};
 ghost use Rattle.std.proofs.Math.ListN as ListN;
 ghost use Rattle.net.specs.Readable as Record;
-ghost use Rattle.net.specs.Record.{lent, net_of};
+ghost use Rattle.net.specs.Record.{net_of};
 ghost use Rattle.net.specs.declared.Net.{Net as NetRecord};
 ghost use Rattle.rng.specs.State as Random;
 ghost use Rattle.rules.specs.Carried as Rule;
@@ -119,16 +119,6 @@ pub fn resume(
     )
 }
 
-// The smaller of two numbers.
-pub fn fewer(a: u64, b: u64) -> u64
-    ensures { result ≡ min a b }
-{
-    if a < b {
-        return a;
-    }
-    b
-}
-
 // A path that was left so, after so many steps before, of which so many add a rounded propensity, in the hands of a caller.
 pub fn handed<'a>(
     w: Walked,
@@ -238,7 +228,7 @@ pub fn accepted_until(
         &mut owners,
         instants,
         named < limit,
-        fewer(named, limit),
+        named.min(limit),
         s,
         table,
     );

@@ -1,5 +1,6 @@
 -- Each answer is that of the call by the tests that led to it (Asked). Assumes nothing.
 use Rattle.std.proofs.Common.{sym, ap, ◌∙◌}
+use Rattle.std.proofs.lemmas.Result.{err_from_is_err_and}
 use Rattle.net.specs.Record.{net_of}
 use Rattle.net.proofs.Sound.{sound}
 use Rattle.rules.specs.Step.{given}
@@ -7,22 +8,24 @@ use Rattle.balance.proofs.Asked.{small, by_net, by_length, by_weight, by_sums}
 use Rattle.balance.proofs.lent_balance.Goals as goal
 
 pub returns-in_err-fields_fault : goal.returns-in_err-fields_fault
-returns-in_err-fields_fault c = by_net (net_of c.args.net.now) c.args.weights.now (sym c.in_err-fields_fault.ensures)
+returns-in_err-fields_fault c =
+    let p = err_from_is_err_and c.from_residual.result c.from_residual.ensures.1 in
+    rw (p.1, p.2) (by_net (net_of c.args.net.now) c.args.weights.now (sym c.in_err-fields_fault.ensures))
 
-pub returns-then-weights-places : goal.returns-then-weights-places
-returns-then-weights-places c = by_length (net_of c.args.net.now) c.args.weights.now (sym c.in_ok-fields_fault.ensures) c.if-weights-places.true
+pub returns-then-weights-net : goal.returns-then-weights-net
+returns-then-weights-net c = by_length (net_of c.args.net.now) c.args.weights.now (sym c.in_ok-fields_fault.ensures) c.if-weights-net.true
 
 pub returns-then-some_above : goal.returns-then-some_above
 returns-then-some_above c =
-    by_weight (net_of c.args.net.now) c.args.weights.now (sym c.in_ok-fields_fault.ensures) c.if-weights-places.false
+    by_weight (net_of c.args.net.now) c.args.weights.now (sym c.in_ok-fields_fault.ensures) c.if-weights-net.false
     (sym c.some_above.ensures ∙ c.if-some_above.true)
 
 pub first_uneven-requires : goal.first_uneven-requires
 first_uneven-requires c =
-    (sound (net_of c.args.net.now) (sym c.in_ok-fields_fault.ensures), c.if-weights-places.false, small c.args.weights.now (sym c.some_above.ensures ∙ c.if-some_above.false))
+    (sound (net_of c.args.net.now) (sym c.in_ok-fields_fault.ensures), c.if-weights-net.false, small c.args.weights.now (sym c.some_above.ensures ∙ c.if-some_above.false))
 
 pub returns : goal.returns
 returns c =
     ap given c.first_uneven.ensures
-    ∙ by_sums (net_of c.args.net.now) c.args.weights.now (sym c.in_ok-fields_fault.ensures) c.if-weights-places.false
+    ∙ by_sums (net_of c.args.net.now) c.args.weights.now (sym c.in_ok-fields_fault.ensures) c.if-weights-net.false
     (sym c.some_above.ensures ∙ c.if-some_above.false)

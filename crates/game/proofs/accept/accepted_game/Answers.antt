@@ -1,24 +1,33 @@
 -- The tidied net reads as the net, and has its places and initial counts. Assumes nothing.
-use Prim.Native.Nat.{ℕ}
-use mathlib.Core.Path.{sym, subst}
-use native.Mathlib.Omega.{arith}
+use Rattle.std.proofs.Common.{◌≡◌, ℕ, ◌^◌, ◌<◌, ◌≤◌, get_or, sym, subst, arith}
+use Rattle.net.specs.declared.Net.{Net as NetRecord}
+use Rattle.net.specs.Readable.{readable}
 use Rattle.net.proofs.Sound.{sound}
-use Rattle.engine.proofs.Tidying.{tidy_unlabelled}
-use Rattle.game.specs.Play.{Sided}
+use Rattle.rules.specs.Moves.{initial_counts}
+use Rattle.engine.specs.Engine.{Tidy}
+use Rattle.game.specs.Play.{Sided, game_of, fault_of}
+use Rattle.game.specs.Search.{fault_move}
 use Rattle.game.proofs.Asked.{same_moves, first_small, same_game}
 use Rattle.game.proofs.accept.accepted_game.Goals as goal
 
 pub lent_game-requires : goal.lent_game-requires
 lent_game-requires c =
-    let t = c in
-    let s = t in
-    let n = s.args.net in
-    let r = t.tidied-n.result in
-    let e = t.tidied-n.ensures in
-    (tidy_unlabelled r e.1, first_small r n e.0 (sound n s.requires.0) e.2 e.3, subst (λ (k : ℕ). Sided k s.args.sides.now) (sym (same_moves r n e.0)) s.requires.1, omega (arith, s.requires.2, e.2), s.requires.3)
+    let a = c.args in
+    let r = c.tidied-n.result in
+    let e = c.tidied-n.ensures in
+    let Asked : NetRecord → Type 0
+    = λ n. Tidy n × ((p : ℕ) → p < n.places → get_or n.initial p 0 ≤ 2 ^ 53) × Sided n.transitions a.sides.now × (a.wanted < n.places) × (a.turns ≤ 8) in
+    subst Asked (sym c.lent.ensures) (
+      e.1,
+      first_small r a.net e.0 (sound a.net c.requires.0) e.2 e.3,
+      subst (λ (k : ℕ). Sided k a.sides.now) (sym (same_moves r a.net e.0)) c.requires.1,
+      omega (arith, c.requires.2, e.2),
+      c.requires.3,
+    )
 
 pub returns : goal.returns
 returns c =
-    let t = c in
-    let a = t.before.args in
-    same_game t.tidied-n.result a.net t.tidied-n.ensures.0 a.turns a.sides.now a.wanted a.count c.lent_game.ensures
+    let a = c.args in
+    let Said : NetRecord → Type 0
+    = λ n. fault_of c.lent_game.result ≡ fault_move a.turns (game_of (readable n) a.sides.now a.wanted a.count) (initial_counts (readable n)) in
+    same_game c.tidied-n.result a.net c.tidied-n.ensures.0 a.turns a.sides.now a.wanted a.count (subst Said c.lent.ensures c.lent_game.ensures)

@@ -12,10 +12,10 @@ play-requires c =
     let f = fitting a.instants.now s.requires.2 in
     let counts = c.first_counts-counts.ensures in (
       s.requires.0,
-      c.fill_tables-kinds.ensures.0,
+      c.fill_tables.ensures.0,
       counts.1,
       counts.0 ∙ initial_is (net_of a.net.now),
-      c.fill_tables-kinds.ensures.1,
+      c.fill_tables.ensures.1,
       f.some_instant,
       f.few,
       f.risen,

@@ -7,8 +7,8 @@ use Rattle.ssa.specs.Summing.{drawn, paths_from}
 use Rattle.ssa.proofs.Summing.{cleared_once, stopped_call, finished_call}
 use Rattle.ssa.proofs.averaging.averaged.Goals as goal
 
-pub sum_paths-s-requires : goal.sum_paths-s-requires
-sum_paths-s-requires c =
+pub sum_paths-requires : goal.sum_paths-requires
+sum_paths-requires c =
     let m = c.clear in
     let d = c.clear-2 in
     let s = c in
@@ -21,21 +21,21 @@ sum_paths-s-requires c =
       cleared_once cells a.deviation.now d.new.table d.ensures,
     )
 
-pub returns-in-Stopped : goal.returns-in-Stopped
-returns-in-Stopped c =
-    let p = c.sum_paths-s in
+pub returns-in-Err : goal.returns-in-Err
+returns-in-Err c =
+    let p = c.sum_paths in
     let m = c.clear in
     let d = c.clear-2 in
     let a = c.args in
     let net = readable (net_of a.net.now) in
     stopped_call (paths_from (drawn net a.seed a.instants.now a.steps) 0 a.realizations) a.net.now.places (length a.instants.now) a.realizations a.mean.now a.deviation.now a.path.now
     m.new.table d.new.table p.new.mean p.new.deviation p.new.path m.ensures d.ensures
-    _ _ c.clear-in-Stopped.new.table c.clear-in-Stopped-2.new.table p.result c.in-Stopped.is p.ensures c.clear-in-Stopped.ensures c.clear-in-Stopped-2.ensures
+    _ _ c.clear-in-Err.new.table c.clear-in-Err-2.new.table p.result c.in-Err.is p.ensures c.clear-in-Err.ensures c.clear-in-Err-2.ensures
 
-pub returns-in-Done : goal.returns-in-Done
-returns-in-Done c =
+pub returns-in-Ok : goal.returns-in-Ok
+returns-in-Ok c =
     let f = c.finish-deviates in
-    let p = c.sum_paths-s in
+    let p = c.sum_paths in
     let m = c.clear in
     let d = c.clear-2 in
     let s = c in
@@ -43,4 +43,4 @@ returns-in-Done c =
     let net = readable (net_of a.net.now) in
     finished_call (paths_from (drawn net a.seed a.instants.now a.steps) 0 a.realizations) a.net.now.places (length a.instants.now) a.realizations a.mean.now a.deviation.now a.path.now
     m.new.table d.new.table p.new.mean p.new.deviation p.new.path m.ensures d.ensures
-    _ f.result f.new.mean f.new.deviation p.result c.in-Done.is s.requires.3 p.ensures f.ensures.0 f.ensures.1 f.ensures.2
+    _ f.result f.new.mean f.new.deviation p.result c.in-Ok.is s.requires.3 p.ensures f.ensures.0 f.ensures.1 f.ensures.2

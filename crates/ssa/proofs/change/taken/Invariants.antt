@@ -1,10 +1,6 @@
 -- The loop adds what the timers before timer i took; with what is left it is the whole, and each took at most 16,000,000 (Changed).
-use Prim.Native.Nat.{◌-◌}
 use Rattle.ssa.proofs.Changed.{Adding}
 use Rattle.ssa.proofs.change.taken.Given as goal
 
 abbrev pub invariant-loop-i : goal.invariant-loop-i
 invariant-loop-i l = Adding l.takens l.n l.total l.i
-
-abbrev pub decreases-loop-i : goal.decreases-loop-i
-decreases-loop-i l = l.n - l.i

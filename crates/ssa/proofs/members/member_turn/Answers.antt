@@ -23,20 +23,17 @@ returns-in-Refused c =
     c.in-Refused.c (drawn net a.seed xs a.steps a.k) p.ensures c.in-Refused.is refl refl
 
 pub overflow_mul-cells : goal.overflow_mul-cells
-overflow_mul-cells c =
-    let s = c in
-    record { fits = cells_fit _ _ s.requires.0.tidy.places (fitting s.args.instants.now s.requires.0.fit).few }
+overflow_mul-cells c = record { fits = cells_fit _ _ c.requires.0.tidy.places (fitting c.args.instants.now c.requires.0.fit).few }
 
-pub overflow_add-many : goal.overflow_add-many
-overflow_add-many c = omega (arith, c.before.before.requires.2, c.one_if_spent.ensures, one_by_spent_lem c.one_path-r.result.end)
+pub overflow_add-result : goal.overflow_add-result
+overflow_add-result c = omega (arith, c.requires.2, c.one_if_spent.ensures, one_by_spent_lem c.one_path-r.result.end)
 
 pub returns : goal.returns
 returns c =
     let p = c.one_path-r in
-    let m = c.add in
-    let d = c.add_squares in
-    let a = c.before.before.args in
+    let a = c.args in
     let net = readable (net_of a.net.now) in
     let xs = a.instants.now in
-    turn_goes a.net.now.places (length xs) a.spent (seeded (seed_of a.seed a.k)) a.mean.now m.new.sums a.deviation.now d.new.squares a.path.now p.new.path p.result
-    c.one_if_spent.result _ (drawn net a.seed xs a.steps a.k) p.ensures (not_refused p.result.end (opened c.in_default.in_default-own.keys2)) c.one_if_spent.ensures refl m.ensures d.ensures
+    turn_goes a.net.now.places (length xs) a.spent (seeded (seed_of a.seed a.k)) a.mean.now c.add.new.sums a.deviation.now c.add_squares.new.squares a.path.now p.new.path p.result
+    c.one_if_spent.result _ (drawn net a.seed xs a.steps a.k) p.ensures (not_refused p.result.end (opened c.in_default.in_default-own.keys2)) c.one_if_spent.ensures refl
+    c.add.ensures c.add_squares.ensures

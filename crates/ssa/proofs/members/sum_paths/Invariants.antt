@@ -1,5 +1,4 @@
--- The paths below k are added (proofs/Summing, SumsAt); a turn adds one more or ends it. The measure is what is left of them. Assumes nothing.
-use Prim.Native.Nat.{◌-◌}
+-- The paths below k are added (proofs/Summing, SumsAt); a turn adds one more or ends it. Assumes nothing.
 use lib.ListN.{length}
 use Rattle.net.specs.Readable.{readable}
 use Rattle.net.specs.Record.{net_of}
@@ -11,7 +10,3 @@ abbrev pub invariant-loop-k : goal.invariant-loop-k
 invariant-loop-k l =
     SumsAt (drawn (readable (net_of l.net)) l.seed l.instants l.steps) l.net.places (length l.instants) l.realizations l.k l.spent
     l.initial.mean l.mean l.initial.deviation l.deviation l.initial.path l.path
-
-abbrev pub decreases-loop-k : goal.decreases-loop-k
-decreases-loop-k l =
-    l.realizations - l.k

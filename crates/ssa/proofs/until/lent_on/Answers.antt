@@ -13,9 +13,9 @@ play_on-requires c =
     let f = p in
     let s = f in
     let r = s.requires.2 in (
-      record { tidy = s.requires.0; limits = f.fill_tables-kinds.ensures.0; small = r.small; light = r.light; sound = r.sound },
+      record { tidy = s.requires.0; limits = f.fill_tables.ensures.0; small = r.small; light = r.light; sound = r.sound },
       record { most = omega arith; few = omega arith },
-      f.fill_tables-kinds.ensures.1,
+      f.fill_tables.ensures.1,
       s.requires.3,
       s.requires.4,
       s.requires.5,
