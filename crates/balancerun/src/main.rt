@@ -4,83 +4,52 @@
 // else is.
 #![tactic(auto)]
 
-ghost use Rattle.std.specs.Prelude.{◌≤◌, length};
-
-use net::Net;
-use net_io::arguments::number_of;
-use net_io::{read_input, say, text_room, write, write_number, write_refused};
+use net_io::arguments::{end_of, number_of};
+use net_io::{read_input, say, text_room, write_refused};
 use refusals::Refusal;
 use std::env::Env;
 
+// That the line cannot be written goes unsaid.
 fn write_answer(rt: &HostRuntime, answer: Result<Option<usize>, Refusal>) {
     match answer {
-        Ok(None) => write(rt, b"(balance yes)\n"),
+        Ok(None) => {
+            let _ = println!(rt; "(balance yes)");
+        }
         Ok(Some(j)) => {
-            write(rt, b"(balance no ");
-            write_number(rt, j as u64);
-            write(rt, b")\n");
+            let _ = println!(rt; "(balance no {j})");
         }
         Err(c) => write_refused(rt, c.number(), 0),
     }
 }
 
-// Where the number that begins at `from` ends: at a comma, or with the list.
-fn number_end(list: &[u8], from: usize) -> usize
-    requires { from ≤ length list.now }
-    ensures { (from ≤ result) × (result ≤ length list.now) }
-{
-    let mut i = from;
-    while i < list.len() {
-        if list[i] == b',' {
-            return i;
-        }
-        i += 1;
-    }
-    i
-}
-
-// How many weights the list has, those past the 33rd left out: no net has 33 places. 0 where it is no list of whole numbers.
-fn read_weights(list: &[u8], weights: &mut [u64; 33]) -> usize {
-    let mut n: usize = 0;
-    let mut from: usize = 0;
+// How many weights the list has, those past the 33rd left out: no net has 33 places. None where it is no list of whole numbers.
+fn read_weights(list: &[u8], weights: &mut [u64; 33]) -> Option<usize> {
+    let mut n = 0;
+    let mut from = 0;
+    // a number is as long as it is: no range has where the next begins
     while from <= list.len() {
-        let end = number_end(list, from);
-        let Some(w) = number_of(&list[from..end]) else {
-            return 0;
-        };
+        let end = end_of(list, from, b',');
+        let w = number_of(&list[from..end])?;
         if n < 33 {
             weights[n] = w;
             n += 1;
         }
         from = end + 1;
     }
-    n
+    Some(n)
 }
 
-// The balance of the first n weights.
-fn weigh(rt: &HostRuntime, net: Net, n: usize, weights: &[u64]) {
-    if n <= weights.len() {
-        write_answer(rt, balance::balance(net, &weights[..n]));
-    }
-}
-
-fn ask(rt: &HostRuntime, text: &[u8], n: usize, weights: &[u64]) {
+fn ask(rt: &HostRuntime, text: &[u8], weights: &[u64]) {
     match net_text::read_net(text) {
-        Ok(read) => weigh(rt, read.net, n, weights),
+        Ok(read) => write_answer(rt, balance::balance(&read.net.lent(), weights)),
         Err(down) => write_refused(rt, down.refusal.number(), down.line),
     }
 }
 
-fn ask_front(rt: &HostRuntime, text: &[u8], t: usize, n: usize, weights: &[u64]) {
-    if t <= text.len() {
-        ask(rt, &text[..t], n, weights);
-    }
-}
-
-fn read_and_ask(rt: &HostRuntime, n: usize, weights: &[u64; 33]) {
+fn read_and_ask(rt: &HostRuntime, weights: &[u64]) {
     let mut text = text_room();
     match read_input(rt, &mut text) {
-        Ok(t) => ask_front(rt, &text, t, n, weights),
+        Ok(t) => ask(rt, &text[..t], weights),
         Err(_) => say(rt, b"balancerun: standard input cannot be read\n"),
     }
 }
@@ -99,10 +68,8 @@ fn main(rt: HostRuntime) {
         return;
     };
     let mut weights = [0u64; 33];
-    let count = read_weights(&list[..n], &mut weights);
-    if count == 0 {
-        usage(&rt);
-        return;
+    match read_weights(&list[..n], &mut weights) {
+        Some(count) if count <= 33 => read_and_ask(&rt, &weights[..count]),
+        _ => usage(&rt),
     }
-    read_and_ask(&rt, count, &weights);
 }

@@ -6,33 +6,24 @@
 #![tactic(auto)]
 
 use gates::Gates;
-use net::Net;
 use net_text::float_of;
 use replay_io::{next_number, number, read_net, shown, write, write_cells, write_number};
 use sde::DiffusionAnswer;
 use std::io::{self, Read};
-
-fn write_flag(rt: &impl Print, b: bool) -> io::Result<()> {
-    if b {
-        write_number(rt, 1)
-    } else {
-        write_number(rt, 0)
-    }
-}
 
 fn write_gates(rt: &impl Print, g: Gates) -> io::Result<()> {
     write_number(rt, g.reads)?;
     write_number(rt, g.inhibitors)?;
     write_number(rt, g.nonkinetic)?;
     write_number(rt, g.bounded)?;
-    write_flag(rt, g.delayed)
+    write_number(rt, u64::from(g.delayed))
 }
 
 fn write_answer(rt: &impl Print, answer: DiffusionAnswer) -> io::Result<()> {
     match answer {
         DiffusionAnswer::Averaged(deviates) => {
             write(rt, b"averaged")?;
-            write_flag(rt, deviates)
+            write_number(rt, u64::from(deviates))
         }
         DiffusionAnswer::Gated(g) => {
             write(rt, b"gated")?;
@@ -40,64 +31,14 @@ fn write_answer(rt: &impl Print, answer: DiffusionAnswer) -> io::Result<()> {
         }
         DiffusionAnswer::TurnedDown(c) => {
             write(rt, b"refused")?;
-            write_number(rt, c)
+            write_number(rt, c.number())
         }
         DiffusionAnswer::Stopped(c, k) => {
             write(rt, b"stopped")?;
-            write_number(rt, c)?;
+            write_number(rt, c.number())?;
             write_number(rt, k)
         }
     }
-}
-
-fn answer(
-    rt: &impl Print,
-    net: Net,
-    samples: u64,
-    realizations: u64,
-    seed: u64,
-    horizon: f64,
-    mean: &mut [f64],
-    deviation: &mut [f64],
-    path: &mut [f64],
-) -> io::Result<()> {
-    write_answer(
-        rt,
-        sde::diffuse(
-            net,
-            samples,
-            realizations,
-            seed,
-            horizon,
-            mean,
-            deviation,
-            path,
-        ),
-    )
-}
-
-fn answer_in(
-    rt: &impl Print,
-    net: Net,
-    samples: u64,
-    realizations: u64,
-    seed: u64,
-    horizon: f64,
-    mean: &mut [f64; 2048],
-    deviation: &mut [f64; 2048],
-    path: &mut [f64; 2048],
-) -> io::Result<()> {
-    answer(
-        rt,
-        net,
-        samples,
-        realizations,
-        seed,
-        horizon,
-        mean,
-        deviation,
-        path,
-    )
 }
 
 fn play(rt: &impl Print, input: &mut impl Read, places: usize) -> io::Result<()> {
@@ -109,9 +50,8 @@ fn play(rt: &impl Print, input: &mut impl Read, places: usize) -> io::Result<()>
     let mut mean = [7.0f64; 2048];
     let mut deviation = [7.0f64; 2048];
     let mut path = [7.0f64; 2048];
-    answer_in(
-        rt,
-        net,
+    let answer = sde::diffuse(
+        &net.lent(),
         samples,
         realizations,
         seed,
@@ -119,7 +59,8 @@ fn play(rt: &impl Print, input: &mut impl Read, places: usize) -> io::Result<()>
         &mut mean,
         &mut deviation,
         &mut path,
-    )?;
+    );
+    write_answer(rt, answer)?;
     let cells = shown(places, samples as usize);
     write_cells(rt, cells, &mean)?;
     write_cells(rt, cells, &deviation)?;
@@ -127,21 +68,13 @@ fn play(rt: &impl Print, input: &mut impl Read, places: usize) -> io::Result<()>
     write(rt, b"\n")
 }
 
-// Plays a case, if there is one.
-fn turn(rt: &impl Print, input: &mut impl Read) -> io::Result<bool> {
-    let places = next_number(input);
-    if !places.there {
-        return Ok(false);
-    }
-    play(rt, input, places.value as usize)?;
-    Ok(true)
-}
-
 fn main(rt: HostRuntime) -> io::Result<()> {
     let mut input = rt.stdin();
-    let mut turns = u64::MAX;
-    while turns > 0 && turn(&rt, &mut input)? {
-        turns -= 1;
+    for _ in 0..u64::MAX {
+        let Some(places) = next_number(&mut input) else {
+            return Ok(());
+        };
+        play(&rt, &mut input, places as usize)?;
     }
     Ok(())
 }

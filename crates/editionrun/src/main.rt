@@ -28,160 +28,98 @@ use std::env::Env;
 // The most steps of a path.
 const MOST_STEPS: u64 = 1_000_000;
 
-fn was_halted(end: PathEnd) -> bool {
-    match end {
-        PathEnd::Halted => true,
-        _ => false,
-    }
-}
-
-fn was_refused(end: PathEnd) -> bool {
-    match end {
-        PathEnd::Refused(_) => true,
-        _ => false,
-    }
+// After how many steps the path is halted; and where it is to be carried, the renaming list. The new net's text is empty where it is not.
+struct Asked<'a> {
+    steps: u64,
+    pairs: Option<&'a [u64]>,
+    new: &'a [u8],
 }
 
 // Carries a halted path to the new net and plays it to its end: no path is halted after the most steps.
 fn change(
     rt: &HostRuntime,
-    old: Net,
-    new: Net,
+    old: &Net,
+    new: &Net,
     pairs: &[u64],
     path: Halted,
     instants: &[f64],
     table: &mut [f64],
 ) {
-    let places = old.places;
-    let n = instants.len();
-    let r = ssa::carry(old, new, pairs, path, instants, MOST_STEPS, table);
-    shown::write_path(rt, r);
-    let end = r.end;
-    if !was_refused(end) {
-        shown::write_rows(rt, places, n, table);
-    }
-}
-
-// The same to the net of a text.
-fn change_to(
-    rt: &HostRuntime,
-    old: Net,
-    new: &[u8],
-    pairs: &[u64],
-    path: Halted,
-    instants: &[f64],
-    table: &mut [f64],
-) {
-    match net_text::read_net(new) {
-        Ok(read) => change(rt, old, read.net, pairs, path, instants, table),
-        Err(down) => write_refused(rt, down.refusal.number(), down.line),
+    let r = ssa::carry(
+        &old.lent(),
+        &new.lent(),
+        pairs,
+        path,
+        instants,
+        MOST_STEPS,
+        table,
+    );
+    shown::write_path(rt, &r);
+    match r.end {
+        PathEnd::Refused(_) => {}
+        _ => shown::write_rows(rt, old.places, instants.len(), table),
     }
 }
 
 // The path from the seed, halted after so many steps; carried to the net of the new text if that is asked for.
-fn halt(
-    rt: &HostRuntime,
-    net: Net,
-    seed: u64,
-    instants: &[f64],
-    steps: u64,
-    carries: bool,
-    pairs: &[u64],
-    new: &[u8],
-) {
+fn halt(rt: &HostRuntime, net: &Net, seed: u64, instants: &[f64], asked: &Asked) {
     let mut table = [0.0f64; 2048];
     let generator = Xoshiro256::new(request::seed_of(seed, 0));
-    let r = ssa::path_until(net, generator, instants, MOST_STEPS, steps, &mut table);
-    let end = r.end;
-    let path = r.state;
-    shown::write_path(rt, r);
-    if was_refused(end) {
-        return;
-    }
-    if was_halted(end) {
-        shown::write_state(rt, net.places, path);
-        if carries {
-            change_to(rt, net, new, pairs, path, instants, &mut table);
+    let r = ssa::path_until(
+        &net.lent(),
+        generator,
+        instants,
+        MOST_STEPS,
+        asked.steps,
+        &mut table,
+    );
+    shown::write_path(rt, &r);
+    match (r.end, asked.pairs) {
+        (PathEnd::Refused(_), _) => {}
+        (PathEnd::Halted, Some(pairs)) => {
+            shown::write_state(rt, net.places, &r.state);
+            match net_text::read_net(asked.new) {
+                Ok(read) => change(rt, net, &read.net, pairs, r.state, instants, &mut table),
+                Err(down) => write_refused(rt, down.refusal.number(), down.line),
+            }
         }
-        return;
-    }
-    if !carries {
-        shown::write_state(rt, net.places, path);
-    }
-}
-
-// The first n of the instants.
-fn halt_front(
-    rt: &HostRuntime,
-    net: Net,
-    seed: u64,
-    instants: &[f64],
-    n: usize,
-    steps: u64,
-    carries: bool,
-    pairs: &[u64],
-    new: &[u8],
-) {
-    if n <= instants.len() {
-        halt(rt, net, seed, &instants[..n], steps, carries, pairs, new);
+        (_, None) => shown::write_state(rt, net.places, &r.state),
+        (_, Some(_)) => {}
     }
 }
 
 // The grid of the run line, of at most 1,024 samples.
 fn halt_on_grid(
     rt: &HostRuntime,
-    net: Net,
+    net: &Net,
     samples: u64,
     seed: u64,
     horizon: f64,
-    steps: u64,
-    carries: bool,
-    pairs: &[u64],
-    new: &[u8],
+    asked: &Asked,
 )
     requires { samples ≤ 1_024 }
 {
     let mut grid = [0.0f64; 1024];
     let few = samples as u32;
     request::fill_grid(few, request::interval(few, horizon), &mut grid);
-    halt_front(
-        rt,
-        net,
-        seed,
-        &grid,
-        samples as usize,
-        steps,
-        carries,
-        pairs,
-        new,
-    );
+    halt(rt, net, seed, &grid[..samples as usize], asked);
 }
 
-fn run(
-    rt: &HostRuntime,
-    net: Net,
-    asked: RunLine,
-    steps: u64,
-    carries: bool,
-    pairs: &[u64],
-    new: &[u8],
-) {
-    let horizon = net_text::float_of(asked.horizon);
-    let samples = asked.samples;
-    let seed = asked.seed;
-    match request::request_fault(samples, asked.realizations, seed, horizon) {
+fn run(rt: &HostRuntime, net: &Net, line: RunLine, asked: &Asked) {
+    let horizon = net_text::float_of(line.horizon);
+    match request::request_fault(line.samples, line.realizations, line.seed, horizon) {
         Err(c) => write_refused(rt, c.number(), 0),
         Ok(()) => {
-            if samples <= 1_024 {
-                halt_on_grid(rt, net, samples, seed, horizon, steps, carries, pairs, new);
+            if line.samples <= 1_024 {
+                halt_on_grid(rt, net, line.samples, line.seed, horizon, asked);
             }
         }
     }
 }
 
-fn play(rt: &HostRuntime, old: &[u8], steps: u64, carries: bool, pairs: &[u64], new: &[u8]) {
+fn play(rt: &HostRuntime, old: &[u8], asked: &Asked) {
     match net_text::read_net(old) {
-        Ok(read) => run(rt, read.net, read.run, steps, carries, pairs, new),
+        Ok(read) => run(rt, &read.net, read.run, asked),
         Err(down) => write_refused(rt, down.refusal.number(), down.line),
     }
 }
@@ -196,23 +134,14 @@ fn cut(bytes: u64, n: usize) -> usize
     n
 }
 
-fn play_both(rt: &HostRuntime, texts: &[u8], bytes: u64, steps: u64, carries: bool, pairs: &[u64]) {
+fn play_both(rt: &HostRuntime, texts: &[u8], bytes: u64, steps: u64, pairs: Option<&[u64]>) {
     let at = cut(bytes, texts.len());
-    play(rt, &texts[..at], steps, carries, pairs, &texts[at..]);
-}
-
-fn play_input(
-    rt: &HostRuntime,
-    texts: &[u8],
-    n: usize,
-    bytes: u64,
-    steps: u64,
-    carries: bool,
-    pairs: &[u64],
-) {
-    if n <= texts.len() {
-        play_both(rt, &texts[..n], bytes, steps, carries, pairs);
-    }
+    let asked = Asked {
+        steps,
+        pairs,
+        new: &texts[at..],
+    };
+    play(rt, &texts[..at], &asked);
 }
 
 // Two net texts and one byte more: enough to know that the second has too many.
@@ -222,10 +151,10 @@ fn texts_room() -> [u8; 16385]
     [0; 16385]
 }
 
-fn read_and_play(rt: &HostRuntime, bytes: u64, steps: u64, carries: bool, pairs: &[u64]) {
+fn read_and_play(rt: &HostRuntime, bytes: u64, steps: u64, pairs: Option<&[u64]>) {
     let mut texts = texts_room();
     match read_input(rt, &mut texts) {
-        Ok(n) => play_input(rt, &texts, n, bytes, steps, carries, pairs),
+        Ok(n) => play_both(rt, &texts[..n], bytes, steps, pairs),
         Err(_) => say(rt, b"editionrun: standard input cannot be read\n"),
     }
 }
@@ -237,17 +166,6 @@ fn usage(rt: &HostRuntime) {
     );
 }
 
-// The first n words are the list.
-fn carry_by(rt: &HostRuntime, bytes: u64, steps: u64, words: &[u64], n: usize) {
-    if n <= words.len() {
-        read_and_play(rt, bytes, steps, true, &words[..n]);
-    }
-}
-
-fn carry_all(rt: &HostRuntime, bytes: u64, steps: u64, words: &[u64; 130], n: usize) {
-    carry_by(rt, bytes, steps, words, n);
-}
-
 fn carry_on(rt: &HostRuntime, steps: u64) {
     let mut list = [0u8; 1024];
     let Ok(n) = rt.arg(2, &mut list) else {
@@ -255,9 +173,10 @@ fn carry_on(rt: &HostRuntime, steps: u64) {
         return;
     };
     let mut words = [0u64; 130];
-    let listed = list::list_of(&list[..n], &mut words);
-    match number_argument(rt, 3) {
-        Some(bytes) if listed.fits => carry_all(rt, bytes, steps, &words, listed.words),
+    match (list::list_of(&list[..n], &mut words), number_argument(rt, 3)) {
+        (Some(k), Some(bytes)) if k <= 130 => {
+            read_and_play(rt, bytes, steps, Some(&words[..k]))
+        }
         _ => usage(rt),
     }
 }
@@ -268,8 +187,7 @@ fn main(rt: HostRuntime) {
         return;
     };
     if !is_given(&rt, 2) {
-        let none = [0u64; 0];
-        read_and_play(&rt, u64::MAX, steps, false, &none);
+        read_and_play(&rt, u64::MAX, steps, None);
     } else if is_given(&rt, 3) && !is_given(&rt, 4) {
         carry_on(&rt, steps);
     } else {

@@ -4,82 +4,35 @@
 // are missing, too long or no numbers are spoken of on standard error, and nothing else is.
 #![tactic(auto)]
 
-ghost use Rattle.std.specs.Prelude.{◌+◌, ◌<◌, ◌≤◌, length};
-
 use game::{FaultFound, First};
 use net::Net;
 use net_io::arguments::{number_argument, number_of};
-use net_io::{read_full, say, write, write_number, write_refused};
+use net_io::{read_full, say, text_room, write_refused};
 use refusals::Refusal;
 use std::env::Env;
 
-fn write_first(rt: &HostRuntime, first: Option<First>) {
-    match first {
-        None => write(rt, b"(game no "),
-        Some(First::Already) => write(rt, b"(game already "),
-        Some(First::Passes) => write(rt, b"(game pass "),
-        Some(First::Fires(j)) => {
-            write(rt, b"(game fires ");
-            write_number(rt, j as u64);
-            write(rt, b" ");
-        }
-    }
-}
-
+// That the line cannot be written goes unsaid.
 fn write_answer(rt: &HostRuntime, answer: Result<FaultFound, Refusal>) {
     match answer {
         Err(c) => write_refused(rt, c.number(), 0),
-        Ok(found) => {
-            write_first(rt, found.first);
-            write_number(rt, found.examined);
-            write(rt, b")\n");
+        Ok(r) => {
+            let examined = r.examined;
+            let _ = match r.first {
+                None => println!(rt; "(game no {examined})"),
+                Some(First::Already) => println!(rt; "(game already {examined})"),
+                Some(First::Passes) => println!(rt; "(game pass {examined})"),
+                Some(First::Fires(j)) => println!(rt; "(game fires {j} {examined})"),
+            };
         }
     }
-}
-
-// Are the bytes from `from` on those of the name?
-fn same(label: &[u8], from: usize, name: &[u8]) -> bool
-    requires { from + length name.now ≤ length label.now }
-{
-    let mut i = 0usize;
-    while i < name.len() {
-        if label[from + i] != name[i] {
-            return false;
-        }
-        i += 1;
-    }
-    true
-}
-
-fn is_label<'a>(label: &'a [u8; 512], lengths: &'a [usize; 32], p: usize, name: &[u8]) -> bool
-    requires { p < 32 }
-{
-    let n = name.len();
-    if 16 < n {
-        return false;
-    }
-    if lengths[p] != n {
-        return false;
-    }
-    let bytes: &[u8] = label;
-    same(bytes, 16 * p, name)
 }
 
 // The place with this label, else the place with this number, else 32, which no net has.
-fn place_of<'a>(
-    places: usize,
-    label: &'a [u8; 512],
-    lengths: &'a [usize; 32],
-    name: &[u8],
-) -> usize {
-    let mut p = 0usize;
-    while p < 32 {
-        if p < places {
-            if is_label(label, lengths, p, name) {
-                return p;
-            }
+fn place_of(net: &Net, name: &[u8]) -> usize {
+    for p in 0..net.places {
+        if net::label_of(&net.label, &net.lengths, p) == name {
+            return p;
         }
-        p += 1;
     }
     match number_of(name) {
         Some(n) => n as usize,
@@ -89,68 +42,36 @@ fn place_of<'a>(
 
 // The number of a letter's side; 2, which no side has, for any other letter.
 fn side(letter: u8) -> u64 {
-    if letter == b'f' {
-        return 0;
-    }
-    if letter == b'r' {
-        return 1;
-    }
-    2
-}
-
-fn read_sides(letters: &[u8; 65], sides: &mut [u64; 65]) {
-    for j in 0..65usize {
-        sides[j] = side(letters[j]);
+    match letter {
+        b'f' => 0,
+        b'r' => 1,
+        _ => 2,
     }
 }
 
-// The game with the first n of the sides.
-fn play(rt: &HostRuntime, net: Net, n: usize, sides: &[u64], place: usize, count: u64, turns: u64) {
-    if n <= sides.len() {
-        write_answer(rt, game::game(net, &sides[..n], place, count, turns));
-    }
-}
-
-fn play_all(
-    rt: &HostRuntime,
-    net: Net,
-    n: usize,
-    sides: &[u64; 65],
-    place: usize,
-    count: u64,
-    turns: u64,
-) {
-    play(rt, net, n, sides, place, count, turns);
-}
-
-fn search(
-    rt: &HostRuntime,
-    net: Net,
-    n: usize,
-    letters: &[u8; 65],
-    name: &[u8],
-    count: u64,
-    turns: u64,
-) {
+fn search(rt: &HostRuntime, net: &Net, letters: &[u8], name: &[u8], count: u64, turns: u64) {
     let mut sides = [0u64; 65];
-    read_sides(letters, &mut sides);
-    let place = place_of(net.places, &net.label, &net.lengths, name);
-    play_all(rt, net, n, &sides, place, count, turns);
+    for (s, letter) in sides.iter_mut().zip(letters) {
+        *s = side(*letter);
+    }
+    if letters.len() <= 65 {
+        let answer = game::game(
+            &net.lent(),
+            &sides[..letters.len()],
+            place_of(net, name),
+            count,
+            turns,
+        );
+        write_answer(rt, answer);
+    }
 }
 
 // Reads the net and asks. A text of more than 8,192 bytes is too long, and known by one byte more.
-fn read_and_search(
-    rt: &HostRuntime,
-    n: usize,
-    letters: &[u8; 65],
-    name: &[u8],
-    count: u64,
-    turns: u64,
-) {
-    let mut text = [0u8; 8193];
-    let t = read_full(rt, &mut text);
+fn read_and_search(rt: &HostRuntime, letters: &[u8], name: &[u8], count: u64, turns: u64) {
+    let mut text = text_room();
+    let t = read_full(&mut rt.stdin(), &mut text);
     match net_text::read_net(&text[..t]) {
-        Ok(read) => search(rt, read.net, n, letters, name, count, turns),
+        Ok(read) => search(rt, &read.net, letters, name, count, turns),
         Err(down) => write_refused(rt, down.refusal.number(), down.line),
     }
 }
@@ -170,13 +91,10 @@ fn main(rt: HostRuntime) {
         usage(&rt);
         return;
     };
-    let Some(count) = number_argument(&rt, 3) else {
-        usage(&rt);
-        return;
-    };
-    let Some(turns) = number_argument(&rt, 4) else {
-        usage(&rt);
-        return;
-    };
-    read_and_search(&rt, n, &letters, &name[..m], count, turns);
+    match (number_argument(&rt, 3), number_argument(&rt, 4)) {
+        (Some(count), Some(turns)) => {
+            read_and_search(&rt, &letters[..n], &name[..m], count, turns)
+        }
+        _ => usage(&rt),
+    }
 }

@@ -16,7 +16,7 @@ fn number(v: Result<(), Refusal>) -> u64 {
 
 fn show(rt: &impl Print, what: &[u8], n: Net) -> io::Result<()> {
     rt.write_all(what)?;
-    let answer = number(net::test_net(n));
+    let answer = number(net::test_net(&n.lent()));
     println!(rt; ": {answer}")
 }
 
@@ -29,13 +29,11 @@ fn digit(d: usize) -> u8
 // Labels of three bytes, q00 to q31, each with letters behind its bytes.
 fn names() -> [u8; 512] {
     let mut label = [97u8; 512];
-    let mut p: usize = 0;
-    while p < 32 {
+    for p in 0..32 {
         let at = 16 * p;
         label[at] = 113;
         label[at + 1] = digit(p / 10);
         label[at + 2] = digit(p % 10);
-        p += 1;
     }
     label
 }
@@ -118,7 +116,7 @@ fn full() -> Net {
         transitions: 64,
         initial: [0; 32],
         capacity: [0; 32],
-        label: label,
+        label,
         lengths: [3; 32],
         rate: [0.0; 64],
         delay: [0.0; 64],

@@ -1,5 +1,5 @@
 // Numbers as a program is given them in its arguments. specs/Digits says what one is.
-ghost use Rattle.std.specs.Prelude.{◌≡◌, ℕ, ◌+◌, ◌-◌, ◌*◌, ◌≤◌};
+ghost use Rattle.std.specs.Prelude.{◌≡◌, ℕ, ◌+◌, ◌-◌, ◌*◌, ◌≤◌, length};
 ghost use Rattle.net_io.specs.Digits as Spec;
 
 use std::env::{Env, FillError};
@@ -49,4 +49,17 @@ pub fn number_argument(rt: &HostRuntime, i: usize) -> Option<u64> {
 pub fn is_given(rt: &HostRuntime, i: usize) -> bool {
     let mut room = [0u8; 1];
     !matches!(rt.arg(i, &mut room), Err(FillError::NotPresent))
+}
+
+// Where what begins at `from` ends in a list: at this mark, or with the list.
+pub fn end_of(list: &[u8], from: usize, mark: u8) -> usize
+    requires { from ≤ length list.now }
+    ensures { (from ≤ result) × (result ≤ length list.now) }
+{
+    for i in from..list.len() {
+        if list[i] == mark {
+            return i;
+        }
+    }
+    list.len()
 }

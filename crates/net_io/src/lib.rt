@@ -64,12 +64,12 @@ pub fn read_input(rt: &HostRuntime, text: &mut [u8]) -> io::Result<usize>
     Ok(n)
 }
 
-// Reads standard input until it ends, the text is full or a read fails.
-pub fn read_full(rt: &HostRuntime, text: &mut [u8]) -> usize
+// Reads until the input ends, the text is full or a read fails, and answers how many bytes it read.
+pub fn read_full(input: &mut impl Read, text: &mut [u8]) -> usize
     ensures { (length text.new ≡ length text.old) × (result ≤ length text.old) }
 {
     let mut n = 0;
-    let _ = read_on(&mut rt.stdin(), text, &mut n);
+    let _ = read_on(input, text, &mut n);
     n
 }
 

@@ -4,88 +4,20 @@
 // instants.
 #![tactic(auto)]
 
-use net::Net;
-use net_text::float_of;
 use replay_io::{
-    next_number, number, read_net, shown, size, write, write_cells, write_number, write_word,
+    next_number, number, read_generator, read_instants, read_net, shown, size, write, write_cells,
+    write_end, write_generator, write_number,
 };
-use rng::Xoshiro256;
-use ssa::{PathAnswer, PathEnd};
+use ssa::PathAnswer;
 use std::io::{self, Read};
 
-fn read_generator(input: &mut impl Read) -> Xoshiro256 {
-    let a = number(input);
-    let b = number(input);
-    let c = number(input);
-    let d = number(input);
-    Xoshiro256::from_state([a, b, c, d])
-}
-
-fn read_instants(input: &mut impl Read, n: usize, instants: &mut [f64; 2048]) {
-    for i in 0..2048usize {
-        if i < n {
-            instants[i] = float_of(number(input));
-        }
-    }
-}
-
-fn write_end(rt: &impl Print, end: PathEnd) -> io::Result<()> {
-    match end {
-        PathEnd::Quiet => write(rt, b"quiet"),
-        PathEnd::Spent => write(rt, b"spent"),
-        PathEnd::Reached => write(rt, b"reached"),
-        PathEnd::Halted => write(rt, b"halted"),
-        PathEnd::Refused(c) => {
-            write(rt, b"refused")?;
-            write_number(rt, c)
-        }
-    }
-}
-
-fn write_state(rt: &impl Print, s: [u64; 4]) -> io::Result<()> {
-    write_word(rt, s[0])?;
-    write_word(rt, s[1])?;
-    write_word(rt, s[2])?;
-    write_word(rt, s[3])
-}
-
 fn write_answer(rt: &impl Print, r: PathAnswer) -> io::Result<()> {
-    let end = r.end;
-    write_end(rt, end)?;
+    write_end(rt, r.end)?;
     write_number(rt, r.steps)?;
     write_number(rt, r.settled)?;
     write_number(rt, r.peak)?;
     write_number(rt, r.rounded)?;
-    let generator = r.generator;
-    write_state(rt, generator.state())
-}
-
-// The path to the first n of the instants.
-fn path(
-    rt: &impl Print,
-    net: Net,
-    generator: Xoshiro256,
-    n: usize,
-    instants: &[f64],
-    limit: u64,
-    table: &mut [f64],
-) -> io::Result<()> {
-    if n <= instants.len() {
-        write_answer(rt, ssa::path(net, generator, &instants[..n], limit, table))?;
-    }
-    Ok(())
-}
-
-fn answer(
-    rt: &impl Print,
-    net: Net,
-    generator: Xoshiro256,
-    n: usize,
-    instants: &[f64; 2048],
-    limit: u64,
-    table: &mut [f64; 2048],
-) -> io::Result<()> {
-    path(rt, net, generator, n, instants, limit, table)
+    write_generator(rt, r.generator)
 }
 
 fn play(rt: &impl Print, input: &mut impl Read, places: usize) -> io::Result<()> {
@@ -96,26 +28,21 @@ fn play(rt: &impl Print, input: &mut impl Read, places: usize) -> io::Result<()>
     let mut instants = [0.0f64; 2048];
     read_instants(input, n, &mut instants);
     let mut table = [7.0f64; 2048];
-    answer(rt, net, generator, n, &instants, limit, &mut table)?;
+    if n <= 2048 {
+        let r = ssa::path(&net.lent(), generator, &instants[..n], limit, &mut table);
+        write_answer(rt, r)?;
+    }
     write_cells(rt, shown(places, n), &table)?;
     write(rt, b"\n")
 }
 
-// Plays a case, if there is one.
-fn turn(rt: &impl Print, input: &mut impl Read) -> io::Result<bool> {
-    let places = next_number(input);
-    if !places.there {
-        return Ok(false);
-    }
-    play(rt, input, places.value as usize)?;
-    Ok(true)
-}
-
 fn main(rt: HostRuntime) -> io::Result<()> {
     let mut input = rt.stdin();
-    let mut turns = u64::MAX;
-    while turns > 0 && turn(&rt, &mut input)? {
-        turns -= 1;
+    for _ in 0..u64::MAX {
+        let Some(places) = next_number(&mut input) else {
+            return Ok(());
+        };
+        play(&rt, &mut input, places as usize)?;
     }
     Ok(())
 }

@@ -3,50 +3,23 @@
 // n and u draw from it.
 #![tactic(auto)]
 
-ghost use Rattle.std.specs.Prelude.{◌≤◌};
-
+use net_io::read_full;
 use net_text::float_of;
+use replay_io::{put_float, word};
 use rng::Xoshiro256;
 use std::io::{self, Read};
 
-fn end(rt: &impl Print) -> io::Result<()> {
-    rt.write_all(b"\n")
-}
-
-fn space(rt: &impl Print) -> io::Result<()> {
-    rt.write_all(b" ")
-}
-
-fn print_word(rt: &impl Print, n: u64) -> io::Result<()> {
-    print!(rt; "{n:016x}")
-}
-
-fn print_float(rt: &impl Print, x: f64) -> io::Result<()> {
-    if x != x {
-        rt.write_all(b"nan")
-    } else {
-        print_word(rt, f64::to_bits(x))
-    }
-}
-
 fn word_line(rt: &impl Print, n: u64) -> io::Result<()> {
-    print_word(rt, n)?;
-    end(rt)
+    println!(rt; "{n:016x}")
 }
 
 fn float_line(rt: &impl Print, x: f64) -> io::Result<()> {
-    print_float(rt, x)?;
-    end(rt)
+    put_float(rt, x)?;
+    rt.write_all(b"\n")
 }
 
 fn state_line(rt: &impl Print, s: [u64; 4]) -> io::Result<()> {
-    print_word(rt, s[0])?;
-    space(rt)?;
-    print_word(rt, s[1])?;
-    space(rt)?;
-    print_word(rt, s[2])?;
-    space(rt)?;
-    word_line(rt, s[3])
+    println!(rt; "{:016x} {:016x} {:016x} {:016x}", s[0], s[1], s[2], s[3])
 }
 
 fn ways_line(rt: &impl Print, ways: Option<f64>) -> io::Result<()> {
@@ -59,32 +32,9 @@ fn ways_line(rt: &impl Print, ways: Option<f64>) -> io::Result<()> {
 // The exponent is written as a float too.
 fn parts_line(rt: &impl Print, x: f64) -> io::Result<()> {
     let p = portable_log::frexp(x);
-    print_float(rt, p.frac)?;
-    space(rt)?;
+    put_float(rt, p.frac)?;
+    rt.write_all(b" ")?;
     float_line(rt, p.exp as f64)
-}
-
-fn digit(b: u8) -> u64 {
-    if b >= b'a' {
-        return (b - b'a') as u64 + 10;
-    }
-    if b >= b'0' {
-        return (b - b'0') as u64;
-    }
-    0
-}
-
-// The word whose digits begin at `at`.
-fn word(text: &[u8; 36], at: usize) -> u64
-    requires { at ≤ 20 }
-{
-    let mut n = 0u64;
-    let mut i = 0usize;
-    while i < 16 {
-        n = (n << 4) | digit(text[at + i]);
-        i += 1;
-    }
-    n
 }
 
 // The whole number that n gives.
@@ -94,15 +44,13 @@ fn signed(n: u64) -> i64 {
 
 fn output(rt: &impl Print, state: &mut [u64; 4]) -> io::Result<()> {
     let drawn = Xoshiro256::from_state(*state).next_u64();
-    let rng = drawn.rng;
-    *state = rng.state();
+    *state = drawn.rng.state();
     word_line(rt, drawn.value)
 }
 
 fn uniform(rt: &impl Print, state: &mut [u64; 4]) -> io::Result<()> {
     let drawn = Xoshiro256::from_state(*state).uniform();
-    let rng = drawn.rng;
-    *state = rng.state();
+    *state = drawn.rng.state();
     float_line(rt, drawn.value)
 }
 
@@ -125,40 +73,22 @@ fn answer(rt: &impl Print, letter: u8, a: u64, b: u64, state: &mut [u64; 4]) -> 
         b'q' => float_line(rt, root::sqrt(float_of(a))),
         b'c' => ways_line(rt, combinations::combinations(signed(a), signed(b)).map(|c| c.value)),
         b'd' => ways_line(rt, combinations::combinations_real(float_of(a), signed(b))),
-        _ => end(rt),
+        _ => rt.write_all(b"\n"),
     }
 }
 
-// Reads until the bytes are full, the input ends or a read fails; how many were read.
-fn read_full(input: &mut impl Read, text: &mut [u8]) -> usize {
-    let mut done = 0usize;
-    while done < text.len() {
-        let n = input.read(&mut text[done..]).unwrap_or(0);
-        if n == 0 {
-            return done;
-        }
-        done += n;
-    }
-    done
-}
-
-// Reads a line, if there is one, and answers it.
-fn turn(rt: &impl Print, input: &mut impl Read, state: &mut [u64; 4]) -> io::Result<bool> {
-    let mut text = [0u8; 36];
-    let n = read_full(input, &mut text);
-    if n < 36 {
-        return Ok(false);
-    }
-    answer(rt, text[0], word(&text, 2), word(&text, 19), state)?;
-    Ok(true)
-}
-
+// Answers the lines, as long as there is one.
 fn main(rt: HostRuntime) -> io::Result<()> {
     let mut input = rt.stdin();
     let mut state = [0u64; 4];
-    let mut turns = u64::MAX;
-    while turns > 0 && turn(&rt, &mut input, &mut state)? {
-        turns -= 1;
+    for _ in 0..u64::MAX {
+        let mut text = [0u8; 36];
+        if read_full(&mut input, &mut text) < 36 {
+            return Ok(());
+        }
+        let a = word(&text[2..18]);
+        let b = word(&text[19..35]);
+        answer(&rt, text[0], a, b, &mut state)?;
     }
     Ok(())
 }

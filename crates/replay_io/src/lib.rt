@@ -4,76 +4,54 @@
 // place and weight of each. No more is read than a net has room for.
 #![tactic(auto)]
 
-ghost use Rattle.std.specs.Prelude.{◌≡◌, false, ◌+◌, ◌*◌, ◌≤◌, ltb};
+ghost use Rattle.std.specs.Prelude.{◌≡◌, ◌+◌, ◌*◌, ◌≤◌, ltb, length, MatchOption};
 ghost use Rattle.net.specs.Net.{pick};
 
 use net::Net;
+use net_io::read_full;
 use net_text::float_of;
+use playing::PathEnd;
+use rng::Xoshiro256;
 use std::io::{self, Read};
-
-// A number of the input, or that there is none left.
-#[derive(Clone, Copy)]
-pub struct Found {
-    pub there: bool,
-    pub value: u64,
-}
 
 fn digit(b: u8) -> u64 {
     if b >= b'a' {
-        return (b - b'a') as u64 + 10;
+        return u64::from(b - b'a') + 10;
     }
     if b >= b'0' {
-        return (b - b'0') as u64;
+        return u64::from(b - b'0');
     }
     0
 }
 
 // The value of sixteen digits.
-fn word(text: &[u8; 17]) -> u64 {
-    let mut n = 0u64;
-    let mut i = 0usize;
-    while i < 16 {
-        n = (n << 4) | digit(text[i]);
-        i += 1;
+pub fn word(digits: &[u8]) -> u64 {
+    let mut n = 0;
+    for b in digits {
+        n = (n << 4) | digit(*b);
     }
     n
 }
 
-// Reads until the bytes are full, the input ends or a read fails; how many were read.
-fn read_full(input: &mut impl Read, text: &mut [u8]) -> usize {
-    let mut done = 0usize;
-    while done < text.len() {
-        let n = input.read(&mut text[done..]).unwrap_or(0);
-        if n == 0 {
-            return done;
-        }
-        done += n;
+// The next number of the input, if one is left.
+pub fn next_number(input: &mut impl Read) -> Option<u64> {
+    let mut text = [0u8; 17];
+    if read_full(input, &mut text) < 17 {
+        return None;
     }
-    done
+    Some(word(&text[..16]))
 }
 
-// What is read no rule says; where no number is left the value is 0.
-pub fn next_number(input: &mut impl Read) -> Found
-    ensures { result.there ≡ false → result.value ≡ 0 }
+// A number that was found, 0 where there was none.
+fn or_zero(found: Option<u64>) -> u64
+    ensures { MatchOption found (result ≡ 0) (λ n. result ≡ n) }
 {
-    let mut text = [0u8; 17];
-    let n = read_full(input, &mut text);
-    if n < 17 {
-        return Found {
-            there: false,
-            value: 0,
-        };
-    }
-    Found {
-        there: true,
-        value: word(&text),
-    }
+    found.unwrap_or(0)
 }
 
 // The next number, 0 where there is none.
 pub fn number(input: &mut impl Read) -> u64 {
-    let n = next_number(input);
-    n.value
+    or_zero(next_number(input))
 }
 
 pub fn size(input: &mut impl Read) -> usize {
@@ -84,72 +62,37 @@ pub fn size(input: &mut impl Read) -> usize {
 fn put_bytes(n: u64, from: usize, label: &mut [u8; 512])
     requires { from ≤ 504 }
 {
-    let mut rest = n;
-    for i in 0..8usize {
-        label[from + (7 - i)] = (rest % 256) as u8;
-        rest = rest / 256;
-    }
+    label[from..from + 8].copy_from_slice(&n.to_be_bytes());
 }
 
-fn read_places(
-    input: &mut impl Read,
-    n: usize,
-    initial: &mut [u64; 32],
-    capacity: &mut [u64; 32],
-    label: &mut [u8; 512],
-    lengths: &mut [usize; 32],
-) {
-    for p in 0..32usize {
-        if p < n {
-            initial[p] = number(input);
-            capacity[p] = number(input);
-            lengths[p] = size(input);
-            let from = 16 * p;
-            put_bytes(number(input), from, label);
-            put_bytes(number(input), from + 8, label);
-        }
+fn read_places(input: &mut impl Read, n: usize, net: &mut Net) {
+    for p in 0..n.min(32) {
+        net.initial[p] = number(input);
+        net.capacity[p] = number(input);
+        net.lengths[p] = size(input);
+        put_bytes(number(input), 16 * p, &mut net.label);
+        put_bytes(number(input), 16 * p + 8, &mut net.label);
     }
 }
 
 // Reads the arcs of the transition whose slots begin at `from`.
-fn read_arcs(
-    input: &mut impl Read,
-    n: usize,
-    from: usize,
-    kind: &mut [u64; 1024],
-    place: &mut [usize; 1024],
-    weight: &mut [u64; 1024],
-)
+fn read_arcs(input: &mut impl Read, n: usize, from: usize, net: &mut Net)
     requires { from ≤ 1008 }
 {
-    for i in 0..16usize {
-        if i < n {
-            let slot = from + i;
-            kind[slot] = number(input);
-            place[slot] = size(input);
-            weight[slot] = number(input);
-        }
+    for slot in from..from + n.min(16) {
+        net.kind[slot] = number(input);
+        net.place[slot] = size(input);
+        net.weight[slot] = number(input);
     }
 }
 
-fn read_transitions(
-    input: &mut impl Read,
-    n: usize,
-    rate: &mut [f64; 64],
-    delay: &mut [f64; 64],
-    arcs: &mut [usize; 64],
-    kind: &mut [u64; 1024],
-    place: &mut [usize; 1024],
-    weight: &mut [u64; 1024],
-) {
-    for j in 0..64usize {
-        if j < n {
-            rate[j] = float_of(number(input));
-            delay[j] = float_of(number(input));
-            let count = size(input);
-            arcs[j] = count;
-            read_arcs(input, count, 16 * j, kind, place, weight);
-        }
+fn read_transitions(input: &mut impl Read, n: usize, net: &mut Net) {
+    for j in 0..n.min(64) {
+        net.rate[j] = float_of(number(input));
+        net.delay[j] = float_of(number(input));
+        let arcs = size(input);
+        net.arcs[j] = arcs;
+        read_arcs(input, arcs, 16 * j, net);
     }
 }
 
@@ -157,48 +100,27 @@ fn read_transitions(
 pub fn read_net(input: &mut impl Read, places: usize) -> Net
     ensures { result.places ≡ places }
 {
+    let mut net = net::empty();
     let transitions = size(input);
-    let mut initial = [0u64; 32];
-    let mut capacity = [0u64; 32];
-    let mut label = [0u8; 512];
-    let mut lengths = [0usize; 32];
-    let mut rate = [0.0f64; 64];
-    let mut delay = [0.0f64; 64];
-    let mut arcs = [0usize; 64];
-    let mut kind = [0u64; 1024];
-    let mut place = [0usize; 1024];
-    let mut weight = [0u64; 1024];
-    read_places(
-        input,
-        places,
-        &mut initial,
-        &mut capacity,
-        &mut label,
-        &mut lengths,
-    );
-    read_transitions(
-        input,
-        transitions,
-        &mut rate,
-        &mut delay,
-        &mut arcs,
-        &mut kind,
-        &mut place,
-        &mut weight,
-    );
-    Net {
-        places: places,
-        transitions: transitions,
-        initial: initial,
-        capacity: capacity,
-        label: label,
-        lengths: lengths,
-        rate: rate,
-        delay: delay,
-        arcs: arcs,
-        kind: kind,
-        place: place,
-        weight: weight,
+    net.transitions = transitions;
+    read_places(input, places, &mut net);
+    read_transitions(input, transitions, &mut net);
+    net.places = places;
+    net
+}
+
+pub fn read_generator(input: &mut impl Read) -> Xoshiro256 {
+    let a = number(input);
+    let b = number(input);
+    let c = number(input);
+    let d = number(input);
+    Xoshiro256::from_state([a, b, c, d])
+}
+
+// The first n instants, of as many as there is room for.
+pub fn read_instants(input: &mut impl Read, n: usize, instants: &mut [f64; 2048]) {
+    for i in 0..n.min(2048) {
+        instants[i] = float_of(number(input));
     }
 }
 
@@ -215,20 +137,43 @@ pub fn write_word(rt: &impl Print, n: u64) -> io::Result<()> {
 }
 
 // A float by its bits, any NaN as nan.
-pub fn write_float(rt: &impl Print, x: f64) -> io::Result<()> {
+pub fn put_float(rt: &impl Print, x: f64) -> io::Result<()> {
     if x != x {
-        write(rt, b" nan")
-    } else {
-        write_word(rt, f64::to_bits(x))
+        return write(rt, b"nan");
+    }
+    let bits = x.to_bits();
+    print!(rt; "{bits:016x}")
+}
+
+pub fn write_float(rt: &impl Print, x: f64) -> io::Result<()> {
+    write(rt, b" ")?;
+    put_float(rt, x)
+}
+
+pub fn write_generator(rt: &impl Print, generator: Xoshiro256) -> io::Result<()> {
+    for n in generator.state() {
+        write_word(rt, n)?;
+    }
+    Ok(())
+}
+
+pub fn write_end(rt: &impl Print, end: PathEnd) -> io::Result<()> {
+    match end {
+        PathEnd::Quiet => write(rt, b"quiet"),
+        PathEnd::Spent => write(rt, b"spent"),
+        PathEnd::Reached => write(rt, b"reached"),
+        PathEnd::Halted => write(rt, b"halted"),
+        PathEnd::Refused(c) => {
+            let number = c.number();
+            print!(rt; "refused {number}")
+        }
     }
 }
 
 // The first n cells, at most 2,048, by their bits.
 pub fn write_cells(rt: &impl Print, n: usize, table: &[f64; 2048]) -> io::Result<()> {
-    for i in 0..2048usize {
-        if i < n {
-            write_float(rt, table[i])?;
-        }
+    for x in &table[..n.min(2048)] {
+        write_float(rt, *x)?;
     }
     Ok(())
 }
