@@ -1,7 +1,7 @@
 -- Each return is the smaller of the count and what the slot wants, by the tests on the way. Assumes nothing.
 use native.Mathlib.Omega.{arith}
 use mathlib.Core.Path.{◌≡◌}
-use borrow.Author.Tests.{le-leb, lt-leb}
+use borrow.Author.Tests.{lt-leb}
 use Rattle.engine.proofs.Marks.{takes}
 use Rattle.engine.proofs.marking.taken_from.Goals as goal
 

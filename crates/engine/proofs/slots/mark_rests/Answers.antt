@@ -1,8 +1,7 @@
 -- The table says of every slot its limit, or that a test may end there; from transition j on it is as it was. Assumes nothing.
 use native.Mathlib.Omega.{arith}
-use mathlib.Core.Path.{refl, ◌∙◌}
+use mathlib.Core.Path.{◌∙◌}
 use mathlib.Core.Logic.{inr}
-use Rattle.engine.specs.Limits.{its}
 use Rattle.engine.proofs.Limits.{says_more}
 use Rattle.engine.proofs.slots.mark_rests.Goals as goal
 

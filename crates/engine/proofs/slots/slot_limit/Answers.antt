@@ -1,7 +1,5 @@
 -- A slot that is no put has the limit of its arc, and one at a place without a capacity none. For any other put, the parts that the code works out are those of
 -- the definition (Limits, limit-free and limit-made). Assumes nothing.
-use native.Mathlib.Omega.{arith}
-use Prim.Native.Nat.{◌/◌}
 use borrow.Author.Tests.{ne_eqb}
 use Rattle.net.specs.Record.{net_of}
 use Rattle.engine.proofs.Limits.{limit_made, limit_free}
