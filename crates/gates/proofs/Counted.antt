@@ -19,11 +19,11 @@ use Rattle.gates.specs.Slots.{one_if, count_if, count_from}
 
 -- ---- slot by slot
 
-module _ (f : ℕ → Bool) (k p w : List ℕ) where
-  one_most : (b : Bool) → one_if b ≤ 1
-  one_most true = omega arith
-  one_most false = omega arith
+pub one_most : (b : Bool) → one_if b ≤ 1
+one_most true = omega arith
+one_most false = omega arith
 
+module _ (f : ℕ → Bool) (k p w : List ℕ) where
   pub count_most : (a n : ℕ) → count_if f (slots k p w a n) ≤ n
   count_most a zero = omega arith
   count_most a (suc n) = omega (arith, one_most (f (get_or k a 0)), count_most (a + 1) n)

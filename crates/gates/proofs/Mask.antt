@@ -20,11 +20,7 @@ use Rattle.gates.specs.Slots.{one_if, count_from, bounded_at, mask_from}
 use Rattle.engine.specs.Engine.{any_timed}
 use Rattle.engine.proofs.Arcs.{on_bool}
 use Rattle.engine.proofs.Lists.{above_from, above_all}
-use Rattle.gates.proofs.Counted.{reads_all, inhibitors_all, non_kinetic_all}
-
-pub one_most : (b : Bool) → one_if b ≤ 1
-one_most true = omega arith
-one_most false = omega arith
+use Rattle.gates.proofs.Counted.{one_most, reads_all, inhibitors_all, non_kinetic_all}
 
 -- ---- bits
 

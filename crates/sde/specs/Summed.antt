@@ -1,7 +1,6 @@
 -- What the paths of a call leave, before means and deviations are made of their sums. It serves the private functions; the rules are in Call.
-use Rattle.std.specs.Prelude.{ℕ, ◌<◌, ◌≡◌, List, ◌++◌, length, drop, Float, Result, Ok, Err}
+use Rattle.std.specs.Prelude.{ℕ, ◌≡◌, List, ◌++◌, length, drop, Float, Result, Ok, Err}
 use Rattle.refusals.specs.Number.{number_of}
-use Rattle.refusals.specs.declared.Refusal.{Refusal as RefusalEnum}
 use Rattle.net.specs.Net.{Net, zero64}
 use Rattle.averages.specs.Request.{seed_of}
 use Rattle.averages.specs.Moments.{plus, plus_square, summed_up, table_by}

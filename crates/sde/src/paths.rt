@@ -1,4 +1,5 @@
-// The paths of a call, their means and deviations. The sums stand in the mean and the deviation table while the paths run.
+// The paths of a call, their means and deviations. The sums stand in the mean and the deviation table while the paths run. The three tables are no struct:
+// `diffuse` is lent them apart, as `cild_diffusion` is, and each clause would name them by a struct's entry and exit.
 ghost use Rattle.std.specs.Prelude.{◌≡◌, not, ◌*◌, ◌≤◌, eqb, Float, length};
 ghost use Rattle.net.specs.Net as Reader;
 ghost use Rattle.net.specs.Readable as Record;

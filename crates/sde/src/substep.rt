@@ -21,7 +21,7 @@ pub struct State {
     pub sampler: GaussianSampler,
 }
 
-// The noise and the drift of transition j of propensity a, at the places that it changes.
+// The noise and the drift of transition j of propensity a, at the places that it changes. No `for`: the table of skips says which place is next.
 fn spread(run: &Run, j: usize, a: f64, noise: f64, state: &mut State)
     requires { j < run.now.net.transitions }
     ensures { let places = run.now.net.places in Arrays.Mapped places (λ p. Diffusion.noise_by (get_or run.now.changes.now (32 * j + p) nan) noise) state.old.x state.new.x

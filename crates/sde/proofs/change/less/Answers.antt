@@ -1,6 +1,6 @@
 -- Each arm is the arm of the definition that the tests leave. Assumes nothing.
 use native.Mathlib.Omega.{arith}
-use borrow.Author.Tests.{eq-eqb, ne_eqb, le-leb, lt-leb}
+use borrow.Author.Tests.{eq-eqb, le-leb}
 use Rattle.combinations.proofs.Product.{in_f64}
 use Rattle.engine.proofs.Arcs.{amount_most}
 use Rattle.sde.proofs.change.less.Goals as goal

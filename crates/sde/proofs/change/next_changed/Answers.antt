@@ -1,5 +1,5 @@
 -- No place from p to before q is changed; the test, or the end of the places, says the rest. Assumes nothing.
-use Rattle.std.proofs.Common.{arith, refl}
+use Rattle.std.proofs.Common.{refl}
 use Rattle.sde.proofs.Skips.{is_zero, no_zero, idle_none, idle_more, skip_here, skip_end}
 use Rattle.sde.proofs.change.next_changed.Goals as goal
 

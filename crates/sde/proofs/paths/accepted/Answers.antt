@@ -1,5 +1,5 @@
 -- What gates the net, or the paths with its rates tidied, the tables of changes, skips and ends and the width of a substep. Assumes nothing.
-use Rattle.std.proofs.Common.{◌*◌, refl, ap, ◌∙◌, arith}
+use Rattle.std.proofs.Common.{◌*◌, ap, ◌∙◌, arith}
 use Rattle.net.specs.Record.{net_of}
 use Rattle.sde.specs.Call.{tabulated}
 use Rattle.sde.proofs.Rates.{rated, tidied_sound, members_made}

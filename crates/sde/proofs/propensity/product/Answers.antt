@@ -1,7 +1,6 @@
 -- A kinetic take is a factor, and no other slot is. Assumes nothing.
-use Rattle.std.proofs.Common.{◌≡◌, true, false, get_or, take, sym, refl, ap, ◌∙◌, arith}
-use Rattle.std.specs.Float.{nan}
-use Rattle.sde.proofs.Factors.{left, factor, no_factor, factors_end, value_at}
+use Rattle.std.proofs.Common.{true, false, get_or, take, sym, ◌∙◌}
+use Rattle.sde.proofs.Factors.{factor, no_factor, factors_end, value_at}
 use Rattle.sde.proofs.propensity.product.Goals as goal
 use Rattle.sde.proofs.propensity.product.Goals.{then-net-s-eq-KINETIC_TAKE+else-a, else-net-s-eq-KINETIC_TAKE}
 

@@ -1,5 +1,5 @@
 -- The factors that are left, on top of a, come to the whole. Assumes nothing.
-use Rattle.std.proofs.Common.{◌≡◌, ℕ, ◌-◌, ◌≤◌, take}
+use Rattle.std.proofs.Common.{◌≡◌, ◌-◌, take}
 use Rattle.net.specs.Readable.{slots}
 use Rattle.sde.proofs.Factors.{left}
 use Rattle.sde.proofs.propensity.product.Given as goal

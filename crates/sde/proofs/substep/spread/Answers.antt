@@ -1,8 +1,7 @@
 -- State and drift below p have the transition's noise and drift: a skip steps over places that both leave as they are, to one that is changed.
 -- Assumes nothing.
-use Rattle.std.proofs.Common.{◌≡◌, ◌+◌, ◌*◌, length, get_or, set, arith, refl, subst}
+use Rattle.std.proofs.Common.{◌≡◌, ◌+◌, ◌*◌, get_or, set, arith, refl}
 use lib.Ieee.{nan, binary64, add, mul}
-use Rattle.sde.specs.Slots.{Skip}
 use Rattle.sde.proofs.Each.{map_none, map_more, map_all}
 use Rattle.sde.proofs.Skips.{skips_of, skips_first, map_skip, noise_idle, drift_idle, noise_changed, drift_changed}
 use Rattle.sde.proofs.substep.spread.Invariants.{noisy, drifting}
