@@ -6,12 +6,16 @@ ghost use Rattle.averages.specs.Front as Front;
 
 use refusals::Refusal;
 
-
 // 2^30
 const MOST_HORIZON: f64 = 1073741824.0;
 
 // The first of 8, 9 and 10 that applies.
-pub fn request_fault(samples: u64, realizations: u64, seed: u64, horizon: f64) -> Result<(), Refusal>
+pub fn request_fault(
+    samples: u64,
+    realizations: u64,
+    seed: u64,
+    horizon: f64,
+) -> Result<(), Refusal>
     ensures { Readable.meaning result ≡ Spec.request_fault (record { samples = samples; realizations = realizations; seed = seed; horizon = horizon }) }
 {
     if samples < 2 {
@@ -54,10 +58,7 @@ pub fn tables_fault(cells: usize, mean: usize, deviation: usize, path: usize) ->
 pub fn seed_of(seed: u64, k: u64) -> u64
     ensures { result ≡ Spec.seed_of seed k }
 {
-    if seed == 0 {
-        return std::num::wrapping_add_u64(1, k);
-    }
-    std::num::wrapping_add_u64(seed, k)
+    seed.max(1).wrapping_add(k)
 }
 
 // The interval of the grid.
@@ -75,13 +76,11 @@ pub fn fill_grid(samples: u32, width: f64, instants: &mut [f64])
     ensures { instants.new ≡ Front.by_number (Spec.instant width) 0 samples instants.old }
 {
     let n = instants.len();
-    let mut i: u32 = 0;
-    while i < samples {
+    for i in 0..samples {
         let c = i as usize;
         if n <= c {
             return;
         }
         instants[c] = (i as f64) * width;
-        i += 1;
     }
 }

@@ -8,7 +8,7 @@ ghost use Rattle.std.specs.Prelude.{◌≤◌, length};
 
 use net::Net;
 use net_io::arguments::number_of;
-use net_io::{Input, read_input, say, text_room, write, write_number, write_refused};
+use net_io::{read_input, say, text_room, write, write_number, write_refused};
 use net_text::Judged;
 use refusals::Refusal;
 use std::env::Env;
@@ -46,12 +46,11 @@ fn read_weights(list: &[u8], weights: &mut [u64; 33]) -> usize {
     let mut from: usize = 0;
     while from <= list.len() {
         let end = number_end(list, from);
-        let w = number_of(&list[from..end]);
-        if !w.fits {
+        let Some(w) = number_of(&list[from..end]) else {
             return 0;
-        }
+        };
         if n < 33 {
-            weights[n] = w.value;
+            weights[n] = w;
             n += 1;
         }
         from = end + 1;
@@ -84,8 +83,8 @@ fn ask_front(rt: &HostRuntime, text: &[u8], t: usize, n: usize, weights: &[u64])
 fn read_and_ask(rt: &HostRuntime, n: usize, weights: &[u64; 33]) {
     let mut text = text_room();
     match read_input(rt, &mut text) {
-        Input::Read(t) => ask_front(rt, &text, t, n, weights),
-        Input::Failed => say(rt, b"balancerun: standard input cannot be read\n"),
+        Ok(t) => ask_front(rt, &text, t, n, weights),
+        Err(_) => say(rt, b"balancerun: standard input cannot be read\n"),
     }
 }
 

@@ -8,7 +8,7 @@ ghost use Rattle.combinations.specs.Real as Real;
 ghost use Rattle.root.specs.Root.{root_of};
 ghost use Rattle.c_face.specs.Told.{is_value, or_zero, one_if_exact, is_real, real_or_zero};
 
-use combinations::{RealWays, Ways};
+use combinations::Ways;
 
 #[unsafe(no_mangle)]
 pub extern "C" fn cild_wrapping_mul(a: u64, b: u64) -> u64
@@ -66,17 +66,17 @@ pub extern "C" fn cild_combinations(m: i64, w: i64, value: &mut f64, exact: &mut
     told(combinations::combinations(m, w), value, exact)
 }
 
-fn told(ways: Ways, value: &mut f64, exact: &mut u64) -> bool
+fn told(ways: Option<Ways>, value: &mut f64, exact: &mut u64) -> bool
     ensures { (result ≡ is_value (Combinations.meaning ways)) × (value.new ≡ or_zero (Combinations.meaning ways))
         × (exact.new ≡ one_if_exact (Combinations.meaning ways)) }
 {
     match ways {
-        Ways::Value(x, e) => {
-            *value = x;
-            *exact = crate::one_if(e);
+        Some(w) => {
+            *value = w.value;
+            *exact = crate::one_if(w.exact);
             true
         }
-        Ways::Refused => {
+        None => {
             *value = 0.0;
             *exact = 0;
             false
@@ -92,15 +92,15 @@ pub extern "C" fn cild_combinations_real(x: f64, w: i64, value: &mut f64) -> boo
     told_real(combinations::combinations_real(x, w), value)
 }
 
-fn told_real(ways: RealWays, value: &mut f64) -> bool
+fn told_real(ways: Option<f64>, value: &mut f64) -> bool
     ensures { (result ≡ is_real (Real.meaning ways)) × (value.new ≡ real_or_zero (Real.meaning ways)) }
 {
     match ways {
-        RealWays::Value(x) => {
+        Some(x) => {
             *value = x;
             true
         }
-        RealWays::Refused => {
+        None => {
             *value = 0.0;
             false
         }

@@ -5,15 +5,15 @@ ghost use Rattle.reason.specs.Call as Call;
 ghost use Rattle.c_face.specs.Reasoned as Reasoned;
 
 use net::Net;
-use reason::ReasonAnswer;
+use refusals::Refusal;
 
 // The refusal's number or 0, and the text's length.
-fn reason_numbers(answer: ReasonAnswer) -> [u64; 2]
-    ensures { result ≡ Reasoned.told_of answer }
+fn reason_numbers(answer: Result<usize, Refusal>) -> [u64; 2]
+    ensures { result ≡ Reasoned.told_of (Call.told answer) }
 {
     match answer {
-        ReasonAnswer::Length(n) => [0, n as u64],
-        ReasonAnswer::TurnedDown(c) => [c, 0],
+        Ok(n) => [0, n as u64],
+        Err(c) => [c.number(), 0],
     }
 }
 

@@ -3,7 +3,7 @@ ghost use Rattle.std.specs.Prelude.{◌≡◌};
 ghost use Rattle.normals.specs.Normal.{sampler_of};
 ghost use Rattle.c_face.specs.Normals as Normals;
 
-use normals::{Draw, GaussianSampler};
+use normals::GaussianSampler;
 use rng::Xoshiro256;
 
 // How many cells were filled, and the sampler after them.
@@ -23,7 +23,7 @@ fn fill(sampler: GaussianSampler, out: &mut [f64]) -> Filled
         let drawn = s.normal();
         let draw = drawn.draw;
         let next = drawn.sampler;
-        let Draw::Value(z) = draw else {
+        let Ok(z) = draw else {
             return Filled {
                 count: i,
                 sampler: next,

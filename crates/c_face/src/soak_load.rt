@@ -3,15 +3,15 @@ ghost use Rattle.std.specs.Prelude.{◌≡◌};
 ghost use Rattle.soak.specs.Soak as Soak;
 ghost use Rattle.c_face.specs.Soaked as Soaked;
 
-use soak::Answer;
+use refusals::Refusal;
 
 // The refusal's number, or 0; the text's length.
-fn soak_numbers(answer: Answer) -> [u64; 2]
-    ensures { result ≡ Soaked.told_of answer }
+fn soak_numbers(answer: Result<usize, Refusal>) -> [u64; 2]
+    ensures { result ≡ Soaked.told_of (Soak.told answer) }
 {
     match answer {
-        Answer::Text(n) => [0, n as u64],
-        Answer::Refused(c) => [c, 0],
+        Ok(n) => [0, n as u64],
+        Err(c) => [c.number(), 0],
     }
 }
 

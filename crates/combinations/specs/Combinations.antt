@@ -1,6 +1,6 @@
 -- `combinations`: how many ways there are to choose w of m, as a float, and whether that float is exact. Document 01, "000" and "Combinations." among the
 -- turn-downs; document 02, order 6. Definitions only.
-use Rattle.std.specs.Prelude.{ℕ, zero, suc, ◌+◌, ◌^◌, Bool, true, false, ◌||◌, cond, ℤ, pos, ◌-ℤ◌, nat_abs, Float}
+use Rattle.std.specs.Prelude.{ℕ, zero, suc, ◌+◌, ◌^◌, Bool, true, false, ◌||◌, cond, ℤ, pos, ◌-ℤ◌, nat_abs, Float, Option, Some, None}
 use Rattle.std.specs.Int.Signed.{lt_z, le_z}
 use Rattle.std.specs.Float.{binary64}
 use Rattle.std.specs.Float.Ieee.{of_int, mul, div}
@@ -9,7 +9,6 @@ use Rattle.floats.specs.{float}
 pub use Rattle.floats.specs.{zero64, one64}
 use Rattle.combinations.specs.Binomial.{exact}
 use Rattle.combinations.specs.declared.Ways.{Ways}
-use Rattle.combinations.specs.declared.Ways.TheVariants.{Value, Refused}
 
 -- ---- the answer
 
@@ -23,10 +22,14 @@ abbrev pub as_flag : Answer → Bool
 as_flag (value x e) = e
 as_flag (refused c) = false
 
--- what each case of the program's answer says
-abbrev pub meaning : Ways → Answer
-meaning (Value x e) = value x e
-meaning Refused = refused Refusal.outside_domain
+-- the program's float and flag
+abbrev pub flagged : Ways → Answer
+flagged r = value r.value r.exact
+
+-- what the program's answer says: where there is none, it is refused
+abbrev pub meaning : Option Ways → Answer
+meaning (Some r) = flagged r
+meaning None = refused Refusal.outside_domain
 
 -- ---- the product
 

@@ -1,6 +1,6 @@
 -- `combinations_real`: the same product for a real x, as a float. Document 01, "001" and "Combinations." among the turn-downs. It has no flag: document 02's
 -- order 6 speaks of the integer form. And the float of the integer form alone. Definitions only.
-use Rattle.std.specs.Prelude.{ℕ, cond, ℤ, pos, nat_abs, Float}
+use Rattle.std.specs.Prelude.{ℕ, cond, ℤ, pos, nat_abs, Float, Option, Some, None}
 use Rattle.std.specs.Int.Signed.{le_z}
 use Rattle.std.specs.Float.{binary64}
 use Rattle.std.specs.Float.Ieee.{sub}
@@ -8,18 +8,16 @@ use Rattle.refusals.specs as Refusal
 use Rattle.floats.specs.{float, one64}
 use Rattle.combinations.specs.Combinations as Combinations
 use Rattle.combinations.specs.Combinations.{Answer as Flagged, product, too_many}
-use Rattle.combinations.specs.declared.RealWays.{RealWays}
-use Rattle.combinations.specs.declared.RealWays.TheVariants.{Value, Refused}
 
 -- a float, or the number of a refusal
 pub data Answer : Type 0 where
   value : Float → Answer
   refused : ℕ → Answer
 
--- what each case of the program's answer says
-abbrev pub meaning : RealWays → Answer
-meaning (Value x) = value x
-meaning Refused = refused Refusal.outside_domain
+-- what the program's answer says: where there is none, it is refused
+abbrev pub meaning : Option Float → Answer
+meaning (Some x) = value x
+meaning None = refused Refusal.outside_domain
 
 -- the float of the integer form's answer, without its flag
 abbrev pub unflagged : Flagged → Answer

@@ -2,7 +2,7 @@
 // alone for a real m.
 #![tactic(auto)]
 
-ghost use Rattle.std.specs.Prelude.{◌≡◌, ◌≤◌, ◌<◌, ◌^◌, pos, get_or};
+ghost use Rattle.std.specs.Prelude.{◌≡◌, ◌≤◌, ◌<◌, ◌^◌, true, pos, get_or};
 ghost use Rattle.combinations.specs.Binomial.{binomial, exact};
 ghost use Rattle.combinations.specs.Combinations as Spec;
 ghost use Rattle.combinations.specs.Real as Real;
@@ -21,19 +21,19 @@ const UNROUNDED_2: u64 = 94906266;
 // Below it m * (m - 1) is one word.
 const ONE_WORD_2: u64 = 1 << 32;
 
+// The ways as a float, and whether it equals the binomial coefficient exactly.
 #[derive(Clone, Copy)]
-pub enum Ways {
-    // The float, and whether it equals the binomial coefficient exactly.
-    Value(f64, bool),
-    // More factors, or a larger m, than are worked.
-    Refused,
+pub struct Ways {
+    pub value: f64,
+    pub exact: bool,
 }
 
-#[derive(Clone, Copy)]
-pub enum RealWays {
-    Value(f64),
-    // More factors, or a larger whole m, than are worked.
-    Refused,
+impl Ways {
+    fn exactly(value: f64) -> Ways
+        ensures { Spec.flagged result ≡ Spec.value value true }
+    {
+        Ways { value, exact: true }
+    }
 }
 
 // A product with factor i: times the factor, then over i + 1.
@@ -45,19 +45,7 @@ fn with_factor(res: f64, factor: f64, i: u64) -> f64
     res * factor / divisor
 }
 
-// m over 1, times m - 1 over 2, and so on: w factors.
-fn whole_product(m: u64, w: u64) -> f64
-    requires { (w ≤ m) × (m ≤ 2 ^ 53) }
-    ensures { result ≡ Spec.product (Spec.whole_factor (pos m)) w }
-{
-    let mut result = 1.0;
-    for i in 0..w {
-        result = with_factor(result, (m - i) as f64, i);
-    }
-    result
-}
-
-// The same product from its first factor on, which m over 1 is.
+// m over 1, times m - 1 over 2, and so on: w factors. The first of them is m.
 fn begun_product(m: u64, w: u64) -> f64
     requires { (1 ≤ w) × (w ≤ m) × (m ≤ 2 ^ 53) }
     ensures { result ≡ Spec.product (Spec.whole_factor (pos m)) w }
@@ -77,18 +65,21 @@ fn pairs(m: u64) -> f64
     with_factor(m as f64, (m - 1) as f64, 1)
 }
 
-// The same by the shortest way.
-fn short_product(m: u64, w: u64) -> f64
-    requires { (1 ≤ w) × (w ≤ m) × (m ≤ 2 ^ 53) }
+// The same by the shortest way, and 1 for no factor.
+fn whole_product(m: u64, w: u64) -> f64
+    requires { (w ≤ m) × (m ≤ 2 ^ 53) }
     ensures { result ≡ Spec.product (Spec.whole_factor (pos m)) w }
 {
+    if w == 0 {
+        return 1.0;
+    }
     if w == 2 {
         return pairs(m);
     }
     begun_product(m, w)
 }
 
-// x over 1, times x - 1 over 2, and so on: w factors.
+// x over 1, times x - 1 over 2, and so on: w factors. One loop for both products would take the factors as a closure, and be longer than the two.
 fn real_product(x: f64, w: u64) -> f64
     requires { w ≤ 16 }
     ensures { result ≡ Spec.product (Real.real_factor x) w }
@@ -152,11 +143,13 @@ fn exact_pairs(m: u64) -> bool
 // The product of w factors, with its flag.
 fn judged(m: u64, w: u64) -> Ways
     requires { (w ≤ 16) × (w ≤ m) × (m ≤ 2 ^ 53) }
-    ensures { Spec.meaning result ≡ Spec.counted m w }
+    ensures { Spec.flagged result ≡ Spec.counted m w }
 {
-    let x = whole_product(m, w);
-    let exact = is_exact(x, m, w);
-    Ways::Value(x, exact)
+    let value = whole_product(m, w);
+    Ways {
+        value,
+        exact: is_exact(value, m, w),
+    }
 }
 
 // How many ways there are to choose w of m, as a whole number, up to the bound of two.
@@ -177,16 +170,16 @@ fn few_ways(m: u64, w: u64) -> u64
 // of a pair is still one word for a while.
 fn judged_few(m: u64, w: u64) -> Ways
     requires { (w ≤ 2) × (w ≤ m) × (m ≤ 2 ^ 53) }
-    ensures { Spec.meaning result ≡ Spec.counted m w }
+    ensures { Spec.flagged result ≡ Spec.counted m w }
 {
     if m <= UNROUNDED_2 {
-        let n = few_ways(m, w);
-        return Ways::Value(n as f64, true);
+        return Ways::exactly(few_ways(m, w) as f64);
     }
-    if w == 2 {
-        if m < ONE_WORD_2 {
-            return Ways::Value(pairs(m), exact_pairs(m));
-        }
+    if w == 2 && m < ONE_WORD_2 {
+        return Ways {
+            value: pairs(m),
+            exact: exact_pairs(m),
+        };
     }
     judged(m, w)
 }
@@ -194,7 +187,7 @@ fn judged_few(m: u64, w: u64) -> Ways
 // The same, by the shorter way where there is one.
 fn counted(m: u64, w: u64) -> Ways
     requires { (w ≤ 16) × (w ≤ m) × (m ≤ 2 ^ 53) }
-    ensures { Spec.meaning result ≡ Spec.counted m w }
+    ensures { Spec.flagged result ≡ Spec.counted m w }
 {
     if w <= 2 {
         return judged_few(m, w);
@@ -202,77 +195,61 @@ fn counted(m: u64, w: u64) -> Ways
     judged(m, w)
 }
 
-// The ways to choose w of m tokens: 1 where w is 0 or below, 0 where m is below w, both exact. Refused are then a w above 16 and an m
+// The ways to choose w of m tokens: 1 where w is 0 or below, 0 where m is below w, both exact. `None` are then a w above 16 and an m
 // above 2^53.
-pub fn combinations(m: i64, w: i64) -> Ways
+pub fn combinations(m: i64, w: i64) -> Option<Ways>
     ensures { Spec.meaning result ≡ Spec.combinations m w }
 {
     if w <= 0 {
-        return Ways::Value(1.0, true);
+        return Some(Ways::exactly(1.0));
     }
     if m < w {
-        return Ways::Value(0.0, true);
+        return Some(Ways::exactly(0.0));
     }
-    if w > MOST_FACTORS {
-        return Ways::Refused;
+    if w > MOST_FACTORS || m > LARGEST {
+        return None;
     }
-    if m > LARGEST {
-        return Ways::Refused;
-    }
-    counted(m as u64, w as u64)
+    Some(counted(m as u64, w as u64))
 }
 
 // The float of that answer without its flag, for a caller that asks for the flag apart.
-pub fn combinations_unflagged(m: i64, w: i64) -> RealWays
+pub fn combinations_unflagged(m: i64, w: i64) -> Option<f64>
     ensures { Real.meaning result ≡ Real.unflagged (Spec.combinations m w) }
 {
     if w <= 0 {
-        return RealWays::Value(1.0);
+        return Some(1.0);
     }
     if m < w {
-        return RealWays::Value(0.0);
+        return Some(0.0);
     }
-    if w > MOST_FACTORS {
-        return RealWays::Refused;
+    if w > MOST_FACTORS || m > LARGEST {
+        return None;
     }
-    if m > LARGEST {
-        return RealWays::Refused;
-    }
-    RealWays::Value(short_product(m as u64, w as u64))
+    Some(whole_product(m as u64, w as u64))
 }
 
 // The flag of the ways to choose w of m tokens, without their float, for a caller that asks for the float apart. A refusal has none, and it is false.
 pub fn exact_ways(m: u64, w: u64) -> bool
     ensures { result ≡ Spec.as_flag (Spec.combinations (pos m) (pos w)) }
 {
-    if w == 0 {
+    if w == 0 || m < w {
         return true;
     }
-    if m < w {
-        return true;
-    }
-    if w > MOST_FACTORS as u64 {
+    if w > MOST_FACTORS as u64 || m > LARGEST as u64 {
         return false;
     }
-    if m > LARGEST as u64 {
-        return false;
-    }
-    let answer = counted(m, w);
-    match answer {
-        Ways::Value(_, exact) => exact,
-        Ways::Refused => false,
-    }
+    counted(m, w).exact
 }
 
-// The same product for a real x, where no rule asks whether x is below w: 1 where w is 0 or below, refused where w is above 16.
-pub fn combinations_real(x: f64, w: i64) -> RealWays
+// The same product for a real x, where no rule asks whether x is below w: 1 where w is 0 or below, `None` where w is above 16.
+pub fn combinations_real(x: f64, w: i64) -> Option<f64>
     ensures { Real.meaning result ≡ Real.combinations_real x w }
 {
     if w <= 0 {
-        return RealWays::Value(1.0);
+        return Some(1.0);
     }
     if w > MOST_FACTORS {
-        return RealWays::Refused;
+        return None;
     }
-    RealWays::Value(real_product(x, w as u64))
+    Some(real_product(x, w as u64))
 }

@@ -50,13 +50,19 @@ fn pair_at(list: &[u8], from: usize) -> Pair
     }
     let next = middle + 1;
     let end = end_of(list, next, b',');
-    let old = number_of(&list[from..middle]);
-    let new = number_of(&list[next..end]);
-    Pair {
-        fits: old.fits && new.fits,
-        old: old.value,
-        new: new.value,
-        end: end,
+    match (number_of(&list[from..middle]), number_of(&list[next..end])) {
+        (Some(old), Some(new)) => Pair {
+            fits: true,
+            old: old,
+            new: new,
+            end: end,
+        },
+        _ => Pair {
+            fits: false,
+            old: 0,
+            new: 0,
+            end: end,
+        },
     }
 }
 

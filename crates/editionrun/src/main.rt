@@ -18,12 +18,12 @@ ghost use Rattle.std.specs.Prelude.{◌≡◌, ◌≤◌, length};
 
 use averages::request;
 use net::Net;
-use net_io::arguments::{Number, number_of};
-use net_io::{Input, read_input, say, write_refused};
+use net_io::arguments::{is_given, number_argument};
+use net_io::{read_input, say, write_refused};
 use net_text::{Judged, RunLine};
 use rng::Xoshiro256;
 use ssa::{Halted, PathEnd};
-use std::env::{Env, FillError};
+use std::env::Env;
 
 // The most steps of a path.
 const MOST_STEPS: u64 = 1_000_000;
@@ -233,24 +233,9 @@ fn texts_room() -> [u8; 16385]
 fn read_and_play(rt: &HostRuntime, bytes: u64, steps: u64, carries: bool, pairs: &[u64]) {
     let mut texts = texts_room();
     match read_input(rt, &mut texts) {
-        Input::Read(n) => play_input(rt, &texts, n, bytes, steps, carries, pairs),
-        Input::Failed => say(rt, b"editionrun: standard input cannot be read\n"),
+        Ok(n) => play_input(rt, &texts, n, bytes, steps, carries, pairs),
+        Err(_) => say(rt, b"editionrun: standard input cannot be read\n"),
     }
-}
-
-// Is there such an argument? It may be longer than the room.
-fn is_given(rt: &HostRuntime, i: usize) -> bool {
-    let mut room = [0u8; 1];
-    match rt.arg(i, &mut room) {
-        Err(FillError::NotPresent) => false,
-        _ => true,
-    }
-}
-
-fn number_argument(rt: &HostRuntime, i: usize) -> Number {
-    let mut digits = [0u8; 20];
-    let n = rt.arg(i, &mut digits).unwrap_or(0);
-    number_of(&digits[..n])
 }
 
 fn usage(rt: &HostRuntime) {
@@ -279,25 +264,22 @@ fn carry_on(rt: &HostRuntime, steps: u64) {
     };
     let mut words = [0u64; 130];
     let listed = list::list_of(&list[..n], &mut words);
-    let bytes = number_argument(rt, 3);
-    if listed.fits && bytes.fits {
-        carry_all(rt, bytes.value, steps, &words, listed.words);
-    } else {
-        usage(rt);
+    match number_argument(rt, 3) {
+        Some(bytes) if listed.fits => carry_all(rt, bytes, steps, &words, listed.words),
+        _ => usage(rt),
     }
 }
 
 fn main(rt: HostRuntime) {
-    let steps = number_argument(&rt, 1);
-    if !steps.fits {
+    let Some(steps) = number_argument(&rt, 1) else {
         usage(&rt);
         return;
-    }
+    };
     if !is_given(&rt, 2) {
         let none = [0u64; 0];
-        read_and_play(&rt, u64::MAX, steps.value, false, &none);
+        read_and_play(&rt, u64::MAX, steps, false, &none);
     } else if is_given(&rt, 3) && !is_given(&rt, 4) {
-        carry_on(&rt, steps.value);
+        carry_on(&rt, steps);
     } else {
         usage(&rt);
     }

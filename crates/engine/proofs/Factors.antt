@@ -12,9 +12,9 @@ use mir.Syntax.{w64}
 use mir.Val.{to_z}
 use mir.Facts.{to_z_pos}
 use borrow.Author.Tests.{leb-false, eqb-true, ne_eqb}
+use Rattle.std.proofs.Common.{Option, Some, None, unwrap_or}
 use Rattle.net.specs.Net.{Marking, pick, zero64, amount, held}
 use Rattle.net.specs.Readable.{Slot, slot_at, slots, takes_of}
-use Rattle.combinations.specs.declared.RealWays.{RealWays}
 use Rattle.combinations.specs.Combinations.{Answer, value, refused, combinations}
 use Rattle.combinations.specs.Real as Real
 use Rattle.combinations.specs.Real.{unflagged}
@@ -39,18 +39,22 @@ alone_is : (a : Answer) → alone (unflagged a) ≡ as_float a
 alone_is (value x e) = refl
 alone_is (refused c) = refl
 
+-- 0 over 0
+no_number : div binary64 zero64 zero64 ≡ nan
+unfolding div of_bits
+no_number = refl
+
+or_no_number : (r : Option Float) → unwrap_or r (div binary64 zero64 zero64) ≡ alone (Real.meaning r)
+or_no_number (Some x) = refl
+or_no_number None = no_number
+
 -- what the answers of `combinations` say of two numbers that are the same signed
-pub ways_answer : (m w : ℕ) → m ≤ 2 ^ 53 → w ≤ 1_000_000 → (r : RealWays) → Real.meaning r ≡ unflagged (combinations (to_z w64 m) (to_z w64 w))
-    → alone (Real.meaning r) ≡ ways m w
+pub ways_answer : (m w : ℕ) → m ≤ 2 ^ 53 → w ≤ 1_000_000 → (r : Option Float) → Real.meaning r ≡ unflagged (combinations (to_z w64 m) (to_z w64 w))
+    → unwrap_or r (div binary64 zero64 zero64) ≡ ways m w
 ways_answer m w h k r e =
     let a : to_z w64 m ≡ pos m = to_z_pos w64 (omega arith) in
     let b : to_z w64 w ≡ pos w = to_z_pos w64 (omega arith) in
-    ap alone (e ∙ (λ i. unflagged (combinations (a i) (b i)))) ∙ alone_is (combinations (pos m) (pos w))
-
--- 0 over 0
-pub no_number : div binary64 zero64 zero64 ≡ nan
-unfolding div of_bits
-no_number = refl
+    or_no_number r ∙ ap alone (e ∙ (λ i. unflagged (combinations (a i) (b i)))) ∙ alone_is (combinations (pos m) (pos w))
 
 -- x times the ways of one slot
 abbrev pub times : Float → ℕ → ℕ → ℕ → Float

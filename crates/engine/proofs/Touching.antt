@@ -10,7 +10,6 @@ use lib.Bits.{bit_or}
 use lib.Dec.{eqb, leb, ltb}
 use lib.ListN.{length, get_or, set}
 use lib.Seq.{get_or-set_same, get_or-set_other, take-set-lt}
-use lib.Ieee.{Float}
 use borrow.Author.Tests.{eq-eqb, eqb-true, eqb-false, lt-ltb, le-leb}
 use Rattle.words.specs.Bits.{bit}
 use Rattle.words.proofs.Bits.{bit_none, bit_or_lem}

@@ -17,7 +17,6 @@ ghost use Rattle.engine.specs.declared.marking.Added.{Added};
 ghost use Rattle.engine.specs.declared.marking.Fired.{Fired};
 
 use crate::{guards, slots};
-use combinations::RealWays;
 use net::LentNet;
 
 // Does a slot of this limit let its transition run, at the count of its place? Below 2^63 it is an upper limit, else 2^64 less a lower one (specs/Limits);
@@ -52,10 +51,7 @@ fn ways(m: u64, w: u64) -> f64
     requires { (m ≤ 2 ^ 53) × (w ≤ 1_000_000) }
     ensures { result ≡ Propensity.ways m w }
 {
-    match combinations::combinations_unflagged(m as i64, w as i64) {
-        RealWays::Value(x) => x,
-        RealWays::Refused => 0.0 / 0.0,
-    }
+    combinations::combinations_unflagged(m as i64, w as i64).unwrap_or(0.0 / 0.0)
 }
 
 // The rate of a transition: 0 where it runs by a timer, and 1 where none is given.
@@ -175,7 +171,7 @@ pub fn put<'a>(
 {
     let from = 16 * j;
     let end = from + net.arcs[j];
-    let mut more: u64 = 0;
+    let mut many: u64 = 0;
     let mut moved: u64 = 0;
     let mut crossed: u64 = 0;
     for a in from..end {
@@ -188,13 +184,13 @@ pub fn put<'a>(
                 return None;
             }
             counts[p] = d;
-            more += x;
+            many += x;
             moved |= guards[p];
             crossed |= guards::crossed(guards, p, c, d);
         }
     }
     Some(Added {
-        more,
+        more: many,
         moved,
         crossed,
     })

@@ -8,12 +8,11 @@ ghost use Rattle.std.specs.Prelude.{◌+◌, ◌<◌, ◌≤◌, length};
 
 use game::{FaultFound, First};
 use net::Net;
-use net_io::arguments::{Number, number_of};
-use net_io::{say, write, write_number, write_refused};
+use net_io::arguments::{number_argument, number_of};
+use net_io::{read_full, say, write, write_number, write_refused};
 use net_text::Judged;
 use refusals::Refusal;
 use std::env::Env;
-use std::io::Read;
 
 fn write_first(rt: &HostRuntime, first: Option<First>) {
     match first {
@@ -37,12 +36,6 @@ fn write_answer(rt: &HostRuntime, answer: Result<FaultFound, Refusal>) {
             write(rt, b")\n");
         }
     }
-}
-
-fn number_argument(rt: &HostRuntime, i: usize) -> Number {
-    let mut digits = [0u8; 20];
-    let n = rt.arg(i, &mut digits).unwrap_or(0);
-    number_of(&digits[..n])
 }
 
 // Are the bytes from `from` on those of the name?
@@ -89,11 +82,10 @@ fn place_of<'a>(
         }
         p += 1;
     }
-    let n = number_of(name);
-    if n.fits {
-        return n.value as usize;
+    match number_of(name) {
+        Some(n) => n as usize,
+        None => 32,
     }
-    32
 }
 
 // The number of a letter's side; 2, which no side has, for any other letter.
@@ -147,24 +139,6 @@ fn search(
     play_all(rt, net, n, &sides, place, count, turns);
 }
 
-// Reads standard input until it ends, the text is full or a read fails.
-fn read_full(rt: &HostRuntime, text: &mut [u8]) -> usize
-    ensures { result ≤ length text.new }
-{
-    let mut stdin = rt.stdin();
-    let mut n = 0;
-    while n < text.len() {
-        let Ok(more) = stdin.read(&mut text[n..]) else {
-            return n;
-        };
-        if more == 0 {
-            return n;
-        }
-        n += more;
-    }
-    n
-}
-
 // Reads the net and asks. A text of more than 8,192 bytes is too long, and known by one byte more.
 fn read_and_search(
     rt: &HostRuntime,
@@ -199,15 +173,13 @@ fn main(rt: HostRuntime) {
         usage(&rt);
         return;
     };
-    let count = number_argument(&rt, 3);
-    let turns = number_argument(&rt, 4);
-    if !count.fits {
+    let Some(count) = number_argument(&rt, 3) else {
         usage(&rt);
         return;
-    }
-    if !turns.fits {
+    };
+    let Some(turns) = number_argument(&rt, 4) else {
         usage(&rt);
         return;
-    }
-    read_and_search(&rt, n, &letters, &name[..m], count.value, turns.value);
+    };
+    read_and_search(&rt, n, &letters, &name[..m], count, turns);
 }

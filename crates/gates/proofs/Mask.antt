@@ -6,6 +6,7 @@ use mathlib.Core.Bool.{Bool, true, false, ◌&&◌, ◌||◌, not}
 use mathlib.Core.List.{List, [], ◌∷◌}
 use native.Mathlib.Omega.{arith}
 use native.Mathlib.Nat.{pow-succ'}
+use native.Mathlib.Numerals.{add-one}
 use lib.Dec.{eqb, ltb}
 use lib.Pow.{pow_mono}
 use lib.ListN.{get_or}
@@ -13,11 +14,13 @@ use borrow.Author.Tests.{lt-ltb, le-ltb, eqb-true, eqb-false, ltb-true, ltb-fals
 use Rattle.net.specs.declared.Net.{Net as NetRecord}
 use Rattle.net.specs.Net.{pick, timed}
 use Rattle.net.specs.Tests.{any, empty}
-use Rattle.net.specs.Readable.{is_read, is_block, places_from, transitions_from, readable}
+use Rattle.net.specs.Readable.{is_read, is_block, places_from, transition, transitions_from, readable}
 use Rattle.gates.specs.declared.Gates.{Gates as GatesStruct}
 use Rattle.gates.specs.Gated.{raises, bits_from, bounded_from, gates, gates_of, gated}
 use Rattle.gates.specs.Slots.{one_if, count_from, bounded_at, mask_from}
+use Rattle.engine.specs.Engine.{any_timed}
 use Rattle.engine.proofs.Arcs.{on_bool}
+use Rattle.engine.proofs.Lists.{above_from, above_all}
 use Rattle.gates.proofs.Counted.{reads_all, inhibitors_all, non_kinetic_all}
 
 pub one_most : (b : Bool) → one_if b ≤ 1
@@ -90,16 +93,36 @@ module _ (n : NetRecord) where
   mask_small p zero = omega arith
   mask_small p (suc k) = omega (arith, pow_next k, one_most (bounded_at n p), mask_small (suc p) k)
 
-  pub mask_front : (p e : ℕ) → 0 < p → p ≤ e → mask_from n (p - 1) (e - (p - 1)) ≡ one_if (bounded_at n (p - 1)) + 2 * mask_from n p (e - p)
-  mask_front p e h g =
-      let d : e - (p - 1) ≡ suc (e - p) = omega arith in
-      let q : suc (p - 1) ≡ p = omega arith in
-      ap (mask_from n (p - 1)) d ∙ ap (λ (r : ℕ). one_if (bounded_at n (p - 1)) + 2 * mask_from n r (e - p)) q
+  -- place p, and the places behind it
+  pub mask_turn : (p e : ℕ) → p < e → mask_from n p (e - p) ≡ one_if (bounded_at n p) + 2 * mask_from n (p + 1) (e - (p + 1))
+  mask_turn p e h =
+      let d : e - p ≡ suc (e - (p + 1)) = omega arith in
+      ap (mask_from n p) d ∙ ap (λ (r : ℕ). one_if (bounded_at n p) + 2 * mask_from n r (e - (p + 1))) (sym (add-one p))
 
-  pub mask_none : (p e : ℕ) → p ≡ e → 0 ≡ mask_from n p (e - p)
-  mask_none p e h =
+  pub mask_whole : (e : ℕ) → mask_from n 0 (e - 0) ≡ mask_from n 0 e
+  mask_whole e =
+      let d : e - 0 ≡ e = omega arith in
+      ap (mask_from n 0) d
+
+  pub mask_end : (p e : ℕ) → e ≤ p → mask_from n p (e - p) ≡ 0
+  mask_end p e h =
       let d : e - p ≡ 0 = omega arith in
-      sym (ap (mask_from n p) d)
+      ap (mask_from n p) d
+
+  -- a turn of the loop, whose whole is w: place p is bounded, or not
+  module _ (mask p e w : ℕ) (inv : mask + 2 ^ p * mask_from n p (e - p) ≡ w) (h : p < e) where
+    turn_is : (b : Bool) → bounded_at n p ≡ b → mask + 2 ^ p * one_if b + 2 ^ (p + 1) * mask_from n (p + 1) (e - (p + 1)) ≡ w
+    turn_is b y =
+        let t = mask_turn p e h ∙ ap (λ (x : Bool). one_if x + 2 * mask_from n (p + 1) (e - (p + 1))) y in
+        let u = ap (λ (x : ℕ). 2 ^ p * x) t in
+        let v = ap (λ (x : ℕ). x * mask_from n (p + 1) (e - (p + 1))) (ap (λ (x : ℕ). 2 ^ x) (add-one p) ∙ pow_next p) in
+        omega (arith, inv, u, v)
+
+    pub mask_set : bounded_at n p ≡ true → (mask + 2 ^ p) + 2 ^ (p + 1) * mask_from n (p + 1) (e - (p + 1)) ≡ w
+    mask_set y = omega (arith, turn_is true y)
+
+    pub mask_clear : bounded_at n p ≡ false → mask + 2 ^ (p + 1) * mask_from n (p + 1) (e - (p + 1)) ≡ w
+    mask_clear y = omega (arith, turn_is false y)
 
   pub mask_bits : (p k j : ℕ) → k ≤ j
       → bits_from p j (mask_from n p k) ≡ bounded_from (transitions_from n 0 n.transitions) p (places_from n.initial n.capacity p k)
@@ -110,18 +133,18 @@ module _ (n : NetRecord) where
       bits_front p j (mask_from n (suc p) k) (bounded_at n p)
       ∙ ap (λ (ps : List ℕ). pick (bounded_at n p) (p ∷ ps) ps) (mask_bits (suc p) k j (omega arith))
 
-  pub mask_fits : (p k : ℕ) → k ≤ 32 → mask_from n p k < 2 ^ 32
-  mask_fits p k h = omega (arith, mask_small p k, pow_mono h)
+  pub mask_fits : (k : ℕ) → k ≤ 32 → mask_from n 0 k < 2 ^ 32
+  mask_fits k h = omega (arith, mask_small 0 k, pow_mono h)
 
-  -- one place
-  pub bounded_free : (p : ℕ) → get_or n.capacity p 0 ≡ 0 → 0 ≡ one_if (bounded_at n p)
-  bounded_free p e = sym (ap (λ (q : ℕ). one_if (ltb 0 q && any (raises p) (transitions_from n 0 n.transitions))) e)
+  -- a delay above 0
+  timed_from : (j k : ℕ) → above_from n.delay j k ≡ any timed (transitions_from n j k)
+  timed_from j zero = refl
+  timed_from j (suc k) = ap (λ (b : Bool). timed (transition n j) || b) (timed_from (suc j) k)
 
-  pub bounded_by : (p : ℕ) → (get_or n.capacity p 0 ≡ 0 → ⊥) → (r b : Bool) → r ≡ any (raises p) (transitions_from n 0 n.transitions) → r ≡ b
-      → one_if b ≡ one_if (bounded_at n p)
-  bounded_by p h r b e d =
-      let q : 0 < get_or n.capacity p 0 = omega (arith, h) in
-      sym (λ i. one_if (lt-ltb 0 (get_or n.capacity p 0) q i && (sym e ∙ d) i))
+  timed_is : any_timed n.transitions n.delay ≡ any timed (transitions_from n 0 n.transitions)
+  timed_is =
+      let d : n.transitions ≡ n.transitions - 0 = omega arith in
+      sym (above_all n.delay n.transitions) ∙ ap (above_from n.delay 0) (sym d) ∙ timed_from 0 n.transitions
 
   -- all that gates
   pub gates_all : (g : GatesStruct) → n.places ≤ 32
@@ -129,7 +152,7 @@ module _ (n : NetRecord) where
       → g.inhibitors ≡ count_from is_block n 0 n.transitions
       → g.nonkinetic ≡ count_from (λ (x : ℕ). eqb x 1) n 0 n.transitions
       → g.bounded ≡ mask_from n 0 n.places
-      → g.delayed ≡ any timed (transitions_from n 0 n.transitions)
+      → g.delayed ≡ any_timed n.transitions n.delay
       → gates_of g ≡ gates (readable n)
   unfolding gates
   gates_all g h a b c d e =
@@ -138,41 +161,12 @@ module _ (n : NetRecord) where
         inhibitors = (b ∙ inhibitors_all n n.transitions) i;
         non_kinetic = (c ∙ non_kinetic_all n n.transitions) i;
         bounded = (ap (bits_from 0 64) d ∙ mask_bits 0 n.places 64 (omega arith)) i;
-        delayed = e i;
+        delayed = (e ∙ timed_is) i;
       }
 
 -- ---- whether anything gates
 
-or_last : (a b c d e : Bool) → a ≡ false → b ≡ false → c ≡ false → d ≡ false → e ≡ (a || b || c || d || e)
-or_last a b c d e p q r s = sym (λ i. p i || q i || r i || s i || e)
-
-module _ (g : GatesStruct) (small : g.bounded < 2 ^ 64) where
-  abbrev bits : Bool
-  bits = not (empty (bits_from 0 64 g.bounded))
-
-  pub gated_reads : 0 < g.reads → true ≡ gated (gates_of g)
-  gated_reads h = sym (ap (λ (b : Bool). b || ltb 0 g.inhibitors || ltb 0 g.nonkinetic || bits || g.delayed) (lt-ltb 0 g.reads h))
-
-  module _ (a : g.reads ≤ 0) where
-    no_reads : ltb 0 g.reads ≡ false
-    no_reads = le-ltb 0 g.reads a
-
-    pub gated_inhibitors : 0 < g.inhibitors → true ≡ gated (gates_of g)
-    gated_inhibitors h = sym (λ i. no_reads i || lt-ltb 0 g.inhibitors h i || ltb 0 g.nonkinetic || bits || g.delayed)
-
-    module _ (b : g.inhibitors ≤ 0) where
-      no_inhibitors : ltb 0 g.inhibitors ≡ false
-      no_inhibitors = le-ltb 0 g.inhibitors b
-
-      pub gated_nonkinetic : 0 < g.nonkinetic → true ≡ gated (gates_of g)
-      gated_nonkinetic h = sym (λ i. no_reads i || no_inhibitors i || lt-ltb 0 g.nonkinetic h i || bits || g.delayed)
-
-      module _ (c : g.nonkinetic ≤ 0) where
-        no_nonkinetic : ltb 0 g.nonkinetic ≡ false
-        no_nonkinetic = le-ltb 0 g.nonkinetic c
-
-        pub gated_bounded : 0 < g.bounded → true ≡ gated (gates_of g)
-        gated_bounded h = sym (λ i. no_reads i || no_inhibitors i || no_nonkinetic i || (bits_any 0 64 g.bounded small ∙ lt-ltb 0 g.bounded h) i || g.delayed)
-
-        pub gated_delayed : g.bounded ≤ 0 → g.delayed ≡ gated (gates_of g)
-        gated_delayed h = or_last (ltb 0 g.reads) (ltb 0 g.inhibitors) (ltb 0 g.nonkinetic) bits g.delayed no_reads no_inhibitors no_nonkinetic (bits_any 0 64 g.bounded small ∙ le-ltb 0 g.bounded h)
+-- a bit of the mask stands for a place of the list
+pub gated_is : (g : GatesStruct) → g.bounded < 2 ^ 64
+    → gated (gates_of g) ≡ (ltb 0 g.reads || ltb 0 g.inhibitors || ltb 0 g.nonkinetic || ltb 0 g.bounded || g.delayed)
+gated_is g h = ap (λ (b : Bool). ltb 0 g.reads || ltb 0 g.inhibitors || ltb 0 g.nonkinetic || b || g.delayed) (bits_any 0 64 g.bounded h)

@@ -79,14 +79,8 @@ fn guard_one<'a>(net: &LentNet, limit: &'a [u64; 1024], j: usize, guards: &mut [
 {
     let from = 16 * j;
     let end = from + net.arcs[j];
-    let mut a = from;
-    while a < end {
-        let b = a + 1;
-        let k = net.kind[a];
-        let l = limit[a];
-        let p = net.place[a];
-        guard_slot(k, l, p, j, guards);
-        a = b;
+    for a in from..end {
+        guard_slot(net.kind[a], limit[a], net.place[a], j, guards);
     }
 }
 
@@ -95,13 +89,9 @@ fn begun(words: &[u64; 32]) -> [u64; 160]
     ensures { Spec.Begun words.now result }
 {
     let mut guards = [0u64; 160];
-    let mut p: usize = 0;
-    while p < 32 {
-        let q = p + 1;
-        let w = words[p];
-        guards[64 + p] = w;
+    for (p, w) in words.iter().enumerate() {
+        guards[64 + p] = *w;
         guards[96 + p] = 0xFFFF_FFFF_FFFF_FFFF;
-        p = q;
     }
     guards
 }
@@ -114,11 +104,8 @@ pub fn guards_of<'a>(net: &LentNet, limit: &'a [u64; 1024]) -> [u64; 160]
 {
     let words = listed::listed_words(net);
     let mut guards = begun(&words);
-    let mut j: usize = 0;
-    while j < net.transitions {
-        let k = j + 1;
+    for j in 0..net.transitions {
         guard_one(net, limit, j, &mut guards);
-        j = k;
     }
     guards
 }

@@ -35,14 +35,9 @@ fn list_one(net: &LentNet, from: usize, end: usize, j: usize, words: &mut [u64; 
     ensures { Slots.Added net.now.capacity.now (Slots.span net.now.kind.now net.now.place.now net.now.weight.now from end) j
         words.old words.new }
 {
-    let mut a = from;
-    while a < end {
-        let b = a + 1;
-        let on = lists(net, from, end, a);
+    for a in from..end {
         let p = net.place[a];
-        let w = sets::joined(words[p], j, on);
-        words[p] = w;
-        a = b;
+        words[p] = sets::joined(words[p], j, lists(net, from, end, a));
     }
 }
 
@@ -52,13 +47,9 @@ pub fn listed_words(net: &LentNet) -> [u64; 32]
     ensures { let net = net_of net.now in Table.Lists (Record.readable net) result }
 {
     let mut words = [0u64; 32];
-    let mut j: usize = 0;
-    while j < net.transitions {
-        let k = j + 1;
+    for j in 0..net.transitions {
         let from = 16 * j;
-        let end = from + net.arcs[j];
-        list_one(net, from, end, j, &mut words);
-        j = k;
+        list_one(net, from, from + net.arcs[j], j, &mut words);
     }
     words
 }

@@ -18,12 +18,8 @@ pub fn timed_word(net: &LentNet) -> u64
     ensures { let net = net_of net.now in Traits.Marks net Reader.timed result }
 {
     let mut word: u64 = 0;
-    let mut j: usize = 0;
-    while j < net.transitions {
-        let k = j + 1;
-        let on = 0.0 < net.delay[j];
-        word = sets::joined(word, j, on);
-        j = k;
+    for j in 0..net.transitions {
+        word = sets::joined(word, j, 0.0 < net.delay[j]);
     }
     word
 }
@@ -43,12 +39,10 @@ fn heavy_slots(net: &LentNet, from: usize, end: usize) -> bool
     requires { end ≤ 1024 }
     ensures { result ≡ Tests.any Traits.heavy (Record.takes_of (Slots.span net.now.kind.now net.now.place.now net.now.weight.now from end)) }
 {
-    let mut a = from;
-    while a < end {
+    for a in from..end {
         if heavy_slot(net.kind[a], net.weight[a]) {
             return true;
         }
-        a += 1;
     }
     false
 }
@@ -59,14 +53,9 @@ pub fn heavy_word(net: &LentNet) -> u64
     ensures { let net = net_of net.now in Traits.Marks net Traits.takes_several result }
 {
     let mut word: u64 = 0;
-    let mut j: usize = 0;
-    while j < net.transitions {
-        let k = j + 1;
+    for j in 0..net.transitions {
         let from = 16 * j;
-        let end = from + net.arcs[j];
-        let on = heavy_slots(net, from, end);
-        word = sets::joined(word, j, on);
-        j = k;
+        word = sets::joined(word, j, heavy_slots(net, from, from + net.arcs[j]));
     }
     word
 }

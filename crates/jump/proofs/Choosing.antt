@@ -6,23 +6,18 @@ use mathlib.Core.Bool.{Bool, true, false, ◌&&◌}
 use mathlib.Core.List.{List, [], ◌∷◌}
 use mathlib.Core.Option.{Option, none, some}
 use native.Mathlib.Omega.{arith}
-use native.Mathlib.Decide.{dec_lt}
 use lib.ListN.{length, get_or, take}
 use lib.Seq.{get_or-take, length-take-le}
 use lib.Ieee.{Float, nan, binary64, add, lt, le}
 use Rattle.net.specs.Net.{pick, zero64}
 use Rattle.rules.specs.Jump.{chosen_from, chosen}
 use Rattle.rules.specs.RunningSums.{sums_from, sum_at, SumsKept, LastPositive}
-use Rattle.jump.specs.declared.Choice.{Choice}
-use Rattle.jump.specs.declared.Choice.TheVariants.{Nobody, Chosen}
+use Rattle.std.specs.Prelude.{Option as Answered, Some, None}
 use Rattle.jump.specs.Answers.{choice_of, NonePositive, FindsLast}
 
 -- whether a transition is chosen that has propensity a and running sum s
 abbrev pub reached : Float → Float → Float → Bool
 reached r a s = lt zero64 a && le r s
-
-pub not_positive : (r a s : Float) → lt zero64 a ≡ false → reached r a s ≡ false
-not_positive r a s e = simp e
 
 pub not_reached : (r a s : Float) → le r s ≡ false → reached r a s ≡ false
 not_reached r a s e = go (lt zero64 a)
@@ -73,17 +68,6 @@ module _ (k : ℕ) (props : List Float) (enough : k ≤ length props) where
   value : (i : ℕ) → i < k → get_or (take k props) i nan ≡ get_or props i nan
   value i h = get_or-take k props i nan h
 
-  pub last_found : (j : ℕ) → j < k → lt zero64 (get_or props j nan) ≡ true → ((i : ℕ) → j < i → i < k → lt zero64 (get_or props i nan) ≡ false) → LastPositive (take k props) j
-  last_found j h e f =
-      record {
-        inside = omega (arith, as_many);
-        positive = ap (lt zero64) (value j h) ∙ e;
-        behind = λ i l g. let b : i < k = omega (arith, as_many) in ap (lt zero64) (value i b) ∙ f i l b;
-      }
-
-  pub none_found : ((i : ℕ) → i < k → lt zero64 (get_or props i nan) ≡ false) → NonePositive (take k props)
-  none_found f i h = let b : i < k = omega (arith, as_many) in ap (lt zero64) (value i b) ∙ f i b
-
   module _ (r : Float) (sums : List Float) (s : SumsKept k (take k props) sums) where
     same : (i : ℕ) → i < k → reached r (get_or (take k props) i nan) (sum_at (take k props) i) ≡ reached r (get_or props i nan) (get_or sums i nan)
     same i h = λ t. reached r (value i h t) (sym (s i h) t)
@@ -94,25 +78,11 @@ module _ (k : ℕ) (props : List Float) (enough : k ≤ length props) where
         let z : some (0 + j) ≡ some j = ap some (omega arith) in
         sym (stops r zero64 0 none (take k props) j (omega (arith, as_many)) (same j h ∙ simp (p, q)) (λ i l. same i (omega arith) ∙ f i l) ∙ z)
 
-    pub fail_chosen : ((i : ℕ) → i < k → reached r (get_or props i nan) (get_or sums i nan) ≡ false) → (c : Choice) → FindsLast (take k props) c
+    pub fail_chosen : ((i : ℕ) → i < k → reached r (get_or props i nan) (get_or sums i nan) ≡ false) → (c : Answered ℕ) → FindsLast (take k props) c
         → choice_of c ≡ chosen r (take k props)
-    fail_chosen f Nobody w = sym (none_left r zero64 0 none (take k props) w)
-    fail_chosen f (Chosen j) w =
+    fail_chosen f None w = sym (none_left r zero64 0 none (take k props) w)
+    fail_chosen f (Some j) w =
         let z : some (0 + j) ≡ some j = ap some (omega arith) in
         sym (fails r zero64 0 none (take k props) (λ i l. let b : i < k = omega (arith, as_many) in same i b ∙ f i b) j w ∙ z)
 
 -- ---- one transition more, from below or from above
-
-pub one_below : (f : ℕ → Bool) (j : ℕ) → ((i : ℕ) → i < j → f i ≡ false) → f j ≡ false → (i : ℕ) → i < j + 1 → f i ≡ false
-one_below f j h e i l = go (dec_lt i j)
-  where
-    go : Dec (i < j) → f i ≡ false
-    go (yes k) = h i k
-    go (no k) = let z : i ≡ j = omega arith in rw z e
-
-pub one_above : (f : ℕ → Bool) (j k e : ℕ) → suc j ≡ k → ((i : ℕ) → k ≤ i → i < e → f i ≡ false) → f j ≡ false → (i : ℕ) → j ≤ i → i < e → f i ≡ false
-one_above f j k e z h q i l g = go (dec_lt j i)
-  where
-    go : Dec (j < i) → f i ≡ false
-    go (yes a) = h i (omega arith) g
-    go (no a) = let s : i ≡ j = omega arith in rw s q

@@ -1,5 +1,5 @@
 -- What a call is told of the running timers, and what its answer stands for in the rules' words (rules, Step and Jump).
-use Rattle.std.specs.Prelude.{ℕ, ◌<◌, ◌≡◌, false, List, length, get_or, Float}
+use Rattle.std.specs.Prelude.{ℕ, ◌<◌, ◌≡◌, false, List, length, get_or, Float, Option as Answered, Some, None}
 use Rattle.std.proofs.Math.Option.{Option, none, some}
 use Rattle.std.specs.Float.{nan, binary64}
 use Rattle.std.specs.Float.Ieee.{sub, neg, lt}
@@ -12,8 +12,6 @@ use Rattle.rules.specs.Step as Step
 use Rattle.rules.specs.Timers.{Timer, first}
 use Rattle.jump.specs.declared.Next.{Next as NextEnum}
 use Rattle.jump.specs.declared.Next.TheVariants.{Nothing, Race, Completion}
-use Rattle.jump.specs.declared.Choice.{Choice}
-use Rattle.jump.specs.declared.Choice.TheVariants.{Nobody, Chosen}
 
 -- "−plog(1 − x1)", for the x1 that the generator draws next: the waiting time at a total of 1 (rules, Step's `waiting`)
 abbrev pub unit_wait : Generator → Float
@@ -29,15 +27,16 @@ next_of Nothing = Step.nothing_left
 next_of (Race dt) = Step.race dt
 next_of (Completion at) = Step.completion at
 
-abbrev pub choice_of : Choice → Option ℕ
-choice_of Nobody = none
-choice_of (Chosen j) = some j
+-- the transition that a race fires, where there is one
+abbrev pub choice_of : Answered ℕ → Option ℕ
+choice_of None = none
+choice_of (Some j) = some j
 
 -- no propensity is positive
 abbrev pub NonePositive : List Float → Type 0
 NonePositive xs = (i : ℕ) → i < length xs → lt zero64 (get_or xs i nan) ≡ false
 
 -- the last positive propensity, where one is
-abbrev pub FindsLast : List Float → Choice → Type 0
-FindsLast xs Nobody = NonePositive xs
-FindsLast xs (Chosen j) = LastPositive xs j
+abbrev pub FindsLast : List Float → Answered ℕ → Type 0
+FindsLast xs None = NonePositive xs
+FindsLast xs (Some j) = LastPositive xs j

@@ -19,13 +19,6 @@ pub enum Next {
     Completion(f64),
 }
 
-// The transition that a race fires.
-#[derive(Clone, Copy)]
-pub enum Choice {
-    Nobody,
-    Chosen(usize),
-}
-
 // A waiting time, with the generator after its draw.
 #[derive(Clone, Copy)]
 pub struct Wait {

@@ -7,8 +7,6 @@ ghost use Rattle.rules.specs.Jump as Jump;
 ghost use Rattle.rules.specs.RunningSums as Sums;
 ghost use Rattle.jump.specs.Answers as Answers;
 
-use crate::Choice;
-
 // The sum in front of transition j.
 fn sum_before(sums: &[f64; 64], j: usize) -> f64
     requires { j ≤ 64 }
@@ -28,30 +26,24 @@ pub fn resum(transitions: usize, from: usize, props: &[f64; 64], sums: &mut [f64
         × (result ≡ total (take transitions props.now)) }
 {
     let mut sum = sum_before(sums, from);
-    let mut j = from;
-    while j < transitions {
-        let k = j + 1;
-        sum = sum + props[j];
+    for j in from..transitions {
+        sum += props[j];
         sums[j] = sum;
-        j = k;
     }
     sum
 }
 
 // The last transition with positive propensity.
-fn last_positive(transitions: usize, props: &[f64; 64]) -> Choice
+fn last_positive(transitions: usize, props: &[f64; 64]) -> Option<usize>
     requires { (transitions ≤ 64) × (length props.now ≡ 64) }
     ensures { Answers.FindsLast (take transitions props.now) result }
 {
-    let mut k = transitions;
-    while 0 < k {
-        let j = k - 1;
+    for j in (0..transitions).rev() {
         if 0.0 < props[j] {
-            return Choice::Chosen(j);
+            return Some(j);
         }
-        k = j;
     }
-    Choice::Nobody
+    None
 }
 
 // The first transition with positive propensity whose running sum is at least r; failing that, the last with positive propensity.
@@ -60,19 +52,14 @@ pub fn choose_by_sums<'a>(
     r: f64,
     props: &'a [f64; 64],
     sums: &'a [f64; 64],
-) -> Choice
+) -> Option<usize>
     requires { (transitions ≤ 64) × (length props.now ≡ 64) × Sums.SumsKept transitions (take transitions props.now) sums.now }
     ensures { Answers.choice_of result ≡ Jump.chosen r (take transitions props.now) }
 {
-    let mut j: usize = 0;
-    while j < transitions {
-        let k = j + 1;
-        if r <= sums[j] {
-            if 0.0 < props[j] {
-                return Choice::Chosen(j);
-            }
+    for j in 0..transitions {
+        if r <= sums[j] && 0.0 < props[j] {
+            return Some(j);
         }
-        j = k;
     }
     last_positive(transitions, props)
 }

@@ -2,13 +2,14 @@
 use Prim.Native.Nat.{ℕ, suc, ◌+◌, ◌-◌, ◌*◌, ◌≤◌, ◌<◌}
 use mathlib.Core.Path.{◌≡◌, refl, sym, ap, ◌∙◌, subst}
 use mathlib.Core.Bool.{Bool, true, false, ◌&&◌, cond, and-true}
-use mathlib.Core.List.{List, [], ◌∷◌}
+use mathlib.Core.List.{List, []}
 use native.Mathlib.Omega.{arith}
 use lib.Dec.{T, leb, ltb}
 use lib.ListN.{length, get_or, drop}
 use lib.Seq.{drop-cons, drop-length}
-use borrow.Author.Tests.{leb-true, ltb-true, ltb-false, lt-ltb, le-ltb}
-use Rattle.net_io.specs.Digits.{is_digit_byte, every_digit, is_number, value_from, past, held}
+use borrow.Author.Tests.{leb-true, lt-ltb}
+use Rattle.std.specs.Prelude.{Some, None}
+use Rattle.net_io.specs.Digits.{number, is_digit_byte, every_digit, is_number, value_from, held}
 
 on_bool : {P : Type 0} (b : Bool) → (b ≡ true → P) → (b ≡ false → P) → P
 on_bool true f g = f refl
@@ -21,27 +22,6 @@ digit_bounds b e =
     on_bool (leb 48 b)
     (λ t. (leb-true 48 b t, leb-true b 57 (sym (ap (λ (c : Bool). c && leb b 57) t) ∙ e)))
     (λ f. absurd (subst T (sym (sym (ap (λ (c : Bool). c && leb b 57) f) ∙ e)) tt))
-
--- ---- the value
-
-below : (v : ℕ) → v < past → held v ≡ v
-below v h = ap (λ (b : Bool). cond b v 0xFFFF_FFFF_FFFF_FFFF) (lt-ltb v past h)
-
-above : (v : ℕ) → past ≤ v → held v ≡ 0xFFFF_FFFF_FFFF_FFFF
-above v h = ap (λ (b : Bool). cond b v 0xFFFF_FFFF_FFFF_FFFF) (le-ltb v past h)
-
--- one digit more, where the number so far is large and where it is not
-pub large : (n v d : ℕ) → n ≡ held v → 1_000_000_000_000_000_000 ≤ n → 0xFFFF_FFFF_FFFF_FFFF ≡ held (v * 10 + d)
-large n v d e h =
-    on_bool (ltb v past)
-    (λ t. let s : n ≡ v = e ∙ below v (ltb-true v past t) in sym (above (v * 10 + d) (omega (arith, s, h))))
-    (λ f. let s = ltb-false v past f in sym (above (v * 10 + d) (omega (arith, s))))
-
-pub small : (n v d : ℕ) → n ≡ held v → n < 1_000_000_000_000_000_000 → d ≤ 9 → n * 10 + d ≡ held (v * 10 + d)
-small n v d e h l =
-    on_bool (ltb v past)
-    (λ t. let s : n ≡ v = e ∙ below v (ltb-true v past t) in ap (λ (x : ℕ). x * 10 + d) s ∙ sym (below (v * 10 + d) (omega (arith, s, h, l))))
-    (λ f. let s : n ≡ 0xFFFF_FFFF_FFFF_FFFF = e ∙ above v (ltb-false v past f) in absurd (omega (arith, s, h)))
 
 -- the digits from i on, on top of v, come to the whole, and are digits just where all are
 pub record Upto (ds : List ℕ) (i n : ℕ) : Type 0 where
@@ -70,11 +50,8 @@ module _ (ds : List ℕ) (i n : ℕ) (u : Upto ds i n) where
       (sym u.same ∙ ap every_digit none, u.has ∙ ap held (sym (ap (value_from u.v) none) ∙ u.rest))
 
 -- digits and nothing else are a number where there is one
-pub some_digits_lem : (ds : List ℕ) → every_digit ds ≡ true → ltb 0 (length ds) ≡ is_number ds
+some_digits_lem : (ds : List ℕ) → every_digit ds ≡ true → ltb 0 (length ds) ≡ is_number ds
 some_digits_lem ds d = sym (ap (λ (b : Bool). ltb 0 (length ds) && b) d ∙ and-true (ltb 0 (length ds)))
 
-pub told : (ds : List ℕ) (n : ℕ) → every_digit ds ≡ true → n ≡ held (value_from 0 ds) → n ≡ cond (is_number ds) (held (value_from 0 ds)) 0
-told [] n d e = e
-told (b ∷ bs) n d e =
-    let ds = b ∷ bs in
-    e ∙ sym (ap (λ (c : Bool). cond c (held (value_from 0 ds)) 0) (sym (some_digits_lem ds d) ∙ lt-ltb 0 (length ds) (omega arith)))
+pub told : (ds : List ℕ) (n : ℕ) → 0 < length ds → every_digit ds ≡ true → n ≡ held (value_from 0 ds) → Some n ≡ number ds
+told ds n h d e = ap Some e ∙ sym (ap (λ (c : Bool). cond c (Some (held (value_from 0 ds))) None) (sym (some_digits_lem ds d) ∙ lt-ltb 0 (length ds) h))

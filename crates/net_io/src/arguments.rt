@@ -1,21 +1,13 @@
 // Numbers as a program is given them in its arguments. specs/Digits says what one is.
-ghost use Rattle.std.specs.Prelude.{◌≡◌, cond, ℕ, ◌+◌, ◌-◌, ◌*◌, ◌≤◌};
+ghost use Rattle.std.specs.Prelude.{◌≡◌, ℕ, ◌+◌, ◌-◌, ◌*◌, ◌≤◌};
 ghost use Rattle.net_io.specs.Digits as Spec;
 
-// A number that a word may be.
-#[derive(Clone, Copy)]
-pub struct Number {
-    pub fits: bool,
-    pub value: u64,
-}
+use std::env::{Env, FillError};
 
 fn is_digit(b: u8) -> bool
     ensures { result ≡ Spec.is_digit_byte b }
 {
-    if b < b'0' {
-        return false;
-    }
-    b <= b'9'
+    matches!(b, b'0'..=b'9')
 }
 
 // n with a digit behind it. A number past 10^18 is past every place, count, weight and number of turns: it becomes the largest.
@@ -26,28 +18,35 @@ fn with_digit(n: u64, b: u8) -> u64
     if 1_000_000_000_000_000_000 <= n {
         return u64::MAX;
     }
-    n * 10 + (b - b'0') as u64
+    n * 10 + u64::from(b - b'0')
 }
 
 // The number that a word is, if it is one.
-pub fn number_of(digits: &[u8]) -> Number
-    ensures { (result.fits ≡ Spec.is_number digits.now) × (result.value ≡ cond (Spec.is_number digits.now) (Spec.held (Spec.value_from 0 digits.now)) 0) }
+pub fn number_of(digits: &[u8]) -> Option<u64>
+    ensures { result ≡ Spec.number digits.now }
 {
+    if digits.is_empty() {
+        return None;
+    }
     let mut value = 0u64;
-    let mut i = 0usize;
-    while i < digits.len() {
-        let b = digits[i];
-        if !is_digit(b) {
-            return Number {
-                fits: false,
-                value: 0,
-            };
+    for b in digits {
+        if !is_digit(*b) {
+            return None;
         }
-        value = with_digit(value, b);
-        i += 1;
+        value = with_digit(value, *b);
     }
-    Number {
-        fits: 0 < i,
-        value: value,
-    }
+    Some(value)
+}
+
+// The number that an argument is, if it is one of at most 20 digits.
+pub fn number_argument(rt: &HostRuntime, i: usize) -> Option<u64> {
+    let mut digits = [0u8; 20];
+    let n = rt.arg(i, &mut digits).unwrap_or(0);
+    number_of(&digits[..n])
+}
+
+// Is there such an argument? It may be longer than the room.
+pub fn is_given(rt: &HostRuntime, i: usize) -> bool {
+    let mut room = [0u8; 1];
+    !matches!(rt.arg(i, &mut room), Err(FillError::NotPresent))
 }

@@ -13,20 +13,9 @@ use Rattle.net.specs.Net.{pick}
 use Rattle.text.specs.Text.{Bytes, bytes}
 use Rattle.net_text.specs.Forms.{Met, wrong, met, Form, say, behind, instead, ◌or◌, ◌>>=◌, ◌>>◌, exactly, quoted, Decimal, decimal, RawArc, raw_take, raw_put, raw_read, raw_block, take_form, arc_form, next_arc}
 use Rattle.net_text.specs.Reading.{badly}
-use Rattle.net_text.specs.Scanned.{through, found, held, Seen, seen, number, number_is, SeenPair, pair_of, pair_form, pair_is, SeenArc, slot_with, seen_arc, take_kind, take_arc, plain_arc, arc_is}
+use Rattle.net_text.specs.Scanned.{through, held, seen, number, pair_of, pair_form, SeenArc, slot_with, seen_arc, take_kind, take_arc, plain_arc}
 use Rattle.net_text.specs.declared.scan.Number.{Number}
 use Rattle.net_text.specs.declared.scan.Pair.{Pair}
-use Rattle.net_text.specs.declared.scan.ArcSeen.{ArcSeen}
-use Rattle.net_text.proofs.Forms.{found_yes, found_no}
-
--- ---- a form behind what was found
-
-module _ {A B : Type 0} (m : Met A) (next : A → Form B) (l : Bytes) (b : Bool) (a : A) (n : ℕ) (e : m ≡ found l b a n) where
-  pub step_yes : b ≡ true → behind m next ≡ next a (drop n l)
-  step_yes h = ap (λ (x : Met A). behind x next) (e ∙ found_yes l a n b h)
-
-  pub step_no : b ≡ false → behind m next ≡ wrong
-  step_no h = ap (λ (x : Met A). behind x next) (e ∙ found_no l a n b h)
 
 -- ---- forms seen through a function
 
@@ -40,7 +29,7 @@ same_quoted f s F G h t = go (quoted s t)
     go wrong = refl
     go (met a r) = h r
 
-same_number : {A B : Type 0} (f : A → B) (F : Decimal → Form A) (G : Seen → Form B) → ((d : Decimal) → Same f (F d) (G (seen d)))
+same_number : {A B : Type 0} (f : A → B) (F : Decimal → Form A) (G : Number → Form B) → ((d : Decimal) → Same f (F d) (G (seen d)))
     → Same f (◌>>=◌ decimal F) (◌>>=◌ number G)
 same_number f F G h t = go (decimal t)
   where
@@ -48,13 +37,13 @@ same_number f F G h t = go (decimal t)
     go wrong = refl
     go (met d r) = h d r
 
-abbrev second : Seen → Form SeenPair
+abbrev second : Number → Form Pair
 second p = ◌>>=◌ number (λ w. say (pair_of p w))
 
-abbrev spaced : Seen → Form SeenPair
+abbrev spaced : Number → Form Pair
 spaced p = ◌>>◌ (quoted " ") (second p)
 
-same_pair : {A B : Type 0} (f : A → B) (F : Decimal → Decimal → Form A) (G : SeenPair → Form B)
+same_pair : {A B : Type 0} (f : A → B) (F : Decimal → Decimal → Form A) (G : Pair → Form B)
     → ((p w : Decimal) → Same f (F p w) (G (pair_of (seen p) (seen w))))
     → Same f (◌>>=◌ decimal (λ p. ◌>>◌ (quoted " ") (◌>>=◌ decimal (F p)))) (◌>>=◌ pair_form G)
 same_pair f F G h t = one (decimal t)
@@ -213,107 +202,6 @@ module _ (u : Bytes) where
       → exactly (bytes "(block ") u ≡ wrong → through seen_arc (any_arc u) ≡ wrong
   is_none t p r b = ap (through seen_arc) (last_of t p r ∙ no_arc "(block " raw_block b)
 
--- ---- the scanner's steps
-
--- two numbers with a space between them
-module _ (l : Bytes) (at : ℕ) (p : Number) (e : number (drop at l) ≡ number_is l p) where
-  abbrev first : Seen
-  first = record { value = p.value; strange = p.strange }
-
-  pub pair_none : p.ok ≡ false → pair_form (drop at l) ≡ wrong
-  pair_none h = step_no (number (drop at l)) spaced l p.ok first p.next e h
-
-  module _ (h : p.ok ≡ true) (s : Bool) (f : exactly (32 ∷ []) (drop p.next l) ≡ found l s tt (p.next + 1)) where
-    begun : pair_form (drop at l) ≡ spaced first (drop p.next l)
-    begun = step_yes (number (drop at l)) spaced l p.ok first p.next e h
-
-    pub pair_no_space : s ≡ false → pair_form (drop at l) ≡ wrong
-    pair_no_space i = begun ∙ step_no (exactly (32 ∷ []) (drop p.next l)) (λ a. second first) l s tt (p.next + 1) f i
-
-    module _ (i : s ≡ true) (w : Number) (g : number (drop (p.next + 1) l) ≡ number_is l w) where
-      abbrev other : Seen
-      other = record { value = w.value; strange = w.strange }
-
-      on : pair_form (drop at l) ≡ second first (drop (p.next + 1) l)
-      on = begun ∙ step_yes (exactly (32 ∷ []) (drop p.next l)) (λ a. second first) l s tt (p.next + 1) f i
-
-      pub pair_no_second : w.ok ≡ false → pair_form (drop at l) ≡ wrong
-      pair_no_second j = on ∙ step_no (number (drop (p.next + 1) l)) (λ v. say (pair_of first v)) l w.ok other w.next g j
-
-      pub pair_both : w.ok ≡ true → pair_form (drop at l) ≡ met (pair_of first other) (drop w.next l)
-      pair_both j = on ∙ step_yes (number (drop (p.next + 1) l)) (λ v. say (pair_of first v)) l w.ok other w.next g j
-
-pub pair_is_none : (l : Bytes) (r : Pair) → r.ok ≡ false → wrong ≡ pair_is l r
-pair_is_none l r e = sym (found_no l (record { place = r.place; weight = r.weight; strange = r.strange }) r.next r.ok e)
-
-pub arc_is_none : (l : Bytes) (r : ArcSeen) → r.ok ≡ false → wrong ≡ arc_is l r
-arc_is_none l r e =
-    sym (found_no l (record { slot = record { kind = r.kind; place = r.place; weight = r.weight }; strange = r.strange }) r.next r.ok e)
-
--- behind two numbers: a bracket; or a space, the flag and a bracket
-module _ (l : Bytes) (at : ℕ) (a : Pair) (e : pair_form (drop at l) ≡ pair_is l a) where
-  abbrev pair : SeenPair
-  pair = record { place = a.place; weight = a.weight; strange = a.strange }
-
-  abbrev closed : SeenArc → Form SeenArc
-  closed r = ◌>>◌ (quoted ")") (say r)
-
-  abbrev plain : ℕ → SeenPair → SeenArc
-  plain kind q = record { slot = slot_with kind q; strange = q.strange }
-
-  pub plain_none : (kind : ℕ) → a.ok ≡ false → plain_arc kind (drop at l) ≡ wrong
-  plain_none kind h = step_no (pair_form (drop at l)) (λ q. closed (plain kind q)) l a.ok pair a.next e h
-
-  module _ (kind : ℕ) (h : a.ok ≡ true) (s : Bool) (f : exactly (41 ∷ []) (drop a.next l) ≡ found l s tt (a.next + 1)) where
-    plain_on_lem : plain_arc kind (drop at l) ≡ closed (plain kind pair) (drop a.next l)
-    plain_on_lem = step_yes (pair_form (drop at l)) (λ q. closed (plain kind q)) l a.ok pair a.next e h
-
-    pub plain_open : s ≡ false → plain_arc kind (drop at l) ≡ wrong
-    plain_open i = plain_on_lem ∙ step_no (exactly (41 ∷ []) (drop a.next l)) (λ u. say (plain kind pair)) l s tt (a.next + 1) f i
-
-    pub plain_whole : s ≡ true → plain_arc kind (drop at l) ≡ met (plain kind pair) (drop (a.next + 1) l)
-    plain_whole i = plain_on_lem ∙ step_yes (exactly (41 ∷ []) (drop a.next l)) (λ u. say (plain kind pair)) l s tt (a.next + 1) f i
-
-  abbrev taken : SeenPair → Seen → SeenArc
-  taken q k = record { slot = slot_with (take_kind k.value) q; strange = q.strange || k.strange || ltb 1 k.value }
-
-  abbrev flagged : SeenPair → Form SeenArc
-  flagged q = ◌>>=◌ number (λ k. closed (taken q k))
-
-  pub take_none : a.ok ≡ false → take_arc (drop at l) ≡ wrong
-  take_none h = step_no (pair_form (drop at l)) (λ q. ◌>>◌ (quoted " ") (flagged q)) l a.ok pair a.next e h
-
-  module _ (h : a.ok ≡ true) (s : Bool) (f : exactly (32 ∷ []) (drop a.next l) ≡ found l s tt (a.next + 1)) where
-    take_begun : take_arc (drop at l) ≡ ◌>>◌ (quoted " ") (flagged pair) (drop a.next l)
-    take_begun = step_yes (pair_form (drop at l)) (λ q. ◌>>◌ (quoted " ") (flagged q)) l a.ok pair a.next e h
-
-    pub take_no_space : s ≡ false → take_arc (drop at l) ≡ wrong
-    take_no_space i = take_begun ∙ step_no (exactly (32 ∷ []) (drop a.next l)) (λ u. flagged pair) l s tt (a.next + 1) f i
-
-    module _ (i : s ≡ true) (k : Number) (g : number (drop (a.next + 1) l) ≡ number_is l k) where
-      abbrev flag : Seen
-      flag = record { value = k.value; strange = k.strange }
-
-      take_spaced : take_arc (drop at l) ≡ flagged pair (drop (a.next + 1) l)
-      take_spaced = take_begun ∙ step_yes (exactly (32 ∷ []) (drop a.next l)) (λ u. flagged pair) l s tt (a.next + 1) f i
-
-      pub take_no_flag : k.ok ≡ false → take_arc (drop at l) ≡ wrong
-      take_no_flag j = take_spaced ∙ step_no (number (drop (a.next + 1) l)) (λ v. closed (taken pair v)) l k.ok flag k.next g j
-
-      module _ (j : k.ok ≡ true) (z : Bool) (b : exactly (41 ∷ []) (drop k.next l) ≡ found l z tt (k.next + 1)) where
-        take_flagged : take_arc (drop at l) ≡ closed (taken pair flag) (drop k.next l)
-        take_flagged = take_spaced ∙ step_yes (number (drop (a.next + 1) l)) (λ v. closed (taken pair v)) l k.ok flag k.next g j
-
-        pub take_open : z ≡ false → take_arc (drop at l) ≡ wrong
-        take_open n = take_flagged ∙ step_no (exactly (41 ∷ []) (drop k.next l)) (λ u. say (taken pair flag)) l z tt (k.next + 1) b n
-
-        pub take_whole : z ≡ true → take_arc (drop at l) ≡ met (taken pair flag) (drop (k.next + 1) l)
-        take_whole y = take_flagged ∙ step_yes (exactly (41 ∷ []) (drop k.next l)) (λ u. say (taken pair flag)) l z tt (k.next + 1) b y
-
 -- the space in front of an arc
-module _ (l : Bytes) (at : ℕ) (s : Bool) (f : exactly (32 ∷ []) (drop at l) ≡ found l s tt (at + 1)) where
-  pub arc_no_space : s ≡ false → through seen_arc (next_arc (drop at l)) ≡ wrong
-  arc_no_space h = ap (through seen_arc) (step_no (exactly (32 ∷ []) (drop at l)) (λ u. any_arc) l s tt (at + 1) f h)
-
-  pub arc_spaced : s ≡ true → through seen_arc (next_arc (drop at l)) ≡ through seen_arc (any_arc (drop (at + 1) l))
-  arc_spaced h = ap (through seen_arc) (step_yes (exactly (32 ∷ []) (drop at l)) (λ u. any_arc) l s tt (at + 1) f h)
+pub spaced_arc : (l left : Bytes) → exactly (bytes " ") l ≡ met tt left → through seen_arc (next_arc l) ≡ through seen_arc (any_arc left)
+spaced_arc l left e = rw e

@@ -1,108 +1,77 @@
 -- The text cut where the reader cuts it: a line and its newline in front, or no newline at all; and what each gives. Assumes nothing.
-use Prim.Native.Nat.{ℕ, suc, ◌+◌, ◌-◌, ◌≤◌, ◌<◌}
-use mathlib.Core.Path.{◌≡◌, refl, sym, ap, subst, ◌∙◌}
-use mathlib.Core.Bool.{false}
-use mathlib.Core.List.{[], ◌∷◌, ◌++◌}
+use Prim.Native.Nat.{ℕ, zero, suc, ◌+◌, ◌-◌, ◌≤◌, ◌<◌}
+use mathlib.Core.Path.{◌≡◌, refl, sym, ap, ◌∙◌}
+use mathlib.Core.Bool.{Bool, true, false, not, cond}
+use mathlib.Core.List.{[], ◌∷◌}
 use native.Mathlib.Omega.{arith}
 use native.Mathlib.Numerals.{add-one}
-use lib.Dec.{eqb}
-use lib.ListN.{length, get_or, take, drop, take-append-drop, length-drop, drop_of_length-le}
-use lib.Seq.{drop-cons, drop-drop, take_all, take-suc, get_or-drop}
-use borrow.Author.Tests.{ne_eqb}
+use lib.Dec.{eqb, ltb}
+use lib.ListN.{length, get_or, take, drop, length-drop}
+use lib.Seq.{take_all}
+use borrow.Author.Tests.{ltb-true, ltb-false, eqb-true, eqb-false, ne_eqb, eq-eqb}
+use Rattle.std.proofs.Common.{Option, Some, None, position}
+use Rattle.std.specs.List.{position_or_len}
+use Rattle.net.specs.Net.{pick}
 use Rattle.text.specs.Text.{Bytes, newline}
-use Rattle.net_text.specs.Lines.{Lines, lines}
-use Rattle.net_text.specs.Reading.{Due, opening, inside, closing, nothing, Outcome, fault, go_on, Answer, refused, line_read, at_end, onward, read_from}
-use Rattle.net_text.specs.Position.{plain, LineEnd}
+use Rattle.net_text.specs.Lines.{Lines, lines, empty_line, longer}
 
 -- ---- the end of a line
 
-plain_last : (l : Bytes) (b : ℕ) → plain l → eqb b newline ≡ false → plain (l ++ (b ∷ []))
-plain_last [] b h e = (e, tt)
-plain_last (c ∷ l) b h e = (h.0, plain_last l b h.1 e)
+abbrev ends : ℕ → Bool
+ends b = eqb b newline
 
-module _ (t : Bytes) (at i : ℕ) (from : at ≤ i) where
-  pub plain_more : i < length t → plain (take (i - at) (drop at t)) → (get_or t i 0 ≡ newline → ⊥) → plain (take (i + 1 - at) (drop at t))
-  plain_more h p e =
-      let one : i + 1 - at ≡ suc (i - at) = omega arith in
-      let there : get_or (drop at t) (i - at) 0 ≡ get_or t i 0 = get_or-drop at t (i - at) 0 ∙ ap (λ (j : ℕ). get_or t j 0) (the_place h) in
-      let inside : i - at < length (drop at t) = rw (length-drop at t) (omega arith) in
-      rw (one, take-suc (drop at t) (i - at) 0 inside)
-      (plain_last (take (i - at) (drop at t)) (get_or (drop at t) (i - at) 0) p (rw there (ne_eqb (get_or t i 0) newline e)))
-    where
-      the_place : i < length t → at + (i - at) ≡ i
-      the_place h = omega arith
+-- the first newline, or the end of the text
+abbrev end : Bytes → ℕ
+end t = position_or_len ends t
 
-pub plain_none : (t : Bytes) (at : ℕ) → plain (take (at - at) (drop at t))
-plain_none t at = let none : at - at ≡ 0 = omega arith in rw none tt
+-- a newline stands at e, and none before it
+pub record Ended (t : Bytes) (e : ℕ) : Type 0 where
+  pub cut : lines t ≡ record { ended = take e t ∷ (lines (drop (e + 1) t)).ended; rest = (lines (drop (e + 1) t)).rest }
+  pub inside : e < length t
 
--- ---- cutting
+end_by : (x : Bool) (b : ℕ) (t : Bytes) (e : ℕ) → eqb b newline ≡ x → (e < length t → Ended t e) → cond (not x) (1 + e) 0 < suc (length t)
+    → Ended (b ∷ t) (cond (not x) (1 + e) 0)
+end_by true b t e is later h = record { cut = rw is; inside = omega arith }
+end_by false b t e is later h =
+    let more : 1 + e ≡ suc e = omega arith in
+    let l : Ended t e = later (omega arith) in
+    let two : suc e + 1 ≡ suc (suc e) = omega arith in
+    let one : e + 1 ≡ suc e = omega arith in
+    rw more (record { cut = rw (is, l.cut, two, one); inside = omega arith })
 
--- a line that holds no newline, then a newline: one line more
-line_first : (l t : Bytes) → plain l → lines (l ++ (newline ∷ t)) ≡ record { ended = l ∷ (lines t).ended; rest = (lines t).rest }
-line_first [] t h = refl
-line_first (b ∷ l) t h = rw (h.0, line_first l t h.1)
+ended : (t : Bytes) → end t < length t → Ended t (end t)
+ended [] h = absurd (omega arith)
+ended (b ∷ t) h = end_by (eqb b newline) b t (end t) refl (ended t) h
 
--- no newline at all: no line
-no_line : (l : Bytes) → plain l → lines l ≡ record { ended = []; rest = l }
-no_line [] h = refl
-no_line (b ∷ l) h = rw (h.0, no_line l h.1)
+unended_by : (x : Bool) (b : ℕ) (t : Bytes) (e : ℕ) → eqb b newline ≡ x → (length t ≤ e → lines t ≡ record { ended = []; rest = t })
+    → suc (length t) ≤ cond (not x) (1 + e) 0 → lines (b ∷ t) ≡ record { ended = []; rest = b ∷ t }
+unended_by true b t e is later h = absurd (omega arith)
+unended_by false b t e is later h = rw (is, later (omega arith))
 
-module _ (t : Bytes) (at e : ℕ) (found : LineEnd t at e) where
-  cut : e < length t → drop at t ≡ take (e - at) (drop at t) ++ (newline ∷ drop (e + 1) t)
-  cut h =
-      let place : at + (e - at) ≡ e = omega (arith, found.from) in
-      sym (take-append-drop (e - at) (drop at t))
-      ∙ ap (λ (s : Bytes). take (e - at) (drop at t) ++ s)
-      (drop-drop (e - at) at t
-      ∙ ap (λ (j : ℕ). drop j t) place
-      ∙ drop-cons t e 0 h
-      ∙ ap (λ (b : ℕ). b ∷ drop (suc e) t) (found.one h)
-      ∙ ap (λ (j : ℕ). newline ∷ drop j t) (sym (add-one e)))
+unended : (t : Bytes) → length t ≤ end t → lines t ≡ record { ended = []; rest = t }
+unended [] h = refl
+unended (b ∷ t) h = unended_by (eqb b newline) b t (end t) refl (unended t) h
 
-  pub line_more : e < length t
-      → lines (drop at t) ≡ record { ended = take (e - at) (drop at t) ∷ (lines (drop (e + 1) t)).ended; rest = (lines (drop (e + 1) t)).rest }
-  line_more h = ap lines (cut h) ∙ line_first (take (e - at) (drop at t)) (drop (e + 1) t) found.none
+none_not_some : {P : Type 0} (e : ℕ) → ◌≡◌ {A = Option ℕ} None (Some e) → P
+none_not_some e f = let z : ◌≡◌ {A = ℕ} 0 1 = cc in absurd (omega arith)
 
-  pub line_last : e ≡ length t → lines (drop at t) ≡ record { ended = []; rest = drop at t }
-  line_last h =
-      let all : take (e - at) (drop at t) ≡ drop at t = take_all (e - at) (drop at t) (omega (arith, length-drop at t)) in
-      no_line (drop at t) (subst plain all found.none)
+pub cut_at : (t : Bytes) (e : ℕ) → Some e ≡ position ends t → Ended t e
+cut_at t e f = go (ltb (end t) (length t)) refl f
+  where
+    go : (x : Bool) → ltb (end t) (length t) ≡ x → Some e ≡ cond x (Some (end t)) None → Ended t e
+    go true h f = let is : e ≡ end t = cc in rw is (ended t (ltb-true (end t) (length t) h))
+    go false h f = none_not_some e (sym f)
 
--- ---- reading
+pub uncut : (t : Bytes) → ◌≡◌ {A = Option ℕ} None (position ends t) → lines t ≡ record { ended = []; rest = t }
+uncut t f = go (ltb (end t) (length t)) refl f
+  where
+    go : (x : Bool) → ltb (end t) (length t) ≡ x → ◌≡◌ {A = Option ℕ} None (cond x (Some (end t)) None) → lines t ≡ record { ended = []; rest = t }
+    go true h f = none_not_some (end t) f
+    go false h f = unended t (ltb-false (end t) (length t) h)
 
--- what is read from a place of the text on, with this number for the line there
-abbrev pub from : ℕ → Due → Bytes → Answer
-from number d t = read_from number d (lines t).ended (lines t).rest
+-- all that is left is taken
+pub all_left : (t : Bytes) (e : ℕ) → take (length t - (e + 1)) (drop (e + 1) t) ≡ drop (e + 1) t
+all_left t e = take_all (length t - (e + 1)) (drop (e + 1) t) (omega (arith, length-drop (e + 1) t))
 
--- a last line without its newline
-end_rest : (number : ℕ) (d : Due) (b : ℕ) (t : Bytes) → at_end number d (b ∷ t) ≡ refused 1 number
-end_rest number opening b t = refl
-end_rest number (inside n names) b t = refl
-end_rest number (closing n names r) b t = refl
-end_rest number (nothing n names r) b t = refl
-
-module _ (t : Bytes) (at e : ℕ) (found : LineEnd t at e) (number : ℕ) (d : Due) where
-  pub read_last : e ≡ length t → at < length t → from number d (drop at t) ≡ refused 1 number
-  read_last h l =
-      ap (λ (c : Lines). read_from number d c.ended c.rest) (line_last t at e found h)
-      ∙ ap (at_end number d) (drop-cons t at 0 l)
-      ∙ end_rest number d (get_or t at 0) (drop (suc at) t)
-
-  first : e < length t
-      → from number d (drop at t) ≡ onward number (line_read d (take (e - at) (drop at t))) (λ next. from (suc number) next (drop (e + 1) t))
-  first h = ap (λ (c : Lines). read_from number d c.ended c.rest) (line_more t at e found h)
-
-  pub read_fault : (c : ℕ) → e < length t → fault c ≡ line_read d (take (e - at) (drop at t)) → from number d (drop at t) ≡ refused c number
-  read_fault c h f =
-      first h ∙ ap (λ (o : Outcome). onward number o (λ next. from (suc number) next (drop (e + 1) t))) (sym f)
-
-  pub read_on : (next : Due) → e < length t → go_on next ≡ line_read d (take (e - at) (drop at t))
-      → from number d (drop at t) ≡ from (number + 1) next (drop (e + 1) t)
-  read_on next h f =
-      first h
-      ∙ ap (λ (o : Outcome). onward number o (λ next. from (suc number) next (drop (e + 1) t))) (sym f)
-      ∙ ap (λ (k : ℕ). from k next (drop (e + 1) t)) (sym (add-one number))
-
--- at the end of the text there is no line
-pub read_end : (t : Bytes) (at number : ℕ) (d : Due) → length t ≤ at → from number d (drop at t) ≡ at_end number d []
-read_end t at number d h = rw (drop_of_length-le t h)
+pub shorter : (t : Bytes) (e : ℕ) → e < length t → length (drop (e + 1) t) < length t
+shorter t e h = omega (arith, length-drop (e + 1) t)

@@ -1,103 +1,109 @@
--- The laws of a decimal that is read digit by digit. The invariant of the loop, Reading, says that what is left of the digits gives the value of
--- them all; with a digit more it holds again, and where no digit stands it gives the decimal. Assumes nothing.
-use Prim.Native.Nat.{ℕ, ◌+◌, ◌-◌, ◌*◌, ◌^◌, ◌≤◌, ◌<◌}
+-- The laws of a decimal: where its digits end, what their value is in 64 bits, and what the scanner makes of both. Assumes nothing.
+use Prim.Native.Nat.{ℕ, zero, suc, ◌+◌, ◌-◌, ◌*◌, ◌^◌, ◌≤◌, ◌<◌}
 use mathlib.Core.Path.{◌≡◌, refl, sym, ap, ◌∙◌}
-use mathlib.Core.Bool.{Bool, true, false, ◌||◌}
+use mathlib.Core.Bool.{Bool, true, false, not, cond, ◌||◌}
 use mathlib.Core.List.{[], ◌∷◌}
 use native.Mathlib.Omega.{arith}
 use native.Mathlib.Numerals.{add-one}
-use native.Mathlib.Nat.{add-zero}
-use lib.Dec.{eqb}
-use lib.ListN.{length, get_or, drop, drop_of_length-le}
-use lib.Seq.{drop-cons, get_or-drop}
-use borrow.Author.Tests.{eq-eqb, ne_eqb, le-leb, lt-leb, leb-true, leb-false}
+use lib.Dec.{ltb, leb}
+use lib.ListN.{length, get_or, take, drop}
+use lib.Seq.{drop-cons, drop-length}
+use borrow.Author.Tests.{le-leb, lt-leb, leb-true, ltb-false}
+use Rattle.std.proofs.Common.{Option, Some, None, position}
+use Rattle.std.specs.List.{position_or_len, prefix_len}
+use Rattle.std.specs.Option.{unwrap_or, is_some}
+use Rattle.std.proofs.lemmas.List.Sums.{prefix_len-le-length}
 use Rattle.net.specs.Net.{pick}
 use Rattle.text.specs.Text.{Bytes}
 use Rattle.net_text.specs.Forms.{wrong, met, is_digit_byte, digits, after_digits, value_from, zero_leads, some_digits, decimal}
-use Rattle.net_text.specs.Scanned.{through, seen, Kept}
-
--- ---- a value kept in 64 bits
-
-pub kept_small : (v : ℕ) → v < 2 ^ 64 → Kept v v false
-kept_small v h = record { number = omega arith; mark = sym (lt-leb (2 ^ 64) v h) }
-
-pub kept_large : (v : ℕ) → 2 ^ 64 ≤ v → Kept v 0xFFFF_FFFF_FFFF_FFFF true
-kept_large v h = record { number = omega arith; mark = sym (le-leb (2 ^ 64) v h) }
-
-pub small_if : {v value : ℕ} {over : Bool} → Kept v value over → over ≡ false → v < 2 ^ 64
-small_if {v} k e = leb-false (2 ^ 64) v (sym k.mark ∙ e)
-
-pub large_if : {v value : ℕ} {over : Bool} → Kept v value over → over ≡ true → 2 ^ 64 ≤ v
-large_if {v} k e = leb-true (2 ^ 64) v (sym k.mark ∙ e)
-
--- a value that is kept whole, with a digit more
-pub more_small : (v value d : ℕ) → value ≡ v → v * 10 + d < 2 ^ 64 → Kept (v * 10 + d) (value * 10 + d) false
-more_small v value d e h = rw e (kept_small (v * 10 + d) h)
+use Rattle.net_text.specs.Scanned.{through, seen, held, number, Kept}
 
 -- ---- the run of digits
 
-is_digit : (b : ℕ) → 48 ≤ b → b ≤ 57 → is_digit_byte b ≡ true
-is_digit b low high = rw (le-leb 48 b low, le-leb b 57 high)
+-- so many digits stand in front, and no more
+pub record Counted (t : Bytes) (n : ℕ) : Type 0 where
+  pub are : digits t ≡ take n t
+  pub after : after_digits t ≡ drop n t
+  pub inside : n ≤ length t
 
-below_digits : (b : ℕ) → b < 48 → is_digit_byte b ≡ false
-below_digits b h = rw (lt-leb 48 b h)
+abbrev other : ℕ → Bool
+other b = not (is_digit_byte b)
 
-above_digits : (b : ℕ) → 57 < b → is_digit_byte b ≡ false
-above_digits b h = rw (le-leb 48 b (omega arith), lt-leb b 57 h)
+counted_by : (x : Bool) (b : ℕ) (t : Bytes) (n : ℕ) → Counted t n
+    → (pick x (b ∷ digits t) [] ≡ take (cond (not (not x)) (1 + n) 0) (b ∷ t))
+    × (pick x (after_digits t) (b ∷ t) ≡ drop (cond (not (not x)) (1 + n) 0) (b ∷ t))
+    × (cond (not (not x)) (1 + n) 0 ≤ suc (length t))
+counted_by true b t n c =
+    let more : 1 + n ≡ suc n = omega arith in
+    (rw (more, c.are), rw (more, c.after), omega (arith, c.inside))
+counted_by false b t n c = (refl, refl, omega arith)
 
--- no digit in front: the run is empty
-pub record Stopped (t : Bytes) : Type 0 where
-  pub none : digits t ≡ []
-  pub rest : after_digits t ≡ t
+counted : (t : Bytes) → Counted t (position_or_len other t)
+counted [] = record { are = refl; after = refl; inside = omega arith }
+counted (b ∷ t) =
+    let c = counted_by (is_digit_byte b) b t (position_or_len other t) (counted t) in
+    record { are = c.0; after = c.1; inside = c.2 }
 
-stopped_by : (l : Bytes) (i : ℕ) → i < length l → is_digit_byte (get_or l i 0) ≡ false → Stopped (drop i l)
-stopped_by l i h e = rw (drop-cons l i 0 h) (record { none = rw e; rest = rw e })
+-- where the digits end, or at the end of the line
+counted_or : (t : Bytes) → Counted t (unwrap_or (position other t) (length t))
+counted_or t = go (ltb (position_or_len other t) (length t)) refl
+  where
+    go : (x : Bool) → ltb (position_or_len other t) (length t) ≡ x → Counted t (unwrap_or (cond x (Some (position_or_len other t)) None) (length t))
+    go true e = counted t
+    go false e =
+        let all : length t ≡ position_or_len other t =
+        omega (arith, ltb-false (position_or_len other t) (length t) e, (counted t).inside) in
+        rw all (counted t)
 
-pub stopped_end : (l : Bytes) (i : ℕ) → length l ≤ i → Stopped (drop i l)
-stopped_end l i h = rw (drop_of_length-le l h) (record { none = refl; rest = refl })
+pub counted_at : (t : Bytes) (end : Option ℕ) (n : ℕ) → end ≡ position other t → n ≡ unwrap_or end (length t) → Counted t n
+counted_at t end n e f = rw (f, e) (counted_or t)
 
-pub stopped_below : (l : Bytes) (i : ℕ) → i < length l → get_or l i 0 < 48 → Stopped (drop i l)
-stopped_below l i h e = stopped_by l i h (below_digits (get_or l i 0) e)
+again_by : (x : Bool) (b : ℕ) (ds : Bytes) → is_digit_byte b ≡ x → digits ds ≡ ds → digits (pick x (b ∷ ds) []) ≡ pick x (b ∷ ds) []
+again_by true b ds e h = rw (e, h)
+again_by false b ds e h = refl
 
-pub stopped_above : (l : Bytes) (i : ℕ) → i < length l → 57 < get_or l i 0 → Stopped (drop i l)
-stopped_above l i h e = stopped_by l i h (above_digits (get_or l i 0) e)
+-- digits are digits
+digits_again : (t : Bytes) → digits (digits t) ≡ digits t
+digits_again [] = refl
+digits_again (b ∷ t) = again_by (is_digit_byte b) b (digits t) refl (digits_again t)
 
-module _ (l : Bytes) (i : ℕ) (h : i < length l) (low : 48 ≤ get_or l i 0) (high : get_or l i 0 ≤ 57) where
-  digits_more : digits (drop i l) ≡ get_or l i 0 ∷ digits (drop (i + 1) l)
-  digits_more = rw (add-one, drop-cons l i 0 h, is_digit (get_or l i 0) low high)
+pub all_digits : (t : Bytes) (n : ℕ) → Counted t n → digits (take n t) ≡ take n t
+all_digits t n c = rw (sym c.are) (digits_again t)
 
-  after_more : after_digits (drop i l) ≡ after_digits (drop (i + 1) l)
-  after_more = rw (add-one, drop-cons l i 0 h, is_digit (get_or l i 0) low high)
+-- ---- each is valued as it is read
 
--- ---- the loop
+digit_by : (b : ℕ) (x y : Bool) → leb 48 b ≡ x → leb b 57 ≡ y → (mathlib.Core.Bool.◌&&◌ x y) ≡ true → (48 ≤ b) × (b ≤ 57)
+digit_by b true true e f h = (leb-true 48 b e, leb-true b 57 f)
+digit_by b true false e f h = let z : ◌≡◌ {A = ℕ} 0 1 = cc in absurd (omega arith)
+digit_by b false y e f h = let z : ◌≡◌ {A = ℕ} 0 1 = cc in absurd (omega arith)
 
--- the digits from at up to i are read, and their value v is kept
-pub record Reading (l : Bytes) (at i value : ℕ) (over : Bool) : Type 0 where
-  pub v : ℕ
-  pub kept : Kept v value over
-  pub from : at ≤ i
-  pub inside : i ≤ length l
-  pub valued : value_from 0 (digits (drop at l)) ≡ value_from v (digits (drop i l))
-  pub after : after_digits (drop at l) ≡ after_digits (drop i l)
-  pub count : length (digits (drop at l)) ≡ i - at + length (digits (drop i l))
+digits_tail : (x : Bool) (b : ℕ) (t ds : Bytes) → pick x (b ∷ ds) [] ≡ b ∷ t → (x ≡ true) × (ds ≡ t)
+digits_tail true b t ds e = (refl, cc)
+digits_tail false b t ds e = let z : ◌≡◌ {A = ℕ} 0 1 = cc in absurd (omega arith)
 
-pub reading_none : (l : Bytes) (at : ℕ) → at ≤ length l → Reading l at at 0 false
-reading_none l at h =
-    record { v = 0; kept = kept_small 0 (omega arith); from = omega arith; inside = h; valued = refl; after = refl; count = omega arith }
+pub digit_at : (ds : Bytes) (i : ℕ) → digits ds ≡ ds → i < length ds → (48 ≤ get_or ds i 0) × (get_or ds i 0 ≤ 57)
+digit_at [] i e h = absurd (omega arith)
+digit_at (b ∷ ds) zero e h =
+    let d = digits_tail (is_digit_byte b) b ds (digits ds) e in
+    digit_by b (leb 48 b) (leb b 57) refl refl d.0
+digit_at (b ∷ ds) (suc i) e h =
+    let d = digits_tail (is_digit_byte b) b ds (digits ds) e in
+    digit_at ds i d.1 (omega arith)
 
-pub reading_more : (l : Bytes) (at i value : ℕ) (over : Bool) → Reading l at i value over → i < length l → 48 ≤ get_or l i 0 → get_or l i 0 ≤ 57
-    → (value' : ℕ) (over' : Bool) → ((v : ℕ) → Kept v value over → Kept (v * 10 + (get_or l i 0 - 48)) value' over') → Reading l at (i + 1) value' over'
-reading_more l at i value over r h low high value' over' k =
-    let more = digits_more l i h low high in
-    record {
-      v = r.v * 10 + (get_or l i 0 - 48);
-      kept = k r.v r.kept;
-      from = omega arith;
-      inside = omega arith;
-      valued = r.valued ∙ ap (value_from r.v) more;
-      after = r.after ∙ after_more l i h low high;
-      count = omega (arith, ap length more, r.count);
-    }
+-- a value grows with each digit
+grows : (v : ℕ) (ds : Bytes) → v ≤ value_from v ds
+grows v [] = omega arith
+grows v (b ∷ ds) = omega (arith, grows (v * 10 + (b - 48)) ds)
+
+module _ (ds : Bytes) (i value : ℕ) (so_far : value_from 0 ds ≡ value_from value (drop i ds)) where
+  pub one_more : i < length ds → value_from 0 ds ≡ value_from (value * 10 + (get_or ds i 0 - 48)) (drop (i + 1) ds)
+  one_more h = so_far ∙ rw (add-one, drop-cons ds i 0 h)
+
+  pub over : i < length ds → 2 ^ 64 ≤ value * 10 + (get_or ds i 0 - 48) → Kept (value_from 0 ds) None
+  over h k = omega (arith, one_more h, grows (value * 10 + (get_or ds i 0 - 48)) (drop (i + 1) ds))
+
+  pub all_valued : i ≡ length ds → value_from 0 ds ≡ value
+  all_valued e = so_far ∙ rw (e, drop-length ds)
 
 -- ---- the decimal
 
@@ -105,53 +111,25 @@ some_is : (ds t : Bytes) → 0 < length ds → some_digits ds t ≡ met (record 
 some_is [] t h = absurd (omega arith)
 some_is (d ∷ ds) t h = refl
 
-none_is : (ds t : Bytes) → length ds ≡ 0 → some_digits ds t ≡ wrong
-none_is [] t h = refl
-none_is (d ∷ ds) t h = absurd (omega arith)
+pub no_decimal : (t : Bytes) → Counted t 0 → number t ≡ wrong
+no_decimal t c = rw c.are
 
-led_by : (b : ℕ) (ds : Bytes) → 0 < length ds → zero_leads (b ∷ ds) ≡ eqb b 48
-led_by b [] h = absurd (omega arith)
-led_by b (c ∷ ds) h = refl
+held_is : (v : ℕ) (value : Option ℕ) → Kept v value → (held v ≡ unwrap_or value 0xFFFF_FFFF_FFFF_FFFF) × (not (leb (2 ^ 64) v) ≡ is_some value)
+held_is v None k = (omega arith, ap not (le-leb (2 ^ 64) v k))
+held_is v (Some value) k = (omega (arith, k.0, k.1), ap not (lt-leb (2 ^ 64) v k.1))
 
--- two digits or more: the first is the first byte
-led : (t : Bytes) → 1 < length (digits t) → zero_leads (digits t) ≡ eqb (get_or t 0 0) 48
-led [] h = absurd (omega arith)
-led (b ∷ t) h = go (is_digit_byte b) h
-  where
-    go : (x : Bool) → 1 < length (pick x (b ∷ digits t) []) → zero_leads (pick x (b ∷ digits t) []) ≡ eqb b 48
-    go true h = led_by b (digits t) (omega arith)
-    go false h = absurd (omega arith)
+not_not : (x y : Bool) → not x ≡ not y → x ≡ y
+not_not true true e = refl
+not_not true false e = sym e
+not_not false true e = sym e
+not_not false false e = refl
 
-alone_not_led : (ds : Bytes) → length ds ≤ 1 → zero_leads ds ≡ false
-alone_not_led [] h = refl
-alone_not_led (b ∷ []) h = refl
-alone_not_led (b ∷ c ∷ ds) h = absurd (omega arith)
-
-module _ (l : Bytes) (at i value : ℕ) (over : Bool) (r : Reading l at i value over) (s : Stopped (drop i l)) where
-  size : length (digits (drop at l)) ≡ i - at
-  size = omega (arith, r.count, ap length s.none)
-
-  whole : value_from 0 (digits (drop at l)) ≡ r.v
-  whole = r.valued ∙ ap (value_from r.v) s.none
-
-  behind_it : after_digits (drop at l) ≡ drop i l
-  behind_it = r.after ∙ s.rest
-
-  seen_is : (z : Bool) → at < i → zero_leads (digits (drop at l)) ≡ z → through seen (decimal (drop at l)) ≡ met (record { value = value; strange = z || over }) (drop i l)
-  seen_is z h e =
-      rw (some_is (digits (drop at l)) (after_digits (drop at l)) (omega (arith, size)), whole, behind_it, e, r.kept.number, r.kept.mark)
-
-  pub reads_none : i ≡ at → through seen (decimal (drop at l)) ≡ wrong
-  reads_none e = rw (none_is (digits (drop at l)) (after_digits (drop at l)) (omega (arith, size)))
-
-  first : 1 < i - at → zero_leads (digits (drop at l)) ≡ eqb (get_or l at 0) 48
-  first h = led (drop at l) (omega (arith, size)) ∙ ap (λ (b : ℕ). eqb b 48) (get_or-drop at l 0 0 ∙ ap (λ (n : ℕ). get_or l n 0) (add-zero at))
-
-  pub reads_led : 1 < i - at → get_or l at 0 ≡ 48 → through seen (decimal (drop at l)) ≡ met (record { value = value; strange = true }) (drop i l)
-  reads_led h e = seen_is true (omega arith) (first h ∙ eq-eqb (get_or l at 0) 48 e)
-
-  pub reads_more : 1 < i - at → (get_or l at 0 ≡ 48 → ⊥) → through seen (decimal (drop at l)) ≡ met (record { value = value; strange = over }) (drop i l)
-  reads_more h e = seen_is false (omega arith) (first h ∙ ne_eqb (get_or l at 0) 48 e)
-
-  pub reads_one : at < i → i - at ≤ 1 → through seen (decimal (drop at l)) ≡ met (record { value = value; strange = over }) (drop i l)
-  reads_one h e = seen_is false h (alone_not_led (digits (drop at l)) (omega (arith, size)))
+pub a_decimal : (t ds left : Bytes) (n : ℕ) → Counted t n → (n ≡ 0 → ⊥) → ds ≡ take n t → left ≡ drop n t → length ds ≡ n
+    → (value : Option ℕ) → Kept (value_from 0 ds) value
+    → (w : ℕ) (z none : Bool) → w ≡ unwrap_or value 0xFFFF_FFFF_FFFF_FFFF → z ≡ zero_leads ds → is_some value ≡ not none
+    → number t ≡ met (record { value = w; strange = z || none }) left
+a_decimal t ds left n c some front back long value k w z none w_is z_is none_is =
+    let h = held_is (value_from 0 ds) value k in
+    let o : leb (2 ^ 64) (value_from 0 ds) ≡ none = not_not _ _ (h.1 ∙ none_is) in
+    ap (through seen) (ap (λ (x : Bytes). some_digits x (after_digits t)) (c.are ∙ sym front) ∙ ap (some_digits ds) (c.after ∙ sym back) ∙ some_is ds left (omega arith))
+    ∙ rw (w_is, z_is, h.0, o)

@@ -1,38 +1,18 @@
 -- The laws of a float's digits, read one by one: what is left to read, behind the value so far, is the float. Assumes nothing.
 use Prim.Native.Nat.{ℕ, zero, suc, ◌+◌, ◌-◌, ◌*◌, ◌^◌, ◌≤◌, ◌<◌}
-use mathlib.Core.Path.{◌≡◌, refl, ap, ◌∙◌}
+use mathlib.Core.Path.{◌≡◌, refl, sym, ap, ◌∙◌}
 use mathlib.Core.Bool.{Bool, true, false}
-use mathlib.Core.List.{[], ◌∷◌}
+use mathlib.Core.List.{[], ◌∷◌, ◌++◌}
 use native.Mathlib.Omega.{arith}
 use native.Mathlib.Numerals.{add-one}
-use native.Mathlib.Nat.{add-suc, pow-suc, pow-le-pow_right, eq-or-lt_of_le}
-use mathlib.Core.Logic.{⊎_elim}
-use lib.ListN.{length, get_or, drop}
-use lib.Seq.{drop-cons}
-use borrow.Author.Tests.{lt-ltb, le-ltb, le-leb, lt-leb}
+use native.Mathlib.Nat.{pow-suc, pow-le-pow_right}
+use lib.ListN.{length, get_or, take, drop, take-append-drop}
+use lib.Seq.{drop-cons, drop-length}
+use Rattle.std.proofs.Common.{Option, Some, None}
 use Rattle.net.specs.Net.{pick}
 use Rattle.text.specs.Text.{Bytes}
-use Rattle.net_text.specs.Forms.{Met, wrong, met, behind, is_digit_byte, between, hex_digit, hex_from}
-use Rattle.net_text.specs.Scanned.{hex_is}
-
--- ---- one digit
-
-pub hex_below : (b : ℕ) (t : Bytes) → b < 48 → hex_digit (b ∷ t) ≡ wrong
-hex_below b t h = rw (lt-leb 48 b h, lt-leb 97 b (omega arith))
-
-pub hex_decimal : (b : ℕ) (t : Bytes) → 48 ≤ b → b ≤ 57 → hex_digit (b ∷ t) ≡ hex_is (b - 48) t
-hex_decimal b t l h = rw (le-leb 48 b l, le-leb b 57 h, lt-ltb (b - 48) 16 (omega arith))
-
-pub hex_between : (b : ℕ) (t : Bytes) → 57 < b → b < 97 → hex_digit (b ∷ t) ≡ wrong
-hex_between b t l h = rw (le-leb 48 b (omega arith), lt-leb b 57 l, lt-leb 97 b h)
-
-pub hex_letter : (b : ℕ) (t : Bytes) → 97 ≤ b → b ≤ 102 → hex_digit (b ∷ t) ≡ hex_is (b - 87) t
-hex_letter b t l h = rw (le-leb 48 b (omega arith), lt-leb b 57 (omega arith), le-leb 97 b l, le-leb b 102 h, lt-ltb (b - 87) 16 (omega arith))
-
-pub hex_above : (b : ℕ) (t : Bytes) → 102 < b → hex_digit (b ∷ t) ≡ wrong
-hex_above b t h = rw (le-leb 48 b (omega arith), lt-leb b 57 (omega arith), le-leb 97 b (omega arith), lt-leb b 102 h)
-
--- ---- sixteen
+use Rattle.net_text.specs.Forms.{Met, wrong, met, behind, is_digit_byte, between, hex_digit, hex_from, hexadecimal}
+use Rattle.net_text.specs.Scanned.{digit_is}
 
 -- a digit, or none, leaves the bytes behind the first
 hex_on : (x y : Bool) (k v d e : ℕ) (t : Bytes) → ((u : ℕ) → hex_from k u t ≡ wrong)
@@ -41,37 +21,45 @@ hex_on true y k v d e t h = h (v * 16 + d)
 hex_on false true k v d e t h = h (v * 16 + e)
 hex_on false false k v d e t h = refl
 
-pub hex_short : (k v : ℕ) (t : Bytes) → length t < k → hex_from k v t ≡ wrong
+hex_short : (k v : ℕ) (t : Bytes) → length t < k → hex_from k v t ≡ wrong
 hex_short zero v t h = absurd (omega arith)
 hex_short (suc k) v [] h = refl
 hex_short (suc k) v (b ∷ t) h = hex_on (is_digit_byte b) (between 97 102 b) k v (b - 48) (b - 87) t (λ u. hex_short k u t (omega arith))
 
-module _ (l : Bytes) (at i v d : ℕ) (more : i < 16) (inside : at + i < length l) (e : (t : Bytes) → hex_digit (get_or l (at + i) 0 ∷ t) ≡ hex_is d t) where
-  left : 16 - i ≡ suc (16 - (i + 1))
-  left = omega arith
+-- fewer bytes than digits
+pub no_float : (t : Bytes) → length t < 16 → hexadecimal t ≡ wrong
+no_float t h = hex_short 16 0 t h
 
-  one_more : hex_from (16 - i) v (drop (at + i) l) ≡ behind (hex_is d (drop (at + (i + 1)) l)) (λ (a : ℕ). hex_from (16 - (i + 1)) (v * 16 + a))
-  one_more =
-      ap (λ (k : ℕ). hex_from k v (drop (at + i) l)) left
-      ∙ ap (λ (t : Bytes). behind (hex_digit t) (λ (a : ℕ). hex_from (16 - (i + 1)) (v * 16 + a))) (drop-cons l (at + i) 0 inside)
-      ∙ rw (add-one, add-suc) (ap (λ (m : Met ℕ). behind m (λ (a : ℕ). hex_from (16 - suc i) (v * 16 + a))) (e (drop (suc (at + i)) l)))
+-- the digits ds, of which i are read with the value v, and the bytes behind them
+abbrev pub Read : Bytes → Bytes → Bytes → ℕ → ℕ → Type 0
+Read t ds left i v = (hex_from (16 - i) v (drop i ds ++ left) ≡ hexadecimal t) × (v < 16 ^ i)
 
-  pub hex_more : d < 16 → hex_from (16 - i) v (drop (at + i) l) ≡ hex_from (16 - (i + 1)) (v * 16 + d) (drop (at + (i + 1)) l)
-  hex_more h = one_more ∙ rw (lt-ltb d 16 h)
+pub read_none : (t ds left : Bytes) → ds ≡ take 16 t → left ≡ drop 16 t → Read t ds left 0 0
+read_none t ds left d l =
+    let whole : ds ++ left ≡ t = rw (d, l) (take-append-drop 16 t) in
+    (ap (hex_from 16 0) whole, omega arith)
 
-  pub hex_stop : d ≡ 16 → hex_from (16 - i) v (drop (at + i) l) ≡ wrong
-  hex_stop h = one_more ∙ rw (le-ltb d 16 (omega arith))
+module _ (t ds left : Bytes) (i v : ℕ) (r : Read t ds left i v) (long : length ds ≡ 16) where
+  pub room : i < 16 → v < 2 ^ 60
+  room h =
+      let most : 16 ^ i ≤ 16 ^ 15 = pow-le-pow_right {n = 16} (omega arith) {i = i} {j = 15} (omega arith) in
+      omega (arith, r.1)
 
-pub ne_below : {m n : ℕ} → m ≤ n → (m ≡ n → ⊥) → m < n
-ne_below {m} {n} h e = ⊎_elim (λ s. absurd (e s)) (λ l. l) (eq-or-lt_of_le h)
+  pub read_all : i ≡ 16 → hexadecimal t ≡ met v left
+  read_all e = sym r.0 ∙ rw (e, sym long, drop-length ds)
 
--- ---- the value fits
+  module _ (digit : Option ℕ) (inside : i < length ds) (e : (u : Bytes) → hex_digit (get_or ds i 0 ∷ u) ≡ digit_is digit u) where
+    one_more : hex_from (16 - i) v (drop i ds ++ left) ≡ behind (digit_is digit (drop (i + 1) ds ++ left)) (λ (a : ℕ). hex_from (16 - (i + 1)) (v * 16 + a))
+    one_more =
+        let more : 16 - i ≡ suc (16 - (i + 1)) = omega arith in
+        ap (λ (k : ℕ). hex_from k v (drop i ds ++ left)) more
+        ∙ ap (λ (u : Bytes). behind (hex_digit (u ++ left)) (λ (a : ℕ). hex_from (16 - (i + 1)) (v * 16 + a))) (drop-cons ds i 0 inside)
+        ∙ rw add-one (ap (λ (m : Met ℕ). behind m (λ (a : ℕ). hex_from (16 - suc i) (v * 16 + a))) (e (drop (suc i) ds ++ left)))
 
--- below the last digit there is room for one more
-pub room : (v i : ℕ) → v < 16 ^ i → i < 16 → v < 2 ^ 60
-room v i h l =
-    let most : 16 ^ i ≤ 16 ^ 15 = pow-le-pow_right {n = 16} (omega arith) {i = i} {j = 15} (omega arith) in
-    omega arith
+    pub read_more : (d : ℕ) → digit ≡ Some d → d < 16 → Read t ds left (i + 1) (v * 16 + d)
+    read_more d s h =
+        let wide : 16 ^ (i + 1) ≡ 16 ^ i * 16 = rw (add-one, pow-suc) in
+        (sym (one_more ∙ rw s) ∙ r.0, omega (arith, r.1, wide))
 
-pub wider : (v i d : ℕ) → v < 16 ^ i → d < 16 → v * 16 + d < 16 ^ (i + 1)
-wider v i d h l = rw (add-one, pow-suc) (omega arith)
+    pub read_stop : digit ≡ None → hexadecimal t ≡ wrong
+    read_stop s = sym r.0 ∙ one_more ∙ rw s

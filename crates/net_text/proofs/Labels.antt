@@ -9,8 +9,9 @@ use native.Mathlib.Omega.{arith}
 use native.Mathlib.Numerals.{add-one}
 use lib.Dec.{eqb, leb}
 use lib.ListN.{length, get_or, take, drop, set, length-drop, take-append-drop}
-use lib.Seq.{get_or-set_same, get_or-set_other, get_or-drop, length-take-le, take-append-le, drop-append-le, take_at, drop_at, drop-length}
-use borrow.Author.Tests.{le-leb, lt-leb, leb-true, eq-eqb, ne_eqb, eqb-true}
+use lib.Seq.{get_or-set_same, get_or-set_other, length-take-le, take-append-le, drop-append-le, take_at, drop_at, drop-length}
+use borrow.Author.Tests.{le-leb, lt-leb, leb-true, eq-eqb, eqb-true}
+use Rattle.std.proofs.Common.{◌≢◌}
 use Rattle.net.specs.Net.{pick, numbered}
 use Rattle.net.specs.Tests.{first_of}
 use Rattle.net.specs.Labels.{label_byte, every, label_tests, label_at, labels_from, label_fault}
@@ -18,107 +19,48 @@ use Rattle.text.specs.Text.{Bytes, bytes}
 use Rattle.text.specs.Buffer.{placed, written}
 use Rattle.text.specs.declared.Written.{Written}
 use Rattle.text.proofs.Places.{fitted}
-use Rattle.net_text.specs.Forms.{wrong, met, exactly, up_to_last, label_form}
-use Rattle.net_text.specs.Scanned.{found}
-use Rattle.net_text.specs.Seen.{part, LabelRead, no_label}
-use Rattle.net_text.proofs.Parts.{found_met, found_wrong, word_inside}
+use Rattle.net_text.specs.Forms.{Met, wrong, met, say, exactly, up_to_last, label_form}
+use Rattle.net_text.proofs.Forms.{behind_wrong}
 
 -- ---- the byte that ends the line
 
-pub up_to_last_lem : (t : Bytes) (n : ℕ) → length t ≡ suc n → get_or t n 0 ≡ 41 → up_to_last t ≡ met (take n t) []
-up_to_last_lem [] n h e = absurd (omega arith)
-up_to_last_lem (b ∷ []) zero h e = rw (eq-eqb b 41 e)
-up_to_last_lem (b ∷ []) (suc n) h e = absurd (omega arith)
-up_to_last_lem (b ∷ c ∷ t) zero h e = absurd (omega arith)
-up_to_last_lem (b ∷ c ∷ t) (suc n) h e = rw (up_to_last_lem (c ∷ t) n (omega arith) e)
+last_met : (l : Bytes) → up_to_last (l ++ (41 ∷ [])) ≡ met l []
+last_met [] = refl
+last_met (b ∷ []) = refl
+last_met (b ∷ c ∷ l) = rw (last_met (c ∷ l))
 
-pub not_last : (t : Bytes) (n : ℕ) → length t ≡ suc n → (get_or t n 0 ≡ 41 → ⊥) → up_to_last t ≡ wrong
-not_last [] n h e = absurd (omega arith)
-not_last (b ∷ []) zero h e = rw (ne_eqb b 41 e)
-not_last (b ∷ []) (suc n) h e = absurd (omega arith)
-not_last (b ∷ c ∷ t) zero h e = absurd (omega arith)
-not_last (b ∷ c ∷ t) (suc n) h e = rw (not_last (c ∷ t) n (omega arith) e)
+last_wrong : (t : Bytes) → ((l : Bytes) → t ≢ l ++ (41 ∷ [])) → up_to_last t ≡ wrong
+last_wrong [] n = refl
+last_wrong (b ∷ []) n = go (eqb b 41) refl
+  where
+    go : (x : Bool) → eqb b 41 ≡ x → ◌≡◌ {A = Met Bytes} (pick x (met [] []) wrong) wrong
+    go true e =
+        let is : b ≡ 41 = eqb-true b 41 e in
+        absurd (n [] (ap (λ (a : ℕ). a ∷ []) is))
+    go false e = refl
+last_wrong (b ∷ c ∷ t) n =
+    behind_wrong (up_to_last (c ∷ t)) (λ l. say (b ∷ l)) (last_wrong (c ∷ t) (λ l e. n (b ∷ l) (ap (λ (u : Bytes). b ∷ u) e)))
 
 -- ---- the form
 
 -- where a space stands no bracket does
-space_only : (t : Bytes) (a : Unit {0}) (r : Bytes) → exactly (bytes " ") t ≡ met a r → exactly (bytes ")") t ≡ wrong
-space_only [] a r e = refl
-space_only (b ∷ t) a r e = go (eqb 32 b) refl e
+space_only : (t rest : Bytes) → exactly (bytes " ") t ≡ met tt rest → exactly (bytes ")") t ≡ wrong
+space_only [] rest e = refl
+space_only (b ∷ t) rest e = go (eqb 32 b) refl e
   where
-    go : (x : Bool) → eqb 32 b ≡ x → pick x (met (tt {0}) t) wrong ≡ met a r → pick (eqb 41 b) (met (tt {0}) t) wrong ≡ wrong
+    go : (x : Bool) → eqb 32 b ≡ x → pick x (met (tt {0}) t) wrong ≡ met tt rest → pick (eqb 41 b) (met (tt {0}) t) wrong ≡ wrong
     go true f g = let is : 32 ≡ b = eqb-true 32 b f in rw (sym is)
     go false f g = let z : ◌≡◌ {A = ℕ} 0 1 = cc in absurd (omega arith)
 
-module _ (line : Bytes) (at : ℕ) (h : at ≤ length line) (space : Bool) (e : exactly (bytes " ") (drop at line) ≡ found line space tt (at + 1)) where
-  abbrev t : Bytes
-  t = drop at line
+module _ (t rest : Bytes) (space : exactly (bytes " ") t ≡ met tt rest) where
+  pub no_label : ((l : Bytes) → rest ≢ l ++ (41 ∷ [])) → label_form t ≡ wrong
+  no_label n = rw (space, last_wrong rest n, space_only t rest space)
 
-  space_met : space ≡ true → exactly (bytes " ") t ≡ met tt (drop (at + 1) line)
-  space_met y = found_met (exactly (bytes " ") t) line space tt (at + 1) e y
-
-  -- a byte behind a space is a place of the line
-  pub space_inside : space ≡ true → at + 1 ≤ length line
-  space_inside y = word_inside (bytes " ") line at h (space_met y)
-
-  pub no_label_lem : label_form t ≡ wrong → LabelRead line at no_label
-  no_label_lem w = record { is = w; begins = omega arith; ends = omega arith; inside = omega arith }
-
-  left_wrong : space ≡ true → up_to_last (drop (at + 1) line) ≡ wrong → label_form t ≡ wrong
-  left_wrong y w = rw (space_met y, w, space_only t tt (drop (at + 1) line) (space_met y))
-
-  pub nothing_behind : space ≡ true → at + 1 ≡ length line → label_form t ≡ wrong
-  nothing_behind y n = left_wrong y (ap up_to_last (ap (λ (k : ℕ). drop k line) n ∙ drop-length line))
-
-  module _ (y : space ≡ true) (more : at + 1 ≡ length line → ⊥) where
-    abbrev size : ℕ
-    size = length line - 1 - (at + 1)
-
-    counted : length (drop (at + 1) line) ≡ suc size
-    counted = omega (arith, length-drop (at + 1) line, space_inside y)
-
-    last_is : get_or (drop (at + 1) line) size 0 ≡ get_or line (length line - 1) 0
-    last_is =
-        let place : at + 1 + size ≡ length line - 1 = omega (arith, space_inside y) in
-        get_or-drop (at + 1) line size 0 ∙ ap (λ (k : ℕ). get_or line k 0) place
-
-    pub other_end : (get_or line (length line - 1) 0 ≡ 41 → ⊥) → label_form t ≡ wrong
-    other_end n = left_wrong y (not_last (drop (at + 1) line) size counted (λ z. n (sym last_is ∙ z)))
-
-    pub label_found : get_or line (length line - 1) 0 ≡ 41
-        → LabelRead line at (record { ok = true; from = at + 1; end = length line - 1; next = length line })
-    label_found z =
-        record {
-          is =
-              rw (space_met y, up_to_last_lem (drop (at + 1) line) size counted (last_is ∙ z))
-              (ap (met (part line (at + 1) (length line - 1))) (sym (drop-length line)));
-          begins = omega (arith, space_inside y);
-          ends = omega arith;
-          inside = omega arith;
-        }
-
-  module _ (n : space ≡ false) (bracket : Bool) (f : exactly (bytes ")") (drop at line) ≡ found line bracket tt (at + 1)) where
-    space_not : exactly (bytes " ") t ≡ wrong
-    space_not = found_wrong (exactly (bytes " ") t) line space tt (at + 1) e n
-
-    bracket_met : bracket ≡ true → exactly (bytes ")") t ≡ met tt (drop (at + 1) line)
-    bracket_met y = found_met (exactly (bytes ")") t) line bracket tt (at + 1) f y
-
-    pub bracket_inside : bracket ≡ true → at + 1 ≤ length line
-    bracket_inside y = word_inside (bytes ")") line at h (bracket_met y)
-
-    pub label_absent : bracket ≡ true → LabelRead line at (record { ok = true; from = at; end = at; next = at + 1 })
-    label_absent y =
-        let none : at - at ≡ 0 = omega arith in
-        record {
-          is = rw (space_not, bracket_met y, none);
-          begins = omega arith;
-          ends = h;
-          inside = bracket_inside y;
-        }
-
-    pub neither : bracket ≡ false → label_form t ≡ wrong
-    neither m = rw (space_not, found_wrong (exactly (bytes ")") t) line bracket tt (at + 1) f m)
+  pub a_label : (l : Bytes) → rest ≡ l ++ (41 ∷ []) → label_form t ≡ met l (take (length rest - length rest) (drop (length rest) rest))
+  a_label l e =
+      let none : length rest - length rest ≡ 0 = omega arith in
+      let up_to : up_to_last rest ≡ met l [] = ap up_to_last e ∙ last_met l in
+      rw (none, space, up_to)
 
 -- ---- numbered things
 

@@ -7,11 +7,10 @@ pub mod Walk
 pub mod Parts
 pub mod Patterns
 pub mod Labels
-pub mod Lined
 pub mod Clipped
 pub mod Stored
-pub mod Taking
 pub mod Cut
+pub mod Taking
+pub mod Written
 pub mod Turns
 pub mod Whole
-pub mod Written

@@ -20,7 +20,8 @@ use Rattle.net.specs.declared.Net.{Net as NetRecord}
 use Rattle.text.specs.Text.{Bytes}
 use Rattle.text.specs.Buffer.{placed}
 use Rattle.text.proofs.Places.{length_placed}
-use Rattle.net_text.specs.Position.{tables, net_at, Room}
+use Rattle.net.specs.Record.{labelled}
+use Rattle.net_text.specs.Position.{Room}
 use Rattle.net_text.proofs.Labels.{numbered_same, numbered_last, label_other, labels_before, label_judged}
 
 -- ---- how many
@@ -97,12 +98,11 @@ faults_same f g j (suc k) h = ap₂ or_else (h j (omega arith)) (faults_same f g
 
 module _ (initial capacity label lengths : List ℕ) (rate delay : List Float) (arcs kind place weight : List ℕ) (p t i c : ℕ) (l : Bytes) where
   abbrev before : NetRecord
-  before = net_at p t (tables initial capacity label lengths rate delay arcs kind place weight)
+  before = labelled p t initial capacity label lengths rate delay arcs kind place weight
 
   abbrev after : NetRecord
   after =
-      net_at (p + 1) t
-      (tables (set initial p i) (set capacity p c) (placed label (16 * p) l) (set lengths p (length l)) rate delay arcs kind place weight)
+      labelled (p + 1) t (set initial p i) (set capacity p c) (placed label (16 * p) l) (set lengths p (length l)) rate delay arcs kind place weight
 
   abbrev q : Place
   q = record { initial = i; capacity = c }
@@ -179,10 +179,10 @@ module _ (initial capacity label lengths : List ℕ) (rate delay : List Float) (
     (weights : (a : ℕ) → a < 16 * t → get_or weight' a 0 ≡ get_or weight a 0)
     (last : t < 64) where
   abbrev earlier : NetRecord
-  earlier = net_at p t (tables initial capacity label lengths rate delay arcs kind place weight)
+  earlier = labelled p t initial capacity label lengths rate delay arcs kind place weight
 
   abbrev later : NetRecord
-  later = net_at p (t + 1) (tables initial capacity label lengths (set rate t x) (set delay t y) (set arcs t n) kind' place' weight')
+  later = labelled p (t + 1) initial capacity label lengths (set rate t x) (set delay t y) (set arcs t n) kind' place' weight'
 
   kept_slots : Room earlier → (j : ℕ) → j < 0 + t → slots_of later j ≡ slots_of earlier j
   kept_slots r j l =

@@ -1,91 +1,71 @@
 -- What the answers of the lines' forms stand for. The rules are in Forms; nothing here adds to them.
-use Rattle.std.specs.Prelude.{ℕ, ◌-◌, ◌<◌, ◌≤◌, ◌≡◌, true, false, ◌||◌, List, map, length, get_or, take, drop}
+use Rattle.std.specs.Prelude.{ℕ, ◌≡◌, ◌||◌, List, length, Option, Some, None}
+use Rattle.std.specs.Borrow.{Bor}
 use Rattle.net.specs.Tests.{any}
-use Rattle.net.specs.Readable.{slots}
+use Rattle.net.specs.declared.Net.{Net as NetRecord}
 use Rattle.text.specs.Text.{Bytes}
-use Rattle.net_text.specs.Forms.{behind, Decimal, RawArc, raw_place, raw_move, raw_run, exactly, decimal, hexadecimal, label_form, place_form, move_form, run_form}
+use Rattle.net_text.specs.Forms.{Met, wrong, met, behind, Decimal, RawArc, raw_place, raw_move, raw_run, exactly, decimal, hexadecimal, place_form, move_form, run_form}
 use Rattle.net_text.specs.Reading.{badly, bad_arc}
-use Rattle.net_text.specs.Filled.{kind_slots, place_slots, weight_slots}
-use Rattle.net_text.specs.Scanned.{through, found, held, seen, number_is, pattern_is, slot_of}
+use Rattle.net_text.specs.Scanned.{through, held, seen, SlotsKept, Filled}
 use Rattle.net_text.specs.declared.scan.Number.{Number}
-use Rattle.net_text.specs.declared.scan.Pattern.{Pattern}
-use Rattle.net_text.specs.declared.form.LabelSeen.{LabelSeen}
 use Rattle.net_text.specs.declared.form.PlaceSeen.{PlaceSeen}
 use Rattle.net_text.specs.declared.form.RunSeen.{RunSeen}
 use Rattle.net_text.specs.declared.form.MoveSeen.{MoveSeen}
 
--- the word w at a place of the line, and behind it a decimal
-pub record NumberAfter (w line : Bytes) (at : ℕ) (r : Number) : Type 0 where
-  pub is : through seen (behind (exactly w (drop at line)) (λ u. decimal)) ≡ number_is line r
-  pub inside : r.next ≤ length line
+-- a word and behind it a decimal
+abbrev pub number_after : Bytes → Bytes → Met Number
+number_after w line = through seen (behind (exactly w line) (λ u. decimal))
 
--- the word w at a place of the line, and behind it a float
-pub record PatternAfter (w line : Bytes) (at : ℕ) (r : Pattern) : Type 0 where
-  pub is : behind (exactly w (drop at line)) (λ u. hexadecimal) ≡ pattern_is line r
-  pub inside : r.next ≤ length line
+-- a word and behind it a float
+abbrev pub pattern_after : Bytes → Bytes → Met ℕ
+pattern_after w line = behind (exactly w line) (λ u. hexadecimal)
 
--- the bytes of a line from one place of it up to another
-abbrev pub part : Bytes → ℕ → ℕ → Bytes
-part line from end = take (end - from) (drop from line)
+-- the label behind the capacity, and what is left behind it
+abbrev pub found_label : Option (Bor Bytes × Bor Bytes) → Met Bytes
+found_label None = wrong
+found_label (Some r) = met r.0.now r.1.now
 
--- the label behind the capacity, which ends at a place of the line: where its bytes begin and end
-pub record LabelRead (line : Bytes) (at : ℕ) (r : LabelSeen) : Type 0 where
-  pub is : label_form (drop at line) ≡ found line r.ok (part line r.from r.end) r.next
-  pub begins : r.from ≤ r.end
-  pub ends : r.end ≤ length line
-  pub inside : r.next ≤ length line
-
-abbrev pub no_label : LabelSeen
-no_label = record { ok = false; from = 0; end = 0; next = 0 }
-
--- a place line: its decimals as 64 bits hold them, whether one is badly written, and where its label's bytes begin and end
-pub record PlaceRead (line : Bytes) (r : PlaceSeen) : Type 0 where
+-- a place line: its decimals as 64 bits hold them, whether one is badly written, and its label
+pub record PlaceMet (line : Bytes) (p : PlaceSeen) (left : Bytes) : Type 0 where
   pub initial : Decimal
   pub capacity : Decimal
-  pub is : place_form line ≡ found line r.ok (raw_place initial capacity (part line r.from r.end)) r.next
-  pub begins : r.from ≤ r.end
-  pub ends : r.end ≤ length line
-  pub held_initial : r.initial ≡ held initial.value
-  pub held_capacity : r.capacity ≡ held capacity.value
-  pub strange : r.strange ≡ (badly initial || badly capacity)
-  pub inside : r.next ≤ length line
+  pub is : place_form line ≡ met (raw_place initial capacity p.label.now) left
+  pub held_initial : p.initial ≡ held initial.value
+  pub held_capacity : p.capacity ≡ held capacity.value
+  pub strange : p.strange ≡ (badly initial || badly capacity)
 
-abbrev pub without_place : PlaceSeen
-without_place = record { ok = false; initial = 0; capacity = 0; strange = false; from = 0; end = 0; next = 0 }
+abbrev pub PlaceRead : Bytes → Option (PlaceSeen × Bor Bytes) → Type 0
+PlaceRead line None = place_form line ≡ wrong
+PlaceRead line (Some r) = PlaceMet line r.0 r.1.now
 
 -- a run line
-pub record RunRead (line : Bytes) (r : RunSeen) : Type 0 where
+pub record RunMet (line : Bytes) (r : RunSeen) (left : Bytes) : Type 0 where
   pub samples : Decimal
   pub realizations : Decimal
   pub seed : Decimal
-  pub is : run_form line ≡ found line r.ok (raw_run samples realizations seed r.horizon) r.next
-  pub held_samples : r.samples ≡ held samples.value
-  pub held_realizations : r.realizations ≡ held realizations.value
-  pub held_seed : r.seed ≡ held seed.value
+  pub is : run_form line ≡ met (raw_run samples realizations seed r.run.horizon) left
+  pub held_samples : r.run.samples ≡ held samples.value
+  pub held_realizations : r.run.realizations ≡ held realizations.value
+  pub held_seed : r.run.seed ≡ held seed.value
   pub strange : r.strange ≡ (badly samples || badly realizations || badly seed)
-  pub inside : r.next ≤ length line
 
-abbrev pub no_run : RunSeen
-no_run = record { ok = false; samples = 0; realizations = 0; seed = 0; horizon = 0; strange = false; next = 0 }
+abbrev pub RunRead : Bytes → Option (RunSeen × Bor Bytes) → Type 0
+RunRead line None = run_form line ≡ wrong
+RunRead line (Some r) = RunMet line r.0 r.1.now
 
--- A move line: its floats by their bits, how many arcs, whether one is badly written, and, where they are at most 16, that they stand in the
--- slots from base on, and every other slot is as it was. The slots before base are as they were even if the form is wrong or there are more arcs.
-pub record MoveRead (line : Bytes) (base : ℕ) (kind₀ place₀ weight₀ kind place weight : List ℕ) (r : MoveSeen) : Type 0 where
+-- A move line: its floats by their bits, how many arcs, whether one is badly written, and how they fill the slots from base on. Even where the
+-- form is wrong, nothing but slots changed, and none before base.
+pub record MoveMet (line : Bytes) (base : ℕ) (n₀ n : NetRecord) (m : MoveSeen) (left : Bytes) : Type 0 where
   pub arcs : List RawArc
-  pub is : move_form line ≡ found line r.ok (raw_move r.rate r.delay arcs) r.next
-  pub count : r.count ≡ length arcs
-  pub strange : r.strange ≡ any bad_arc arcs
-  pub stored : length arcs ≤ 16 → slots kind place weight base (length arcs) ≡ map slot_of arcs
-  pub kind_before : (a : ℕ) → a < base → get_or kind a 0 ≡ get_or kind₀ a 0
-  pub place_before : (a : ℕ) → a < base → get_or place a 0 ≡ get_or place₀ a 0
-  pub weight_before : (a : ℕ) → a < base → get_or weight a 0 ≡ get_or weight₀ a 0
-  pub kind_filled : r.ok ≡ true → length arcs ≤ 16 → kind ≡ kind_slots base (map slot_of arcs) kind₀
-  pub place_filled : r.ok ≡ true → length arcs ≤ 16 → place ≡ place_slots base (map slot_of arcs) place₀
-  pub weight_filled : r.ok ≡ true → length arcs ≤ 16 → weight ≡ weight_slots base (map slot_of arcs) weight₀
-  pub kinds : length kind ≡ 1024
-  pub places : length place ≡ 1024
-  pub weights : length weight ≡ 1024
-  pub inside : r.next ≤ length line
+  pub is : move_form line ≡ met (raw_move m.rate m.delay arcs) left
+  pub count : m.count ≡ length arcs
+  pub strange : m.strange ≡ any bad_arc arcs
+  pub filled : Filled base arcs n₀ n
 
-abbrev pub without_move : MoveSeen
-without_move = record { ok = false; rate = 0; delay = 0; count = 0; strange = false; next = 0 }
+abbrev pub MoveIs : Bytes → ℕ → NetRecord → NetRecord → Option (MoveSeen × Bor Bytes) → Type 0
+MoveIs line base n₀ n None = move_form line ≡ wrong
+MoveIs line base n₀ n (Some r) = MoveMet line base n₀ n r.0 r.1.now
+
+pub record MoveRead (line : Bytes) (base : ℕ) (n₀ n : NetRecord) (r : Option (MoveSeen × Bor Bytes)) : Type 0 where
+  pub is : MoveIs line base n₀ n r
+  pub kept : SlotsKept base n₀ n

@@ -31,89 +31,32 @@ pub fn float_of(bits: u64) -> f64
     f64::from_bits(bits)
 }
 
-// A net is given, or the text is turned down: by which number, at which line.
-#[derive(Clone, Copy)]
-pub enum Judged {
-    Given,
-    Refused(u64, u64),
-}
-
-// Where the text is turned down, the net has no place and the run line is zeros.
+// What a text gives: its net and its run line.
 #[derive(Clone, Copy)]
 pub struct NetText {
-    pub judged: Judged,
     pub net: net::Net,
     pub run: RunLine,
 }
 
-fn refused(number: u64, line: u64) -> NetText
-    ensures { Answered.TurnedDown number line result }
-{
-    NetText {
-        judged: Judged::Refused(number, line),
-        net: net::empty(),
-        run: RunLine {
-            samples: 0,
-            realizations: 0,
-            seed: 0,
-            horizon: 0,
-        },
-    }
+// Why a text is turned down, and at which line: 0 for the text as a whole.
+#[derive(Clone, Copy)]
+pub struct TurnedDown {
+    pub refusal: Refusal,
+    pub line: u64,
 }
 
-// Reads a text of any bytes and any length. Every slot of the record is fixed: arcs stand in line order, and slots past the counts are 0.
-pub fn read_net(text: &[u8]) -> NetText
+// Reads a text of any bytes and any length. Every slot of the net is fixed: arcs stand in line order, and slots past the counts are 0. A text that
+// is turned down gives no net.
+pub fn read_net(text: &[u8]) -> Result<NetText, TurnedDown>
     ensures { Answered.NetRead text.now result }
 {
     if 8192 < text.len() {
-        return refused(Refusal::BadSize, 0);
+        return Err(TurnedDown {
+            refusal: Refusal::BadSize,
+            line: 0,
+        });
     }
-    let mut initial = [0u64; 32];
-    let mut capacity = [0u64; 32];
-    let mut label = [0u8; 512];
-    let mut lengths = [0usize; 32];
-    let mut rate = [0.0f64; 64];
-    let mut delay = [0.0f64; 64];
-    let mut arcs = [0usize; 64];
-    let mut kind = [0u64; 1024];
-    let mut place = [0usize; 1024];
-    let mut weight = [0u64; 1024];
-    let end = order::read_lines(
-        text,
-        &mut initial,
-        &mut capacity,
-        &mut label,
-        &mut lengths,
-        &mut rate,
-        &mut delay,
-        &mut arcs,
-        &mut kind,
-        &mut place,
-        &mut weight,
-    );
-    let judged = end.judged;
-    match judged {
-        Judged::Refused(number, line) => refused(number, line),
-        Judged::Given => {
-            let run = end.run;
-            NetText {
-                judged: Judged::Given,
-                net: net::Net {
-                    places: end.places,
-                    transitions: end.transitions,
-                    initial: initial,
-                    capacity: capacity,
-                    label: label,
-                    lengths: lengths,
-                    rate: rate,
-                    delay: delay,
-                    arcs: arcs,
-                    kind: kind,
-                    place: place,
-                    weight: weight,
-                },
-                run: run,
-            }
-        }
-    }
+    let mut net = net::empty();
+    let run = order::read_lines(text, &mut net)?;
+    Ok(NetText { net: net, run: run })
 }

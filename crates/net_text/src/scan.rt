@@ -1,35 +1,25 @@
-// The parts of a line, each from a place of the line on.
-ghost use Rattle.std.specs.Prelude.{◌≡◌, false, ◌∷◌, ℕ, ◌+◌, ◌*◌, ◌^◌, ◌<◌, ◌≤◌, length, drop};
+// The parts of a line, each read from the front of what is left of it. A part answers what it says and what is then left, or None where it does not stand there.
+ghost use Rattle.std.specs.Prelude.{◌≡◌, ◌∷◌, ℕ, ◌+◌, ◌*◌, ◌^◌, ◌<◌, ◌≤◌, length, IfSome, not, position};
 ghost use Rattle.text.specs.Text.{Bytes};
 ghost use Rattle.net_text.specs.Forms as Forms;
 ghost use Rattle.net_text.specs.Scanned as Scanned;
 
-// A decimal: its value where it fits 64 bits, and whether it is badly written.
+use net::Net;
+
+// A decimal: its value where it fits 64 bits and else the largest number of 64 bits, and whether it is badly written.
 #[derive(Clone, Copy)]
 pub struct Number {
-    pub ok: bool,
     pub value: u64,
     pub strange: bool,
-    pub next: usize,
-}
-
-// Sixteen hexadecimal digits.
-#[derive(Clone, Copy)]
-pub struct Pattern {
-    pub ok: bool,
-    pub bits: u64,
-    pub next: usize,
 }
 
 // An arc, by the kinds of the crate net.
 #[derive(Clone, Copy)]
 pub struct ArcSeen {
-    pub ok: bool,
     pub kind: u64,
     pub place: usize,
     pub weight: u64,
     pub strange: bool,
-    pub next: usize,
 }
 
 // The arcs of a transition line.
@@ -37,242 +27,127 @@ pub struct ArcSeen {
 pub struct ArcsSeen {
     pub count: usize,
     pub strange: bool,
-    pub next: usize,
 }
 
-// Does the word stand in the line at this place?
-pub fn word(line: &[u8], at: usize, w: &[u8]) -> bool
-    requires { at ≤ length line.now }
-    ensures { Forms.exactly w.now (drop at line.now) ≡ Scanned.found line.now result tt (at + length w.now) }
+// A word, which says nothing.
+pub fn word<'a>(line: &'a [u8], w: &[u8]) -> Option<&'a [u8]>
+    ensures { Forms.exactly w.now line.now ≡ Scanned.passed result }
 {
-    if line.len() - at < w.len() {
-        return false;
-    }
-    let mut i = 0;
-    while i < w.len() {
-        if line[at + i] != w[i] {
-            return false;
-        }
-        i += 1;
-    }
-    true
+    line.strip_prefix(w)
 }
 
-// The value so far with one digit more, and whether it is over 64 bits; then the value is the largest of 64 bits.
-#[derive(Clone, Copy)]
-struct Sum {
-    value: u64,
-    over: bool,
+// Where the digits in front end, before the end of the line.
+fn digits_end(line: &[u8]) -> Option<usize>
+    ensures { result ≡ position (λ b. not (Forms.is_digit_byte b)) line.now }
+{
+    line.iter().position(|b| !b.is_ascii_digit())
 }
 
-fn one_digit_more(value: u64, over: bool, digit: u64) -> Sum
+// The value so far with one digit more; None where that is over 64 bits.
+fn one_digit_more(value: u64, digit: u64) -> Option<u64>
     requires { digit < 10 }
-    ensures { (v : ℕ) → Scanned.Kept v value over → Scanned.Kept (v * 10 + digit) result.value result.over }
+    ensures { Scanned.Kept (value * 10 + digit) result }
 {
-    if over {
-        return Sum {
-            value: 0xFFFF_FFFF_FFFF_FFFF,
-            over: true,
-        };
+    if value > (u64::MAX - digit) / 10 {
+        return None;
     }
-    if value > (0xFFFF_FFFF_FFFF_FFFF - digit) / 10 {
-        return Sum {
-            value: 0xFFFF_FFFF_FFFF_FFFF,
-            over: true,
-        };
-    }
-    Sum {
-        value: value * 10 + digit,
-        over: false,
-    }
+    Some(value * 10 + digit)
 }
 
-// A decimal: each digit is valued as it is read.
-pub fn decimal(line: &[u8], at: usize) -> Number
-    requires { at ≤ length line.now }
-    ensures is { Scanned.through Scanned.seen (Forms.decimal (drop at line.now)) ≡ Scanned.number_is line.now result }
-    ensures within { result.next ≤ length line.now }
+// The value of digits; None where it is over 64 bits.
+fn value_of(digits: &[u8]) -> Option<u64>
+    requires { Forms.digits digits.now ≡ digits.now }
+    ensures { Scanned.Kept (Forms.value_from 0 digits.now) result }
 {
-    let mut value: u64 = 0;
-    let mut over = false;
-    let mut i = at;
-    while i < line.len() {
-        let b = line[i];
-        if b < 48 {
-            break;
-        }
-        if b > 57 {
-            break;
-        }
-        let s = one_digit_more(value, over, b as u64 - 48);
-        value = s.value;
-        over = s.over;
-        i += 1;
+    let mut value = 0;
+    for b in digits {
+        value = one_digit_more(value, u64::from(*b - b'0'))?;
     }
-    if i == at {
-        return Number {
-            ok: false,
-            value: 0,
-            strange: false,
-            next: at,
-        };
-    }
-    if i - at > 1 {
-        if line[at] == 48 {
-            return Number {
-                ok: true,
-                value: value,
-                strange: true,
-                next: i,
-            };
-        }
-    }
-    Number {
-        ok: true,
-        value: value,
-        strange: over,
-        next: i,
-    }
+    Some(value)
 }
 
-// A hexadecimal digit in lower case; 16 where there is none.
-fn hex_digit(b: u8) -> u64
-    ensures is { (t : Bytes) → Forms.hex_digit (b ∷ t) ≡ Scanned.hex_is result t }
-    ensures small { result ≤ 16 }
+// Does a zero lead other digits?
+fn zero_leads(digits: &[u8]) -> bool
+    ensures { result ≡ Forms.zero_leads digits.now }
 {
-    if b < 48 {
-        return 16;
+    matches!(digits, [b'0', _, ..])
+}
+
+pub fn decimal<'a>(line: &'a [u8]) -> Option<(Number, &'a [u8])>
+    ensures { Scanned.number line.now ≡ Scanned.found result }
+{
+    let n = digits_end(line).unwrap_or(line.len());
+    if n == 0 {
+        return None;
     }
-    if b <= 57 {
-        return b as u64 - 48;
+    let (digits, rest) = line.split_at(n);
+    let value = value_of(digits);
+    let number = Number {
+        value: value.unwrap_or(u64::MAX),
+        strange: zero_leads(digits) | value.is_none(),
+    };
+    Some((number, rest))
+}
+
+// A hexadecimal digit in lower case.
+fn hex_digit(b: u8) -> Option<u64>
+    ensures is { (t : Bytes) → Forms.hex_digit (b ∷ t) ≡ Scanned.digit_is result t }
+    ensures small { IfSome result (λ d. d < 16) }
+{
+    match b {
+        b'0'..=b'9' => Some(u64::from(b - b'0')),
+        b'a'..=b'f' => Some(u64::from(b - b'a') + 10),
+        _ => None,
     }
-    if b < 97 {
-        return 16;
-    }
-    if b <= 102 {
-        return b as u64 - 87;
-    }
-    16
 }
 
 // The sixteen digits of a float's bits.
-pub fn hexadecimal(line: &[u8], at: usize) -> Pattern
-    requires { at ≤ length line.now }
-    ensures is { Forms.hexadecimal (drop at line.now) ≡ Scanned.pattern_is line.now result }
-    ensures within { result.next ≤ length line.now }
-    ensures small { result.bits < 2 ^ 64 }
+pub fn hexadecimal<'a>(line: &'a [u8]) -> Option<(u64, &'a [u8])>
+    ensures { Forms.hexadecimal line.now ≡ Scanned.found result }
 {
-    if line.len() - at < 16 {
-        return Pattern {
-            ok: false,
-            bits: 0,
-            next: at,
-        };
-    }
+    let (digits, rest) = line.split_at_checked(16)?;
     let mut bits: u64 = 0;
-    let mut i = 0;
-    while i < 16 {
-        let d = hex_digit(line[at + i]);
-        if d == 16 {
-            return Pattern {
-                ok: false,
-                bits: 0,
-                next: at,
-            };
-        }
-        bits = bits * 16 + d;
-        i += 1;
+    for b in digits {
+        bits = bits * 16 + hex_digit(*b)?;
     }
-    Pattern {
-        ok: true,
-        bits: bits,
-        next: at + 16,
-    }
+    Some((bits, rest))
 }
 
 // Place and weight, with a space between them.
 #[derive(Clone, Copy)]
 pub struct Pair {
-    pub ok: bool,
     pub place: u64,
     pub weight: u64,
     pub strange: bool,
-    pub next: usize,
 }
 
-fn no_pair() -> Pair
-    ensures { (result.ok ≡ false) × (result.next ≡ 0) }
+fn two_numbers<'a>(line: &'a [u8]) -> Option<(Pair, &'a [u8])>
+    ensures { Scanned.pair_form line.now ≡ Scanned.found result }
 {
-    Pair {
-        ok: false,
-        place: 0,
-        weight: 0,
-        strange: false,
-        next: 0,
-    }
-}
-
-fn two_numbers(line: &[u8], at: usize) -> Pair
-    requires { at ≤ length line.now }
-    ensures is { Scanned.pair_form (drop at line.now) ≡ Scanned.pair_is line.now result }
-    ensures within { result.next ≤ length line.now }
-{
-    let p = decimal(line, at);
-    if !p.ok {
-        return no_pair();
-    }
-    let behind = p.next;
-    if !word(line, behind, b" ") {
-        return no_pair();
-    }
-    let w = decimal(line, behind + 1);
-    if !w.ok {
-        return no_pair();
-    }
-    Pair {
-        ok: true,
-        place: p.value,
-        weight: w.value,
-        strange: p.strange | w.strange,
-        next: w.next,
-    }
-}
-
-fn no_arc() -> ArcSeen
-    ensures { (result.ok ≡ false) × (result.next ≡ 0) }
-{
-    ArcSeen {
-        ok: false,
-        kind: 0,
-        place: 0,
-        weight: 0,
-        strange: false,
-        next: 0,
-    }
+    let (place, line) = decimal(line)?;
+    let line = word(line, b" ")?;
+    let (weight, line) = decimal(line)?;
+    let pair = Pair {
+        place: place.value,
+        weight: weight.value,
+        strange: place.strange | weight.strange,
+    };
+    Some((pair, line))
 }
 
 // A put, a read or a block, behind its word.
-fn plain_arc(line: &[u8], at: usize, kind: u64) -> ArcSeen
-    requires { at ≤ length line.now }
-    ensures is { Scanned.plain_arc kind (drop at line.now) ≡ Scanned.arc_is line.now result }
-    ensures within { result.next ≤ length line.now }
+fn plain_arc<'a>(line: &'a [u8], kind: u64) -> Option<(ArcSeen, &'a [u8])>
+    ensures { Scanned.plain_arc kind line.now ≡ Scanned.found_arc result }
 {
-    let a = two_numbers(line, at);
-    if !a.ok {
-        return no_arc();
-    }
-    let end = a.next;
-    if !word(line, end, b")") {
-        return no_arc();
-    }
-    ArcSeen {
-        ok: true,
+    let (pair, line) = two_numbers(line)?;
+    let line = word(line, b")")?;
+    let arc = ArcSeen {
         kind: kind,
-        place: a.place as usize,
-        weight: a.weight,
-        strange: a.strange,
-        next: end + 1,
-    }
+        place: pair.place as usize,
+        weight: pair.weight,
+        strange: pair.strange,
+    };
+    Some((arc, line))
 }
 
 // The kind of a take by its kinetic flag.
@@ -280,119 +155,81 @@ fn take_kind(flag: u64) -> u64
     ensures { result ≡ Scanned.take_kind flag }
 {
     if flag == 1 {
-        return 0;
+        net::KINETIC_TAKE
+    } else {
+        net::TAKE
     }
-    1
 }
 
 // A take, behind its word.
-fn take_arc(line: &[u8], at: usize) -> ArcSeen
-    requires { at ≤ length line.now }
-    ensures is { Scanned.take_arc (drop at line.now) ≡ Scanned.arc_is line.now result }
-    ensures within { result.next ≤ length line.now }
+fn take_arc<'a>(line: &'a [u8]) -> Option<(ArcSeen, &'a [u8])>
+    ensures { Scanned.take_arc line.now ≡ Scanned.found_arc result }
 {
-    let a = two_numbers(line, at);
-    if !a.ok {
-        return no_arc();
-    }
-    let behind = a.next;
-    if !word(line, behind, b" ") {
-        return no_arc();
-    }
-    let flag = decimal(line, behind + 1);
-    if !flag.ok {
-        return no_arc();
-    }
-    let end = flag.next;
-    if !word(line, end, b")") {
-        return no_arc();
-    }
-    ArcSeen {
-        ok: true,
+    let (pair, line) = two_numbers(line)?;
+    let line = word(line, b" ")?;
+    let (flag, line) = decimal(line)?;
+    let line = word(line, b")")?;
+    let arc = ArcSeen {
         kind: take_kind(flag.value),
-        place: a.place as usize,
-        weight: a.weight,
-        strange: a.strange | flag.strange | (flag.value > 1),
-        next: end + 1,
-    }
+        place: pair.place as usize,
+        weight: pair.weight,
+        strange: pair.strange | flag.strange | (flag.value > 1),
+    };
+    Some((arc, line))
 }
 
 // One arc, with the space in front of it.
-pub fn arc(line: &[u8], at: usize) -> ArcSeen
-    requires { at ≤ length line.now }
-    ensures is { Scanned.through Scanned.seen_arc (Forms.next_arc (drop at line.now)) ≡ Scanned.arc_is line.now result }
-    ensures within { result.next ≤ length line.now }
+pub fn arc<'a>(line: &'a [u8]) -> Option<(ArcSeen, &'a [u8])>
+    ensures { Scanned.through Scanned.seen_arc (Forms.next_arc line.now) ≡ Scanned.found_arc result }
 {
-    if !word(line, at, b" ") {
-        return no_arc();
+    let line = word(line, b" ")?;
+    if let Some(rest) = word(line, b"(take ") {
+        return take_arc(rest);
     }
-    let from = at + 1;
-    if word(line, from, b"(take ") {
-        return take_arc(line, from + 6);
+    if let Some(rest) = word(line, b"(put ") {
+        return plain_arc(rest, net::PUT);
     }
-    if word(line, from, b"(put ") {
-        return plain_arc(line, from + 5, 2);
+    if let Some(rest) = word(line, b"(read ") {
+        return plain_arc(rest, net::READ);
     }
-    if word(line, from, b"(read ") {
-        return plain_arc(line, from + 6, 3);
+    if let Some(rest) = word(line, b"(block ") {
+        return plain_arc(rest, net::BLOCK);
     }
-    if word(line, from, b"(block ") {
-        return plain_arc(line, from + 7, 4);
-    }
-    no_arc()
+    None
 }
 
 // An arc into its slot; past 16 none.
-fn store(
-    kind: &mut [u64; 1024],
-    place: &mut [usize; 1024],
-    weight: &mut [u64; 1024],
-    base: usize,
-    count: usize,
-    a: ArcSeen,
-)
-    requires { (base + 16 ≤ 1024) × (length kind.old ≡ 1024) × (length place.old ≡ 1024) × (length weight.old ≡ 1024) }
-    ensures { (kind.new ≡ Scanned.stored base count a.kind kind.old)
-        × (place.new ≡ Scanned.stored base count a.place place.old)
-        × (weight.new ≡ Scanned.stored base count a.weight weight.old) }
+fn store(net: &mut Net, base: usize, count: usize, a: ArcSeen)
+    requires { base + 16 ≤ 1024 }
+    ensures { net.new ≡ Scanned.with_arc net.old base count a }
 {
     if count < 16 {
         let slot = base + count;
-        kind[slot] = a.kind;
-        place[slot] = a.place;
-        weight[slot] = a.weight;
+        net.kind[slot] = a.kind;
+        net.place[slot] = a.place;
+        net.weight[slot] = a.weight;
     }
 }
 
-// All arcs from a place of the line on, into the slots of a transition from base on; past 16 they are only counted.
-pub fn arcs(
-    line: &[u8],
-    at: usize,
-    base: usize,
-    kind: &mut [u64; 1024],
-    place: &mut [usize; 1024],
-    weight: &mut [u64; 1024],
-) -> ArcsSeen
-    requires { (at ≤ length line.now) × (base + 16 ≤ 1024) × (length kind.old ≡ 1024) × (length place.old ≡ 1024) × (length weight.old ≡ 1024) }
-    ensures { Scanned.ArcsRead line.now at base kind.old place.old weight.old
-        kind.new place.new weight.new result }
+// All arcs that stand in front, into the slots of a transition from base on; past 16 they are only counted.
+pub fn arcs<'a>(line: &'a [u8], base: usize, net: &mut Net) -> (ArcsSeen, &'a [u8])
+    requires { (base + 16 ≤ 1024) × Scanned.Sized net.old }
+    ensures { Scanned.ArcsRead line.now base net.old net.new result.0 result.1.now }
 {
+    let mut left = line;
     let mut count = 0;
     let mut strange = false;
-    let mut next = at;
-    loop {
-        let a = arc(line, next);
-        if !a.ok {
-            break;
-        }
-        store(kind, place, weight, base, count, a);
+    while let Some((a, rest)) = arc(left) {
+        store(net, base, count, a);
         count += 1;
         strange = strange | a.strange;
-        next = a.next;
+        left = rest;
     }
-    ArcsSeen {
-        count: count,
-        strange: strange,
-        next: next,
-    }
+    (
+        ArcsSeen {
+            count: count,
+            strange: strange,
+        },
+        left,
+    )
 }

@@ -2,14 +2,14 @@
 use Prim.Native.Nat.{ℕ, suc, ◌+◌, ◌-◌, ◌≤◌, ◌<◌}
 use mathlib.Core.Path.{◌≡◌, sym, ap, ◌∙◌}
 use mathlib.Core.Bool.{Bool, true, false}
-use mathlib.Core.Option.{none, some}
+use mathlib.Core.Option.{Option, none, some}
 use native.Mathlib.Omega.{arith}
 use lib.Ieee.{Float, binary64, mul}
 use Rattle.refusals.specs as Refusal
 use Rattle.rng.specs.State.{State as Generator}
 use Rattle.rng.specs.Xoshiro.{step}
 use Rattle.rules.specs.Step.{refused, given}
-use Rattle.normals.specs.Normal.{Pair, coordinate, pair_of, pair, accepted, scale, or_else, first_accepted, Sampler, Drawn, drawn_from, spare_or, normal, only_if}
+use Rattle.normals.specs.Normal.{Pair, coordinate, pair_of, pair, accepted, scale, or_else, first_accepted, Sampler, Drawn, drawn_from, spare_or, normal}
 
 module _ (k i : ℕ) (g : Generator) where
   search_step : i < k → first_accepted (k - i) g ≡ or_else (accepted (pair g).sq) (pair g) (first_accepted (k - (i + 1)))
@@ -54,20 +54,20 @@ module _ (s : Sampler) where
   unfolding normal
   new_pair y = ap (λ (b : Bool). spare_or b s) y
 
-  -- f says whether the search found a pair, and p which
-  module _ (w : s.waiting ≡ false) (p : Pair) (f : Bool) (e : only_if f p ≡ first_accepted 128 s.generator) where
-    searched : (b : Bool) → f ≡ b → normal s ≡ drawn_from s (only_if b p)
-    searched b y = new_pair w ∙ ap (drawn_from s) (sym e ∙ ap (λ (b : Bool). only_if b p) y)
+  -- what the search found
+  module _ (w : s.waiting ≡ false) where
+    searched : (o : Option Pair) → o ≡ first_accepted 128 s.generator → normal s ≡ drawn_from s o
+    searched o e = new_pair w ∙ ap (drawn_from s) (sym e)
 
-    pub drawn_value : f ≡ true → (m : Float) → m ≡ scale p.sq
+    pub drawn_value : (p : Pair) → some p ≡ first_accepted 128 s.generator → (m : Float) → m ≡ scale p.sq
         → ◌≡◌ {A = Drawn} (record {
           answer = given (mul binary64 p.u1 m);
           sampler = record { generator = p.generator; spare = mul binary64 p.u2 m; waiting = true };
         }) (normal s)
-    drawn_value y m d = (λ i. record {
+    drawn_value p e m d = (λ i. record {
       answer = given (mul binary64 p.u1 (d i));
       sampler = record { generator = p.generator; spare = mul binary64 p.u2 (d i); waiting = true };
-    }) ∙ sym (searched true y)
+    }) ∙ sym (searched (some p) e)
 
-    pub drawn_nothing : f ≡ false → ◌≡◌ {A = Drawn} (record { answer = refused Refusal.no_normal; sampler = s }) (normal s)
-    drawn_nothing y = sym (searched false y)
+    pub drawn_nothing : none ≡ first_accepted 128 s.generator → ◌≡◌ {A = Drawn} (record { answer = refused Refusal.no_normal; sampler = s }) (normal s)
+    drawn_nothing e = sym (searched none e)

@@ -1,9 +1,11 @@
 -- Normal draws by the polar method. Document 01, "001": "polar normals with the spare kept"; "Normal draw. 16 as above, sampler as it came".
-use Rattle.std.specs.Prelude.{ℕ, zero, suc, Bool, true, false, ◌&&◌, Float}
+use Rattle.std.specs.Prelude.{ℕ, zero, suc, Bool, true, false, ◌&&◌, Float, Result, Ok, Err, Option as Answered, Some, None}
 use Rattle.std.proofs.Math.Option.{Option, none, some}
 use Rattle.std.specs.Float.{binary64}
 use Rattle.std.specs.Float.Ieee.{add, sub, mul, div, neg, lt}
 use Rattle.refusals.specs as Refusal
+use Rattle.refusals.specs.Number.{number_of}
+use Rattle.refusals.specs.declared.Refusal.{Refusal as RefusalEnum}
 use Rattle.net.specs.Net.{zero64, one64}
 use Rattle.rng.specs.State.{State as Generator, words}
 use Rattle.rng.specs.Splitmix.{seeded}
@@ -12,11 +14,8 @@ use Rattle.portable_log.specs.Log.{plog, two64}
 use Rattle.root.specs.Root.{root_of}
 use Rattle.rules.specs.Step.{Answer, refused, given}
 use Rattle.normals.specs.declared.GaussianSampler.{GaussianSampler}
-use Rattle.normals.specs.declared.Draw.{Draw}
-use Rattle.normals.specs.declared.Draw.TheVariants.{Value, Refused}
 use Rattle.normals.specs.declared.Normal.{Normal}
 use Rattle.normals.specs.declared.Pair.{Pair as PairStruct}
-use Rattle.normals.specs.declared.Found.{Found}
 
 -- ---- a pair
 
@@ -96,24 +95,21 @@ normal s = spare_or s.waiting s
 abbrev pub sampler_of : GaussianSampler → Sampler
 sampler_of s = record { generator = words s.rng.s; spare = s.spare; waiting = s.waiting }
 
-abbrev pub answer_of : Draw → Answer Float
-answer_of (Value x) = given x
-answer_of Refused = refused Refusal.no_normal
+abbrev pub answer_of : Result Float RefusalEnum → Answer Float
+answer_of (Ok x) = given x
+answer_of (Err r) = refused (number_of r)
 
 abbrev pub drawn_of : Normal → Drawn
 drawn_of r = record { answer = answer_of r.draw; sampler = sampler_of r.sampler }
 
 -- a draw from a lent sampler: the answer, and the sampler that the caller has after it
-abbrev pub answered_by : Draw → GaussianSampler → Drawn
+abbrev pub answered_by : Result Float RefusalEnum → GaussianSampler → Drawn
 answered_by r s = record { answer = answer_of r; sampler = sampler_of s }
 
 -- and what its private answers say
 abbrev pub pair_in : PairStruct → Pair
 pair_in p = record { u1 = p.u1; u2 = p.u2; sq = p.sq; generator = words p.rng.s }
 
-abbrev pub only_if : Bool → Pair → Option Pair
-only_if true p = some p
-only_if false p = none
-
-abbrev pub found_of : Found → Option Pair
-found_of r = only_if r.any (pair_in r.pair)
+abbrev pub found_of : Answered PairStruct → Option Pair
+found_of None = none
+found_of (Some p) = some (pair_in p)

@@ -6,9 +6,11 @@ ghost use Rattle.rng.specs.State as Rng;
 ghost use Rattle.rng.specs.Xoshiro as Xoshiro;
 ghost use Rattle.normals.specs.Normal as Spec;
 
-use rng::{Uniform, Xoshiro256};
+use refusals::Refusal;
+use rng::{Drawn, Xoshiro256};
 
-// A generator, and the second value of the last pair: `spare` counts where `waiting` says so.
+// A generator, and the second value of the last pair: `spare` counts where `waiting` says so. No `Option`: `cild_normals` promises C the bits of a spare that
+// waits no more.
 #[derive(Clone, Copy)]
 pub struct GaussianSampler {
     pub rng: Xoshiro256,
@@ -16,17 +18,10 @@ pub struct GaussianSampler {
     pub waiting: bool,
 }
 
-// A value, or none: one draw rejected 128 pairs.
-#[derive(Clone, Copy)]
-pub enum Draw {
-    Value(f64),
-    Refused,
-}
-
-// A draw, and the sampler after it; where the draw is refused, the sampler as it came.
+// A draw, refused where it rejected 128 pairs, and the sampler after it; where the draw is refused, the sampler as it came.
 #[derive(Clone, Copy)]
 pub struct Normal {
-    pub draw: Draw,
+    pub draw: Result<f64, Refusal>,
     pub sampler: GaussianSampler,
 }
 
@@ -39,24 +34,16 @@ struct Pair {
     rng: Xoshiro256,
 }
 
-// Whether there is a pair, and the pair.
-#[derive(Clone, Copy)]
-struct Found {
-    any: bool,
-    pair: Pair,
-}
-
 const MOST_PAIRS: u64 = 128;
 
 // 2 * uniform - 1, and the generator after it.
-fn coordinate(rng: Xoshiro256) -> Uniform
+fn coordinate(rng: Xoshiro256) -> Drawn<f64>
     ensures { (result.value ≡ Spec.coordinate (Rng.words rng.s)) × (Rng.words result.rng.s ≡ Xoshiro.step (Rng.words rng.s)) }
 {
     let d = rng.uniform();
-    let g = d.rng;
-    Uniform {
+    Drawn {
         value: 2.0 * d.value - 1.0,
-        rng: g,
+        rng: d.rng,
     }
 }
 
@@ -70,8 +57,8 @@ fn drawn_pair(rng: Xoshiro256) -> Pair
     let u1 = a.value;
     let u2 = b.value;
     Pair {
-        u1: u1,
-        u2: u2,
+        u1,
+        u2,
         sq: u1 * u1 + u2 * u2,
         rng: g2,
     }
@@ -81,10 +68,7 @@ fn drawn_pair(rng: Xoshiro256) -> Pair
 fn accepted(sq: f64) -> bool
     ensures { result ≡ Spec.accepted sq }
 {
-    if 0.0 < sq {
-        return sq < 1.0;
-    }
-    false
+    0.0 < sq && sq < 1.0
 }
 
 fn scale(sq: f64) -> f64
@@ -94,28 +78,18 @@ fn scale(sq: f64) -> f64
 }
 
 // The first accepted of at most 128 pairs.
-fn first_accepted(rng: Xoshiro256) -> Found
+fn first_accepted(rng: Xoshiro256) -> Option<Pair>
     ensures { Spec.found_of result ≡ Spec.first_accepted 128 (Rng.words rng.s) }
 {
     let mut g = rng;
-    let mut i: u64 = 0;
-    while i < MOST_PAIRS {
+    for _ in 0..MOST_PAIRS {
         let p = drawn_pair(g);
         if accepted(p.sq) {
-            return Found { any: true, pair: p };
+            return Some(p);
         }
         g = p.rng;
-        i += 1;
     }
-    Found {
-        any: false,
-        pair: Pair {
-            u1: 0.0,
-            u2: 0.0,
-            sq: 0.0,
-            rng: g,
-        },
-    }
+    None
 }
 
 impl GaussianSampler {
@@ -138,7 +112,7 @@ impl GaussianSampler {
         let rng = self.rng;
         if self.waiting {
             return Normal {
-                draw: Draw::Value(self.spare),
+                draw: Ok(self.spare),
                 sampler: GaussianSampler {
                     rng: rng,
                     spare: self.spare,
@@ -146,29 +120,26 @@ impl GaussianSampler {
                 },
             };
         }
-        let found = first_accepted(rng);
-        if found.any {
-            let p = found.pair;
-            let m = scale(p.sq);
-            let g = p.rng;
+        let Some(p) = first_accepted(rng) else {
             return Normal {
-                draw: Draw::Value(p.u1 * m),
-                sampler: GaussianSampler {
-                    rng: g,
-                    spare: p.u2 * m,
-                    waiting: true,
-                },
+                draw: Err(Refusal::NoNormal),
+                sampler: self,
             };
-        }
+        };
+        let m = scale(p.sq);
         Normal {
-            draw: Draw::Refused,
-            sampler: self,
+            draw: Ok(p.u1 * m),
+            sampler: GaussianSampler {
+                rng: p.rng,
+                spare: p.u2 * m,
+                waiting: true,
+            },
         }
     }
 }
 
 // The same from a sampler that the caller lent: it is advanced, or left as it came where the draw is refused.
-pub fn next_normal(sampler: &mut GaussianSampler) -> Draw
+pub fn next_normal(sampler: &mut GaussianSampler) -> Result<f64, Refusal>
     ensures { Spec.answered_by result sampler.new ≡ Spec.normal (Spec.sampler_of sampler.old) }
 {
     let s = *sampler;

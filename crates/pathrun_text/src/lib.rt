@@ -32,33 +32,27 @@ fn run(net: Net, asked: RunLine, out: &mut [u8]) -> usize
     let mut mean = table();
     let mut deviation = table();
     let mut path = table();
-    let places = net.places;
-    let label = net.label;
-    let lengths = net.lengths;
     let samples = asked.samples;
     let realizations = asked.realizations;
-    let horizon = net_text::float_of(asked.horizon);
     let answer = ssa::ensemble(
         net,
         samples,
         realizations,
         asked.seed,
-        horizon,
+        net_text::float_of(asked.horizon),
         &mut mean,
         &mut deviation,
         &mut path,
     );
     match answer {
-        EnsembleAnswer::TurnedDown(c) => lines::refused(out, c, 0),
-        EnsembleAnswer::Stopped(c, _) => lines::refused(out, c, 0),
+        EnsembleAnswer::TurnedDown(c) => lines::refused(out, c.number(), 0),
+        EnsembleAnswer::Stopped(c, _) => lines::refused(out, c.number(), 0),
         EnsembleAnswer::Averaged(_, _) => {
             lines::result(
                 out,
-                places,
+                &net.lent(),
                 samples as usize,
                 realizations,
-                &label,
-                &lengths,
                 &mean,
                 &deviation,
             )

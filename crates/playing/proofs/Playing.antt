@@ -10,6 +10,8 @@ use native.Mathlib.Numerals.{add-one, one-add}
 use lib.ListN.{length, drop, get_or, length-append, length-drop, drop_of_length-le}
 use lib.Seq.{drop-cons}
 use lib.Ieee.{Float, nan, lt, le}
+use Rattle.refusals.specs.Number.{number_of}
+use Rattle.refusals.specs.declared.Refusal.{Refusal}
 use Rattle.net.specs.Net.{Net, Marking, pick}
 use Rattle.net.specs.Tests.{empty}
 use Rattle.rules.specs.Step.{State, Answer, given, nobody, Event, sets, step}
@@ -252,8 +254,8 @@ module _ {out : End} {room : ℕ} {n : Net} {last : Float} {xs : List Float} {pl
           ∙ Rule.add_done_step sh (length sh) most rounds done b s.counts [] (given (over quiet s (drop next xs)))
           ∙ (λ i. add_done (append-nil sh i) (a i) (sym most'' i) (sym ro i) (sym st i) (given (over quiet (sym same i) (drop (sym v.next i) xs)))))
 
-    pub turned_down : (w : Walked) {shows : State → Type 0} {same : Type 0} {most' many' : ℕ} {s' s'' : State} {t' : List Float} {b : Bool} (c : ℕ)
+    pub turned_down : (w : Walked) {shows : State → Type 0} {same : Type 0} {most' many' : ℕ} {s' s'' : State} {t' : List Float} {b : Bool} (c : Refusal)
         → StepBy (step room n s) s last shows same most most' many' s' b (Ending.Refused c) → WalkedTo xs places whole from t₀ s'' t' w (Refused c)
-    turned_down w c (starting p) = refuses c (carried ∙ ap (add_done sh (length sh) most rounds done) (Rule.play_refused out room n last (drop next xs) s k below c p))
+    turned_down w c (starting p) = refuses c (carried ∙ ap (add_done sh (length sh) most rounds done) (Rule.play_refused out room n last (drop next xs) s k below (number_of c) p))
     turned_down w {b = b} c (putting js u p q) =
-        refuses c (carried ∙ Rule.done_refused out room n (once_each n once) last (drop next xs) s k below b js u sh (length sh) most rounds done c p q)
+        refuses c (carried ∙ Rule.done_refused out room n (once_each n once) last (drop next xs) s k below b js u sh (length sh) most rounds done (number_of c) p q)

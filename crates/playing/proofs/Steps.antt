@@ -8,7 +8,9 @@ use mathlib.Core.Option.{Option, none, some}
 use native.Mathlib.Omega.{arith}
 use lib.ListN.{length, take}
 use lib.Ieee.{Float, binary64, add, mul, lt, le}
+use Rattle.std.specs.Prelude.{Option as Perhaps}
 use Rattle.refusals.specs as Refusal
+use Rattle.refusals.specs.declared.Refusal.TheVariants.{CountTooLarge}
 use Rattle.net.specs.declared.Net.{Net as NetRecord}
 use Rattle.net.specs.Net.{Transition, Net, Marking, pick, zero64}
 use Rattle.net.specs.Readable.{readable, slots_of, takes_of, arcs_of, is_put}
@@ -25,6 +27,7 @@ use Rattle.rules.proofs.Counts.{once_each}
 use Rattle.rules.proofs.Allowing.{StepGood, step_good}
 use Rattle.rules.proofs.Peaks.{sets_tokens}
 use Rattle.rules.proofs.Detours.{still_same, not_drawn}
+use Rattle.playing.specs.declared.firing.Change.{Change}
 use Rattle.playing.specs.declared.starts.Started.{Started}
 use Rattle.playing.specs.declared.step.Ending.TheVariants.{GoesOn, Reached, Refused}
 use Rattle.playing.specs.declared.step.Due.{Due}
@@ -37,7 +40,7 @@ use Rattle.timers.proofs.Rings.{length_timers}
 use Rattle.engine.specs.Engine.{Tidy, marking, Counts, PutBy, Totalled}
 use Rattle.playing.specs.Starts.{StartsAre, full, done}
 use Rattle.playing.specs.Stepping as Stepping
-use Rattle.playing.specs.Stepping.{state_of, tokens_of, event_of, AdvancedBy, EventBy, happens, too_large, StepBy}
+use Rattle.playing.specs.Stepping.{state_of, tokens_of, event_of, AdvancedBy, EventBy, ChangedBy, happens, too_large, StepBy}
 use Rattle.engine.proofs.Marks.{fit_all}
 use Rattle.engine.proofs.Sides.{transition_at}
 use Rattle.playing.proofs.Tokens.{transition_past, taken_first}
@@ -149,12 +152,12 @@ module _ (n : NetRecord) (counts : List ℕ) (ats : List Float) (owners : List �
         (λ e. all)
 
 -- which of the two it is
-module _ (n : NetRecord) (s : State) (a0 : Float) (props : List Float) (u : State) (many : ℕ) (r : Bool) where
-  pub event_completes : {b : Bool} → b ≡ true → EventBy (complete (readable n) s) u many r → EventBy (event_of n s a0 props b) u many r
-  event_completes e h = subst (λ (c : Bool). EventBy (event_of n s a0 props c) u many r) (sym e) h
+module _ (n : NetRecord) (s : State) (a0 : Float) (props : List Float) (u : State) (x : Perhaps Change) where
+  pub event_completes : {b : Bool} → b ≡ true → ChangedBy (complete (readable n) s) u x → ChangedBy (event_of n s a0 props b) u x
+  event_completes e h = subst (λ (c : Bool). ChangedBy (event_of n s a0 props c) u x) (sym e) h
 
-  pub event_races : {b : Bool} → b ≡ false → EventBy (raced (readable n) s a0 (take n.transitions props)) u many r → EventBy (event_of n s a0 props b) u many r
-  event_races e h = subst (λ (c : Bool). EventBy (event_of n s a0 props c) u many r) (sym e) h
+  pub event_races : {b : Bool} → b ≡ false → ChangedBy (raced (readable n) s a0 (take n.transitions props)) u x → ChangedBy (event_of n s a0 props b) u x
+  event_races e h = subst (λ (c : Bool). ChangedBy (event_of n s a0 props c) u x) (sym e) h
 
 -- the generator that an event leaves: a race has drawn
 abbrev left_by : Generator → Answer Event → Generator
@@ -303,8 +306,8 @@ module _ {spec : Answer Step} {rounded : Bool} {u : State} {e : Answer Event} (w
   step_on t h m (happens v a l k) z = Stepping.goes_further w.who u v (w.is ∙ ap (λ (x : Answer Event). given (sets rounded w.who u x)) a) t h l k m
   step_on t h m (too_large a) z = absurd (true≢false (sym z))
 
-  pub step_large : lt last u.clock ≡ false → {s : State} {b : Bool} → EventBy e s many b → b ≡ false
-      → StepBy spec before last shows same most most' many s rounded (Refused Refusal.count_too_large)
+  pub step_large : lt last u.clock ≡ false → {s s' : State} {none : ℕ} {b : Bool} → EventBy e s none b → b ≡ false
+      → StepBy spec before last shows same most most' many s' rounded (Refused CountTooLarge)
   step_large t (happens v a l k) z = absurd (true≢false z)
   step_large t (too_large a) z = Stepping.putting w.who u (w.is ∙ ap (λ (x : Answer Event). given (sets rounded w.who u x)) a) t
 

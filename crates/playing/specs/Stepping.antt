@@ -1,5 +1,5 @@
 -- What a step of the program is, in the rules' words. The rules of a step are in the crate rules (Step, Run); nothing here adds to them.
-use Rattle.std.specs.Prelude.{ℕ, ◌≤◌, ◌<◌, max, ◌≡◌, Bool, true, false, not, List, [], ◌∷◌, ◌⊎◌, take, Float}
+use Rattle.std.specs.Prelude.{ℕ, ◌≤◌, ◌<◌, max, ◌≡◌, Bool, true, false, not, List, [], ◌∷◌, ◌⊎◌, take, Float, Option, Some, None}
 use Rattle.refusals.specs.declared.Refusal.{Refusal as RefusalEnum}
 use Rattle.refusals.specs.declared.Refusal.TheVariants.{TooManyTimers, CountTooLarge}
 use Rattle.std.specs.Float.Ieee.{lt}
@@ -18,6 +18,7 @@ use Rattle.engine.specs.Engine.{Tidy, Counts, marking}
 use Rattle.engine.specs.Limits.{Limits}
 use Rattle.timers.specs.declared.Ring.{Ring}
 use Rattle.timers.specs.Turning.{running, timers_of, Sound}
+use Rattle.playing.specs.declared.firing.Change.{Change}
 use Rattle.playing.specs.declared.step.Ending.{Ending}
 use Rattle.playing.specs.declared.step.Ending.TheVariants.{GoesOn, Quiet, Reached, Refused}
 use Rattle.playing.specs.declared.step.Due.{Due}
@@ -82,6 +83,11 @@ pub data AdvancedBy (n : NetRecord) (spec : Answer Step) (before u : State) (pro
 pub data EventBy (spec : Answer Event) (u : State) (many : ℕ) : Bool → Type 0 where
   happens : (e : Event) → spec ≡ given e → e.leaves ≡ u → many ≡ tokens_of u → EventBy spec u many true
   too_large : spec ≡ refused Refusal.count_too_large → EventBy spec u many false
+
+-- and the change that the program answers with: none where a count would pass 2^53
+abbrev pub ChangedBy : Answer Event → State → Option Change → Type 0
+ChangedBy spec u None = EventBy spec u 0 false
+ChangedBy spec u (Some x) = EventBy spec u x.tokens true
 
 -- A whole step from the state `before`, with the peak `most` so far. u is the state at its clock reading, whose counts are shown; s is the state that it
 -- leaves, with so many tokens and the peak most': where nothing is left, the state before, and nothing was shown. `rounded` says whether its a0 adds a

@@ -1,5 +1,5 @@
 // The event that ends a step: a completion, or the firing of a race.
-ghost use Rattle.std.specs.Prelude.{◌≡◌, true, ◌≤◌, length};
+ghost use Rattle.std.specs.Prelude.{◌≡◌, ◌≤◌, length, IfSome};
 ghost use Rattle.std.proofs.Math.ListN as ListN;
 ghost use Rattle.net.specs.Readable as Record;
 ghost use Rattle.net.specs.Record.{net_of};
@@ -15,21 +15,25 @@ ghost use Rattle.engine.specs.Guards as Guards;
 ghost use Rattle.playing.specs.Stepping as Stepping;
 
 use engine::marking;
-use jump::{Choice, sums};
+use jump::sums;
 use net::LentNet;
 use rng::Xoshiro256;
 use timers::Ring;
 
-// The timers' ring after the event, the generator after it, whether the counts fit, and where they do the tokens and what the event has changed, as two words of
-// transitions (engine, specs/Guards).
+// What an event has changed: the tokens that it leaves, and the transitions that it may have changed, as two words (engine, specs/Guards).
+#[derive(Clone, Copy)]
+pub struct Change {
+    pub tokens: u64,
+    pub moved: u64,
+    pub crossed: u64,
+}
+
+// The timers' ring and the generator after the event, and what it has changed, or None where a count would pass 2^53.
 #[derive(Clone, Copy)]
 pub struct Ended {
     pub timers: Ring,
     pub rng: Xoshiro256,
-    pub fits: bool,
-    pub tokens: u64,
-    pub moved: u64,
-    pub crossed: u64,
+    pub change: Option<Change>,
 }
 
 // A completion puts the outputs of the first timer's transition and ends the timer: the tokens are those put more, and those that the timer had taken less.
@@ -48,13 +52,13 @@ fn complete<'a>(
     requires { let net = net_of net.now in Stepping.Ready net limit.now counts.old ats.now owners.now ring
         × (tokens ≡ Stepping.tokens_of (Stepping.state_of net counts.old ats.now owners.now ring clock rng.s))
         × Guards.Guards net guards.now }
-    ensures is { let net = net_of net.now in Stepping.EventBy
+    ensures is { let net = net_of net.now in Stepping.ChangedBy
         (Rule.complete (Record.readable net) (Stepping.state_of net counts.old ats.now owners.now ring clock rng.s))
-        (Stepping.state_of net counts.new ats.now owners.now result.timers clock result.rng.s) result.tokens result.fits }
+        (Stepping.state_of net counts.new ats.now owners.now result.timers clock result.rng.s) result.change }
     ensures ready { let net = net_of net.now in Stepping.Ready net limit.now counts.new ats.now owners.now result.timers
         × (Turning.running result.timers ≤ Turning.running ring) }
-    ensures quiet { let net = net_of net.now in result.fits ≡ true → Guards.Quiet (Record.readable net) (Engine.marking net.places counts.old) (Engine.marking net.places counts.new)
-        result.moved result.crossed }
+    ensures quiet { let net = net_of net.now in IfSome result.change (λ x. Guards.Quiet (Record.readable net) (Engine.marking net.places counts.old) (Engine.marking net.places counts.new)
+        x.moved x.crossed) }
 {
     let x = timers::first(ats, owners, ring);
     let left = timers::remove_first(ring);
@@ -64,29 +68,28 @@ fn complete<'a>(
         return match marking::put(net, guards, counts, j) {
             Some(p) => Ended {
                 timers: left,
-                rng: rng,
-                fits: true,
-                tokens: fewer + p.more,
-                moved: p.moved,
-                crossed: p.crossed,
+                rng,
+                change: Some(Change {
+                    tokens: fewer + p.more,
+                    moved: p.moved,
+                    crossed: p.crossed,
+                }),
             },
             None => Ended {
                 timers: left,
-                rng: rng,
-                fits: false,
-                tokens: 0,
-                moved: 0,
-                crossed: 0,
+                rng,
+                change: None,
             },
         };
     }
     Ended {
         timers: left,
-        rng: rng,
-        fits: true,
-        tokens: fewer,
-        moved: 0,
-        crossed: 0,
+        rng,
+        change: Some(Change {
+            tokens: fewer,
+            moved: 0,
+            crossed: 0,
+        }),
     }
 }
 
@@ -109,55 +112,55 @@ fn race<'a>(
     requires { let net = net_of net.now in Stepping.Ready net limit.now counts.old ats.now owners.now ring × (length props.now ≡ 64) × Sums.SumsKept net.transitions (ListN.take net.transitions props.now) sums.now
         × (tokens ≡ Stepping.tokens_of (Stepping.state_of net counts.old ats.now owners.now ring clock rng.s))
         × Guards.Guards net guards.now }
-    ensures is { let net = net_of net.now in Stepping.EventBy
+    ensures is { let net = net_of net.now in Stepping.ChangedBy
         (Rule.raced (Record.readable net) (Stepping.state_of net counts.old ats.now owners.now ring clock rng.s) a0
         (ListN.take net.transitions props.now))
-        (Stepping.state_of net counts.new ats.now owners.now result.timers clock result.rng.s) result.tokens result.fits }
+        (Stepping.state_of net counts.new ats.now owners.now result.timers clock result.rng.s) result.change }
     ensures ready { let net = net_of net.now in Stepping.Ready net limit.now counts.new ats.now owners.now result.timers
         × (Turning.running result.timers ≤ Turning.running ring) }
-    ensures quiet { let net = net_of net.now in result.fits ≡ true → Guards.Quiet (Record.readable net) (Engine.marking net.places counts.old) (Engine.marking net.places counts.new)
-        result.moved result.crossed }
+    ensures quiet { let net = net_of net.now in IfSome result.change (λ x. Guards.Quiet (Record.readable net) (Engine.marking net.places counts.old) (Engine.marking net.places counts.new)
+        x.moved x.crossed) }
 {
     let d = rng.uniform();
     let g = d.rng;
     let chosen = sums::choose_by_sums(net.transitions, d.value * a0, props, sums);
     match chosen {
-        Choice::Nobody => Ended {
+        None => Ended {
             timers: ring,
             rng: g,
-            fits: true,
-            tokens: tokens,
-            moved: 0,
-            crossed: 0,
+            change: Some(Change {
+                tokens,
+                moved: 0,
+                crossed: 0,
+            }),
         },
-        Choice::Chosen(j) => {
+        Some(j) => {
             if j < net.transitions {
                 return match marking::fire(net, guards, counts, j) {
                     Some(f) => Ended {
                         timers: ring,
                         rng: g,
-                        fits: true,
-                        tokens: tokens + f.more - f.less,
-                        moved: f.moved,
-                        crossed: f.crossed,
+                        change: Some(Change {
+                            tokens: tokens + f.more - f.less,
+                            moved: f.moved,
+                            crossed: f.crossed,
+                        }),
                     },
                     None => Ended {
                         timers: ring,
                         rng: g,
-                        fits: false,
-                        tokens: 0,
-                        moved: 0,
-                        crossed: 0,
+                        change: None,
                     },
                 };
             }
             Ended {
                 timers: ring,
                 rng: g,
-                fits: true,
-                tokens: tokens,
-                moved: 0,
-                crossed: 0,
+                change: Some(Change {
+                    tokens,
+                    moved: 0,
+                    crossed: 0,
+                }),
             }
         }
     }
@@ -194,14 +197,14 @@ pub fn happen<'a>(
     requires { let net = net_of net.now in Stepping.Ready net limit.now counts.old ats.now owners.now ring × (length props.now ≡ 64) × Sums.SumsKept net.transitions (ListN.take net.transitions props.now) sums.now
         × (tokens ≡ Stepping.tokens_of (Stepping.state_of net counts.old ats.now owners.now ring clock rng.s))
         × Guards.Guards net guards.now }
-    ensures is { let net = net_of net.now in Stepping.EventBy
+    ensures is { let net = net_of net.now in Stepping.ChangedBy
         (Stepping.event_of net (Stepping.state_of net counts.old ats.now owners.now ring clock rng.s) a0
         props.now completes)
-        (Stepping.state_of net counts.new ats.now owners.now result.timers clock result.rng.s) result.tokens result.fits }
+        (Stepping.state_of net counts.new ats.now owners.now result.timers clock result.rng.s) result.change }
     ensures ready { let net = net_of net.now in Stepping.Ready net limit.now counts.new ats.now owners.now result.timers
         × (Turning.running result.timers ≤ Turning.running ring) }
-    ensures quiet { let net = net_of net.now in result.fits ≡ true → Guards.Quiet (Record.readable net) (Engine.marking net.places counts.old) (Engine.marking net.places counts.new)
-        result.moved result.crossed }
+    ensures quiet { let net = net_of net.now in IfSome result.change (λ x. Guards.Quiet (Record.readable net) (Engine.marking net.places counts.old) (Engine.marking net.places counts.new)
+        x.moved x.crossed) }
 {
     if completes {
         return complete(

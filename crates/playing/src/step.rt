@@ -218,74 +218,53 @@ pub fn one_step(
         × (length table.new ≡ length table.old)
         × Cells.Stay net.places (length instants.now) table.old table.new }
 {
-    let t = s.clock;
-    let rng = s.rng;
-    let ring = s.timers;
-    let kept = s.kept;
     let d = advance(
-        net, tables, counts, ats, owners, props, sums, room, ring, t, rng, kept, s.unit,
+        net, tables, counts, ats, owners, props, sums, room, s.timers, s.clock, s.rng, s.kept,
+        s.unit,
     );
-    let left = d.timers;
     let rounded = d.rounded;
     let clock = d.clock;
-    let g = d.rng;
-    let due = d.due;
     let fresh = d.kept;
-    match due {
-        Due::Full => {
-            let now = Now {
-                clock: clock,
-                timers: left,
-                next: s.next,
-                tokens: s.tokens,
-                peak: s.peak,
-                rng: g,
+    match d.due {
+        Due::Full => Stepped {
+            now: Now {
+                clock,
+                timers: d.timers,
+                rng: d.rng,
                 kept: fresh,
-                unit: s.unit,
-            };
-            Stepped {
-                now: now,
-                rounded: rounded,
-                ending: Ending::Refused(Refusal::TooManyTimers),
-            }
-        }
-        Due::Nothing => {
-            let now = Now {
-                clock: clock,
-                timers: left,
-                next: s.next,
-                tokens: s.tokens,
-                peak: s.peak,
-                rng: g,
+                ..s
+            },
+            rounded,
+            ending: Ending::Refused(Refusal::TooManyTimers),
+        },
+        Due::Nothing => Stepped {
+            now: Now {
+                clock,
+                timers: d.timers,
+                rng: d.rng,
                 kept: fresh,
-                unit: s.unit,
-            };
-            Stepped {
-                now: now,
-                rounded: rounded,
-                ending: Ending::Quiet,
-            }
-        }
+                ..s
+            },
+            rounded,
+            ending: Ending::Quiet,
+        },
         Due::Event => {
             let next = shown::show(instants, table, counts, net.places, clock, s.next);
             if last < clock {
-                let now = Now {
-                    clock: clock,
-                    timers: left,
-                    next: next,
-                    tokens: s.tokens,
-                    peak: s.peak,
-                    rng: g,
-                    kept: fresh,
-                    unit: s.unit,
-                };
                 return Stepped {
-                    now: now,
-                    rounded: rounded,
+                    now: Now {
+                        clock,
+                        timers: d.timers,
+                        next,
+                        rng: d.rng,
+                        kept: fresh,
+                        ..s
+                    },
+                    rounded,
                     ending: Ending::Reached,
                 };
             }
-            let unit = jump::unit_wait(firing::after_event(g, d.completes));
+            let unit = jump::unit_wait(firing::after_event(d.rng, d.completes));
             let e = firing::happen(
                 net,
                 &tables.limit,
@@ -295,43 +274,44 @@ pub fn one_step(
                 owners,
                 props,
                 sums,
-                left,
+                d.timers,
                 clock,
                 fresh.a0,
-                g,
+                d.rng,
                 s.tokens,
                 d.completes,
             );
-            let h = e.rng;
-            let after = e.timers;
-            let later = Keeping {
-                moved: e.moved,
-                crossed: e.crossed,
-                able: fresh.able,
-                marks: fresh.marks,
-                a0: fresh.a0,
-            };
-            let now = Now {
-                clock: clock,
-                timers: after,
-                next: next,
-                tokens: e.tokens,
-                peak: higher(s.peak, e.tokens),
-                rng: h,
-                kept: later,
-                unit: unit,
-            };
-            if e.fits {
-                return Stepped {
-                    now: now,
-                    rounded: rounded,
+            match e.change {
+                Some(x) => Stepped {
+                    now: Now {
+                        clock,
+                        timers: e.timers,
+                        next,
+                        tokens: x.tokens,
+                        peak: higher(s.peak, x.tokens),
+                        rng: e.rng,
+                        kept: Keeping {
+                            moved: x.moved,
+                            crossed: x.crossed,
+                            ..fresh
+                        },
+                        unit,
+                    },
+                    rounded,
                     ending: Ending::GoesOn,
-                };
-            }
-            Stepped {
-                now: now,
-                rounded: rounded,
-                ending: Ending::Refused(Refusal::CountTooLarge),
+                },
+                None => Stepped {
+                    now: Now {
+                        clock,
+                        timers: e.timers,
+                        next,
+                        rng: e.rng,
+                        kept: fresh,
+                        ..s
+                    },
+                    rounded,
+                    ending: Ending::Refused(Refusal::CountTooLarge),
+                },
             }
         }
     }

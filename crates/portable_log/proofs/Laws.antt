@@ -3,9 +3,9 @@ use mathlib.Core.Path.{◌≡◌, refl, sym, ap, ◌∙◌}
 use mathlib.Core.Bool.{Bool, true, false, not, ◌&&◌, cond, true≢false}
 use Prim.Native.Nat.{ℕ, zero, suc, ◌+◌, ◌-◌, ◌*◌, ◌/◌, ◌%◌, ◌^◌, ◌≤◌, ◌<◌}
 use native.Mathlib.Omega.{arith}
-use native.Mathlib.Nat.{div-lt_iff_lt-mul, le_of_eq, lt_of_le_of_lt, lt_of_lt_of_le, lt_of_not-le, mod-eq_of_lt, mul-lt-mul_of_pos_right, mul-pos, mul_right_comm, zero-mul, zero-div}
+use native.Mathlib.Nat.{div-lt_iff_lt-mul, le_of_eq, lt_of_lt_of_le, lt_of_not-le, mod-eq_of_lt, mul-lt-mul_of_pos_right, mul-pos, mul_right_comm, zero-mul, zero-div}
 use lib.Dec.{T, eqb, ltb, leb, lt→ltb, ltb→lt}
-use lib.Bits.{bit_and, bit_or, or_mod, or_shr, and_mod, and_shr, and_zero_r, and_le_r, and_mask}
+use lib.Bits.{bit_and, bit_or, or_mod, or_shr, and_mod, and_shr, and_zero_r, and_mask}
 use lib.IntN.{ℤ, pos, negsuc, ◌-ℤ◌}
 use lib.Pow.{pow_pos}
 use lib.Signed.{mag}
@@ -31,8 +31,6 @@ unfolding nan_bits
 half_is_no_nan b = rw (half_field b) tt
 
 -- the field is small
-pub field_lt : (n : ℕ) → bit_and n 0x7FF < 65536
-field_lt n = lt_of_le_of_lt (and_le_r n 0x7FF) (omega arith)
 
 -- a number or an infinity of this sign
 abbrev HasSign : Float → Bool → Type 0

@@ -9,8 +9,7 @@ use lib.ListN.{length, length-append}
 use Rattle.text.specs.Text.{Bytes, bytes}
 use Rattle.text.specs.Numbers.{decimal_text}
 use Rattle.text.specs.Buffer.{placed, written, and_then}
-use Rattle.text.specs.declared.Written.{Written}
-use Rattle.text.specs.declared.Written.TheVariants.{Next}
+use Rattle.std.specs.Prelude.{Option, Some}
 use Rattle.text.proofs.Places.{placed_none, fitted, then_joined}
 use Rattle.reason.specs.Reasons.{Reasons, opening, read_words, inhibitor_words, non_kinetic_words, capacity_words, bound_words, delay_words, counted, behind, joined, bracketed, timed, sentences, told, reason_text}
 use Rattle.reason.specs.Parts.{lead, then_lead, then_counted, then_labels, then_timed, then_all}
@@ -47,20 +46,20 @@ front ss ts h = omega (arith, ap length (told_append ss ts), length-append (told
 -- ---- the buffer
 
 module _ (out : Bytes) where
-  abbrev at : Bytes → Bytes × Written
+  abbrev at : Bytes → Bytes × Option ℕ
   at w = written out 0 w
 
   abbrev Fits : Bytes → Type 0
   Fits w = length w ≤ length out
 
   -- bytes behind bytes
-  more : {s : Bytes × Written} (v w : Bytes) → s ≡ at v → Fits (v ++ w) → and_then s w ≡ at (v ++ w)
-  more v w e h = ap (λ (s : Bytes × Written). and_then s w) e ∙ then_joined out 0 v w (omega arith)
+  more : {s : Bytes × Option ℕ} (v w : Bytes) → s ≡ at v → Fits (v ++ w) → and_then s w ≡ at (v ++ w)
+  more v w e h = ap (λ (s : Bytes × Option ℕ). and_then s w) e ∙ then_joined out 0 v w (omega arith)
 
   fits_front : (v w : Bytes) → Fits (v ++ w) → Fits v
   fits_front v w h = omega (arith, length-append v w)
 
-  nothing : (out, Next 0) ≡ at []
+  nothing : (out, Some 0) ≡ at []
   nothing = fitted out 0 0 [] out refl (omega arith) (sym (placed_none out 0))
 
   -- ---- in front of a sentence
@@ -71,19 +70,19 @@ module _ (out : Bytes) where
   lead_is (s ∷ ss) =
       sym (lead_later (0 + length (told (s ∷ ss))) (λ e. omega (arith, length-append opening (joined (bytes "; ") (s ∷ ss)))))
 
-  lead_told : (ss : List Bytes) {s : Bytes × Written} → s ≡ at (told ss) → Fits (told ss ++ lead_of ss) → then_lead s ≡ at (told ss ++ lead_of ss)
+  lead_told : (ss : List Bytes) {s : Bytes × Option ℕ} → s ≡ at (told ss) → Fits (told ss ++ lead_of ss) → then_lead s ≡ at (told ss ++ lead_of ss)
   lead_told ss e h =
       let w : Bytes = told ss in
-      let here : (placed out 0 w, Next (0 + length w)) ≡ at w = fitted out 0 (length w) w (placed out 0 w) refl (omega (arith, length-append w (lead_of ss))) refl in
+      let here : (placed out 0 w, Some (0 + length w)) ≡ at w = fitted out 0 (length w) w (placed out 0 w) refl (omega (arith, length-append w (lead_of ss))) refl in
       ap then_lead (e ∙ sym here) ∙ ap (λ (v : Bytes). written (placed out 0 w) (0 + length w) v) (lead_is ss) ∙ more w (lead_of ss) here h
 
   -- no sentence more
-  none_told : (ss : List Bytes) {s : Bytes × Written} → s ≡ at (told ss) → s ≡ at (told (ss ++ []))
+  none_told : (ss : List Bytes) {s : Bytes × Option ℕ} → s ≡ at (told ss) → s ≡ at (told (ss ++ []))
   none_told ss e = rw (append-nil ss) e
 
   -- ---- the sentences
 
-  counted_told : (ss : List Bytes) (n : ℕ) (words : Bytes) {s : Bytes × Written} → s ≡ at (told ss) → Fits (told (ss ++ counted n words))
+  counted_told : (ss : List Bytes) (n : ℕ) (words : Bytes) {s : Bytes × Option ℕ} → s ≡ at (told ss) → Fits (told (ss ++ counted n words))
       → then_counted s n words ≡ at (told (ss ++ counted n words))
   counted_told ss zero words e h = none_told ss e
   counted_told ss (suc n) words e h =
@@ -94,7 +93,7 @@ module _ (out : Bytes) where
       let fore : Fits (v ++ d) = fits_front (v ++ d) words all in
       more (v ++ d) words (more v d (lead_told ss e (fits_front v d fore)) fore) all ∙ ap at (sym same)
 
-  timed_told : (ss : List Bytes) (d : Bool) {s : Bytes × Written} → s ≡ at (told ss) → Fits (told (ss ++ timed d))
+  timed_told : (ss : List Bytes) (d : Bool) {s : Bytes × Option ℕ} → s ≡ at (told ss) → Fits (told (ss ++ timed d))
       → then_timed s d ≡ at (told (ss ++ timed d))
   timed_told ss false e h = none_told ss e
   timed_told ss true e h =
@@ -104,7 +103,7 @@ module _ (out : Bytes) where
       more v delay_words (lead_told ss e (fits_front v delay_words all)) all ∙ ap at (sym same)
 
   -- the labels behind the first, and the end
-  labels_told : (v : Bytes) (ls : List Bytes) {s : Bytes × Written} → s ≡ at v → Fits (v ++ (behind (bytes " ") ls ++ bound_words))
+  labels_told : (v : Bytes) (ls : List Bytes) {s : Bytes × Option ℕ} → s ≡ at v → Fits (v ++ (behind (bytes " ") ls ++ bound_words))
       → then_labels s false ls ≡ at (v ++ (behind (bytes " ") ls ++ bound_words))
   labels_told v [] e h = more v bound_words e h
   labels_told v (l ∷ ls) e h =
@@ -118,7 +117,7 @@ module _ (out : Bytes) where
       regroup : (v a l b w : Bytes) → v ++ ((a ++ (l ++ b)) ++ w) ≡ v ++ a ++ l ++ (b ++ w)
       regroup v a l b w = simp append_assoc
 
-  bracketed_told : (ss : List Bytes) (ls : List Bytes) {s : Bytes × Written} → s ≡ at (told ss) → Fits (told (ss ++ bracketed ls))
+  bracketed_told : (ss : List Bytes) (ls : List Bytes) {s : Bytes × Option ℕ} → s ≡ at (told ss) → Fits (told (ss ++ bracketed ls))
       → then_labels s true ls ≡ at (told (ss ++ bracketed ls))
   bracketed_told ss [] e h = none_told ss e
   bracketed_told ss (l ∷ ls) e h =
@@ -138,7 +137,7 @@ module _ (out : Bytes) where
   -- ---- all of them
 
   pub all_told : (r : Reasons) → Fits (reason_text r)
-      → then_all (out, Next 0) r ≡ at (reason_text r)
+      → then_all (out, Some 0) r ≡ at (reason_text r)
   unfolding reason_text
   all_told r h =
       let a : List Bytes = counted r.reads read_words in

@@ -1,17 +1,17 @@
 -- What the call for a net's objections to diffusion answers, and what it leaves in the lent buffer. Document 02, order 3: "Write into a lent byte buffer the
 -- whole `reason` text that document 001 gives for a net, labels standing for place ids, and return its length. … the bytes after the text stay. … Answers: 19
 -- buffer too short, tested after the net and before any byte is written."
-use Rattle.std.specs.Prelude.{ℕ, cond, ◌++◌, map, leb, length, drop}
+use Rattle.std.specs.Prelude.{ℕ, cond, ◌++◌, map, leb, length, drop, Result, Ok, Err}
 use Rattle.std.proofs.Math.Option.{Option, none, some}
-use Rattle.refusals.specs as Refusal
+use Rattle.refusals.specs as Reason
+use Rattle.refusals.specs.Number.{number_of}
+use Rattle.refusals.specs.declared.Refusal.{Refusal}
 use Rattle.text.specs.Text.{Bytes}
 use Rattle.net.specs.declared.Net.{Net as NetRecord}
 use Rattle.net.specs.Labels.{label_at}
 use Rattle.net.specs.Readable.{readable, fault}
 use Rattle.gates.specs.Gated.{Gates, gates}
 use Rattle.reason.specs.Reasons.{Reasons, reason_text}
-use Rattle.reason.specs.declared.ReasonAnswer.{ReasonAnswer}
-use Rattle.reason.specs.declared.ReasonAnswer.TheVariants.{Length, TurnedDown}
 
 -- ---- the text of a net
 
@@ -29,16 +29,21 @@ reason_of n = reason_text (reasons_of n)
 
 -- ---- the call
 
+-- the program's answer, its refusal by its number
+abbrev pub told : Result ℕ Refusal → Result ℕ ℕ
+told (Ok n) = Ok n
+told (Err e) = Err (number_of e)
+
 -- a text that fits stands in front, the bytes behind it stay, and the answer is its length; else 19, and no byte has changed
-abbrev pub answered : Bytes → Bytes → Bytes × ReasonAnswer
+abbrev pub answered : Bytes → Bytes → Bytes × Result ℕ ℕ
 answered out text =
-    cond (leb (length text) (length out)) (text ++ drop (length text) out, Length (length text)) (out, TurnedDown Refusal.short_buffer)
+    cond (leb (length text) (length out)) (text ++ drop (length text) out, Ok (length text)) (out, Err Reason.short_buffer)
 
 -- a net that is turned down, by 2 to 7, 17 or 18, changes no byte
-abbrev pub unless_fault : Option ℕ → Bytes → Bytes × ReasonAnswer → Bytes × ReasonAnswer
+abbrev pub unless_fault : Option ℕ → Bytes → Bytes × Result ℕ ℕ → Bytes × Result ℕ ℕ
 unless_fault none out answer = answer
-unless_fault (some c) out answer = (out, TurnedDown c)
+unless_fault (some c) out answer = (out, Err c)
 
 -- the buffer and the answer of the call that is lent this buffer
-unfoldable pub called : NetRecord → Bytes → Bytes × ReasonAnswer
+unfoldable pub called : NetRecord → Bytes → Bytes × Result ℕ ℕ
 called n out = unless_fault (fault n) out (answered out (reason_of n))

@@ -5,7 +5,6 @@
 
 ghost use Rattle.std.specs.Prelude.{◌≤◌};
 
-use combinations::{RealWays, Ways};
 use net_text::float_of;
 use rng::Xoshiro256;
 use std::io::{self, Read};
@@ -50,21 +49,10 @@ fn state_line(rt: &impl Print, s: [u64; 4]) -> io::Result<()> {
     word_line(rt, s[3])
 }
 
-fn refused_line(rt: &impl Print) -> io::Result<()> {
-    rt.write_all(b"refused\n")
-}
-
-fn ways_line(rt: &impl Print, w: Ways) -> io::Result<()> {
-    match w {
-        Ways::Value(x, _) => float_line(rt, x),
-        Ways::Refused => refused_line(rt),
-    }
-}
-
-fn real_ways_line(rt: &impl Print, w: RealWays) -> io::Result<()> {
-    match w {
-        RealWays::Value(x) => float_line(rt, x),
-        RealWays::Refused => refused_line(rt),
+fn ways_line(rt: &impl Print, ways: Option<f64>) -> io::Result<()> {
+    match ways {
+        Some(x) => float_line(rt, x),
+        None => rt.write_all(b"refused\n"),
     }
 }
 
@@ -135,8 +123,8 @@ fn answer(rt: &impl Print, letter: u8, a: u64, b: u64, state: &mut [u64; 4]) -> 
         b'f' => parts_line(rt, float_of(a)),
         b'l' => float_line(rt, portable_log::plog(float_of(a))),
         b'q' => float_line(rt, root::sqrt(float_of(a))),
-        b'c' => ways_line(rt, combinations::combinations(signed(a), signed(b))),
-        b'd' => real_ways_line(rt, combinations::combinations_real(float_of(a), signed(b))),
+        b'c' => ways_line(rt, combinations::combinations(signed(a), signed(b)).map(|c| c.value)),
+        b'd' => ways_line(rt, combinations::combinations_real(float_of(a), signed(b))),
         _ => end(rt),
     }
 }

@@ -3,7 +3,6 @@
 #![tactic(auto)]
 
 use std::io;
-use text::Written;
 
 fn front(rt: &impl Print, out: &[u8], n: usize) -> io::Result<()> {
     if n <= out.len() {
@@ -13,10 +12,10 @@ fn front(rt: &impl Print, out: &[u8], n: usize) -> io::Result<()> {
 }
 
 // What stands in front of the position behind the bytes written; of a buffer that was too short, all.
-fn show(rt: &impl Print, out: &[u8], w: Written) -> io::Result<()> {
-    match w {
-        Written::Next(n) => front(rt, out, n),
-        Written::Short => {
+fn show(rt: &impl Print, out: &[u8], end: Option<usize>) -> io::Result<()> {
+    match end {
+        Some(n) => front(rt, out, n),
+        None => {
             rt.write_all(b"short ")?;
             rt.write_all(out)?;
             rt.write_all(b"\n")
@@ -26,46 +25,46 @@ fn show(rt: &impl Print, out: &[u8], w: Written) -> io::Result<()> {
 
 fn result(rt: &impl Print, places: u64, samples: u64, realizations: u64) -> io::Result<()> {
     let mut out = [b'.'; 96];
-    let w = result_text::result_line(&mut out, 0, places, samples, realizations);
-    show(rt, &out, w)
+    let end = result_text::result_line(&mut out, 0, places, samples, realizations);
+    show(rt, &out, end)
 }
 
 fn refused(rt: &impl Print, number: u64, line: u64) -> io::Result<()> {
     let mut out = [b'.'; 96];
-    let w = result_text::refused_line(&mut out, 0, number, line);
-    show(rt, &out, w)
+    let end = result_text::refused_line(&mut out, 0, number, line);
+    show(rt, &out, end)
 }
 
 fn mean(rt: &impl Print, label: &[u8], row: &[f64]) -> io::Result<()> {
     let mut out = [b'.'; 96];
-    let w = result_text::mean_line(&mut out, 0, label, row);
-    show(rt, &out, w)
+    let end = result_text::mean_line(&mut out, 0, label, row);
+    show(rt, &out, end)
 }
 
 fn dev(rt: &impl Print, label: &[u8], row: &[f64]) -> io::Result<()> {
     let mut out = [b'.'; 96];
-    let w = result_text::dev_line(&mut out, 0, label, row);
-    show(rt, &out, w)
+    let end = result_text::dev_line(&mut out, 0, label, row);
+    show(rt, &out, end)
 }
 
 // A line of 14 bytes, in a buffer of 16, from position at on; the bytes around it stay.
 fn refused_at(rt: &impl Print, at: usize) -> io::Result<()> {
     let mut out = [b'.'; 16];
-    let w = result_text::refused_line(&mut out, at, 1, 2);
-    show(rt, &out, w)
+    let end = result_text::refused_line(&mut out, at, 1, 2);
+    show(rt, &out, end)
 }
 
 // A line of 41 bytes in a buffer of 41, and of 40: its label has 16.
 fn mean_full(rt: &impl Print, row: &[f64]) -> io::Result<()> {
     let mut out = [b'.'; 41];
-    let w = result_text::mean_line(&mut out, 0, b"waiting-sessions", row);
-    show(rt, &out, w)
+    let end = result_text::mean_line(&mut out, 0, b"waiting-sessions", row);
+    show(rt, &out, end)
 }
 
 fn mean_short(rt: &impl Print, row: &[f64]) -> io::Result<()> {
     let mut out = [b'.'; 40];
-    let w = result_text::mean_line(&mut out, 0, b"waiting-sessions", row);
-    show(rt, &out, w)
+    let end = result_text::mean_line(&mut out, 0, b"waiting-sessions", row);
+    show(rt, &out, end)
 }
 
 fn main(rt: HostRuntime) -> io::Result<()> {

@@ -1,6 +1,6 @@
 -- A root, a binary digit a turn: what each turn keeps. Two digits of the number come down, and the root's next digit is 1 where the square of the longer root
 -- still fits below them. Assumes nothing.
-use Rattle.std.proofs.Common.{◌≡◌, ℕ, ◌+◌, ◌-◌, ◌*◌, ◌/◌, ◌%◌, ◌^◌, ◌<◌, ◌≤◌, sym, ap, ◌∙◌, subst, lt_of_lt_of_le, mul_assoc, mul_comm, add-mul, pow-suc, mul-add, mul_left_comm, add-one, arith, pow_mono}
+use Rattle.std.proofs.Common.{◌≡◌, ℕ, ◌+◌, ◌-◌, ◌*◌, ◌/◌, ◌%◌, ◌^◌, ◌<◌, ◌≤◌, sym, ap, ◌∙◌, lt_of_lt_of_le, mul_assoc, mul_comm, add-mul, pow-suc, mul-add, mul_left_comm, add-one, arith, pow_mono}
 
 pub record Going (m rest root rem i : ℕ) : Type 0 where
   pub turns : i ≤ 54
@@ -52,9 +52,3 @@ taken {m} {rest} {root} {rem} {i} g h l =
       word = omega arith;
       whole = rw (up 4 i, four_times m (4 ^ i)) (omega (arith, d, odd_square root, l));
     }
-
-pub done : {m rest root rem i : ℕ} → Going m rest root rem i → 54 ≤ i → root * root + rem ≡ m * 2 ^ 44
-done {m} {rest} {root} {rem} {i} g h =
-    let e : i ≡ 54 = omega (arith, g.turns) in
-    let w : m * 4 ^ 54 ≡ (root * root + rem) * 2 ^ 64 + rest = subst (λ (k : ℕ). m * 4 ^ k ≡ (root * root + rem) * 2 ^ 64 + rest) e g.whole in
-    omega (arith, w, g.word)

@@ -2,8 +2,7 @@
 ghost use Rattle.std.specs.Prelude.{◌^◌, ◌<◌};
 
 use crate::inverse;
-use std::num::wrapping_add_u64;
-use words::{high, wrapping_mul};
+use words::high;
 
 // A guess at 2^52 times the root of x, a number from 1 to 4 in units of 2^-62 that lies in interval i. With y the inverse root to some 8 binary digits
 // and s = x * y, the root is s / sqrt(1 - e) where e = 1 - s * y; u is e in units of 2^-72, and 1 / sqrt(1 - e) - 1 a polynomial of five terms, of which
@@ -15,11 +14,11 @@ pub fn guess(i: u64, x: u64) -> u64
     let s = high(x, y);
     let u = (high(s, y) ^ 0x3FFF_FFFF_FFFF_FFFF) << 10;
     let w = u >> 32;
-    let square = wrapping_mul(w, w) >> 32;
-    let lower = wrapping_add_u64(0x5FFF_FFFF_FA8E, wrapping_mul(w, 0x5000_002D) >> 24);
-    let upper = wrapping_add_u64(0x45FF_81AD, wrapping_mul(w, 0x7F21_52D3) >> 41);
-    let p = wrapping_add_u64(lower, wrapping_mul(square, upper) >> 32);
-    let q = wrapping_add_u64(0x80_0000_0000_001D, high(u, p));
-    let r = wrapping_add_u64(s, high(high(s, u), q));
-    wrapping_add_u64(r, 0x201) >> 10
+    let square = w.wrapping_mul(w) >> 32;
+    let lower = (w.wrapping_mul(0x5000_002D) >> 24).wrapping_add(0x5FFF_FFFF_FA8E);
+    let upper = (w.wrapping_mul(0x7F21_52D3) >> 41).wrapping_add(0x45FF_81AD);
+    let p = lower.wrapping_add(square.wrapping_mul(upper) >> 32);
+    let q = high(u, p).wrapping_add(0x80_0000_0000_001D);
+    let r = s.wrapping_add(high(high(s, u), q));
+    r.wrapping_add(0x201) >> 10
 }

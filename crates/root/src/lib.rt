@@ -24,12 +24,10 @@ fn whole_root(m: u64) -> Root
     let mut rest = m;
     let mut root = 0u64;
     let mut rem = 0u64;
-    let mut i = 0u64;
-    while i < 54 {
+    for _ in 0..54u64 {
         let t = rem * 4 + (rest >> 62);
         let trial = root * 4 + 1;
         rest = rest << 2;
-        i += 1;
         if trial <= t {
             rem = t - trial;
             root = root * 2 + 1;
@@ -38,10 +36,7 @@ fn whole_root(m: u64) -> Root
             root = root * 2;
         }
     }
-    Root {
-        root: root,
-        rem: rem,
-    }
+    Root { root, rem }
 }
 
 // The whole number nearest to the root of n * 2^52, digit by digit.
@@ -75,7 +70,7 @@ fn judged(n: u64, g: u64) -> bool
     requires { g < 2 ^ 54 }
     ensures { result ≡ true → NearestWhole (n * 2 ^ 52) g }
 {
-    let low = words::wrapping_mul(g, g + 1);
+    let low = g.wrapping_mul(g + 1);
     let part = n << 52;
     if words::high(g, g + 1) == n >> 12 {
         if part <= low {

@@ -13,10 +13,13 @@ use borrow.Author.Count.{below_none, below_more}
 use lib.ListN.{length, get_or, drop, take, set, length-append, length-drop, length-set, length-map, get_or-append}
 use lib.Seq.{get_or-set_same, get_or-set_other, get_or-append-add, get_or-drop, get_or-take, length-take-le, ext_get_or}
 use lib.Ieee.{Float, nan}
+use Rattle.std.specs.Prelude.{Result, Ok, Err}
+use Rattle.refusals.specs.Number.{number_of}
+use Rattle.refusals.specs.declared.Refusal.{Refusal as RefusalEnum}
 use Rattle.rules.specs.Step.{Answer, refused, given}
 use Rattle.averages.specs.Tables.{row, rows_from}
 use Rattle.sde.specs.Diffusion.{State, and_then, at, cells_of, further}
-use Rattle.sde.specs.Arrays.{unless, preceded, Column, Beyond}
+use Rattle.sde.specs.Arrays.{answered, preceded, Column, Beyond}
 use Rattle.sde.proofs.Substeps.{then_stop, then_go}
 
 -- ---- where a cell lies
@@ -179,25 +182,25 @@ progress_first places n x t left h =
     }
 
 -- one turn: the interval from u stopped, or left u' with the values x
-module _ (places n i : ℕ) (f : State → Answer State) (u u' : State) (s : Bool) {whole : Answer (List (List Float))} {t₀ t : List Float}
-    (m : Progress places n i whole (further (n - i) f u) t₀ t) (h : i < n) (e : unless s u' ≡ f u) where
+module _ (places n i : ℕ) (f : State → Answer State) (u u' : State) (r : Result Unit RefusalEnum) {whole : Answer (List (List Float))} {t₀ t : List Float}
+    (m : Progress places n i whole (further (n - i) f u) t₀ t) (h : i < n) (e : answered r u' ≡ f u) where
   abbrev rest_of : State → Answer (List (List Float))
   rest_of v = and_then (further (n - (i + 1)) f v) (λ (rest : List (List Float)). given (v.x ∷ rest))
 
-  pub progress_stop : s ≡ true → (cells : List Float) → unless true cells ≡ cells_of places whole
-  progress_stop y cells =
+  pub progress_stop : (c : RefusalEnum) → r ≡ Err c → refused (number_of c) ≡ cells_of places whole
+  progress_stop c y =
       ap (λ (a : Answer (List (List Float))). cells_of places (preceded m.done a))
-      (then_stop u' s e rest_of y [] ∙ sym (further_step f n i u h))
+      (then_stop u' r e rest_of c y ∙ sym (further_step f n i u h))
       ∙ ap (cells_of places) m.goes_on
 
-  pub progress_more : s ≡ false → (x t' : List Float) → u'.x ≡ take places x → Column n i places x t t'
+  pub progress_more : (o : Unit) → r ≡ Ok o → (x t' : List Float) → u'.x ≡ take places x → Column n i places x t t'
       → Progress places n (i + 1) whole (further (n - (i + 1)) f u') t₀ t'
-  progress_more y x t' z col =
+  progress_more o y x t' z col =
       record {
         done = m.done ++ (u'.x ∷ []);
         count = length-append m.done (u'.x ∷ []) ∙ omega (arith, m.count);
         goes_on = preceded_join m.done u'.x (further (n - (i + 1)) f u')
-            ∙ ap (preceded m.done) (then_go u' s e rest_of y ∙ sym (further_step f n i u h))
+            ∙ ap (preceded m.done) (then_go u' r e rest_of o y ∙ sym (further_step f n i u h))
             ∙ m.goes_on;
         shows = λ p j k l. shown p j k l (dec_lt j i);
         beyond = record {
@@ -218,7 +221,7 @@ module _ (places n i : ℕ) (f : State → Answer State) (u u' : State) (s : Boo
 
 -- all instants
 pub progress_end : (places n i : ℕ) (f : State → Answer State) (u : State) {whole : Answer (List (List Float))} {t₀ t : List Float}
-    → Progress places n i whole (further (n - i) f u) t₀ t → i ≤ n → n ≤ i → places * n ≤ length t₀ → unless false (take (places * n) t) ≡ cells_of places whole
+    → Progress places n i whole (further (n - i) f u) t₀ t → i ≤ n → n ≤ i → places * n ≤ length t₀ → given (take (places * n) t) ≡ cells_of places whole
 progress_end places n i f u {whole} {t₀} {t} m a b fits =
     let d : n - i ≡ 0 = omega arith in
     ap given (shown_cells places n m.done t (omega (arith, m.count)) (omega (arith, m.beyond.long)) m.shows

@@ -58,17 +58,20 @@ module _ (k p w : List ℕ) where
       sym (ap (λ (c : ℕ). kinetics (slots k p w from c)) d
       ∙ then_none (e - from) (end - e) from (λ b l g. h.idle b (omega (arith, h.low, h.high)) (omega (arith, h.low, h.high))))
 
--- the end, from the last slot on downwards
-module _ (kind : List ℕ) (from end : ℕ) where
-  pub end_first : from ≤ end → KineticEnd kind from end end
-  end_first h = record { low = h; high = omega arith; idle = λ a l g. absurd (omega arith) }
+-- the end, slot by slot
+pub end_first : (kind : List ℕ) (from : ℕ) → KineticEnd kind from from from
+end_first kind from = record { low = omega arith; high = omega arith; idle = λ a l g. absurd (omega arith) }
 
-  pub end_before : (e last : ℕ) → from < e → last ≡ e - 1 → KineticEnd kind from end e → (get_or kind last 0 ≡ 0 → ⊥) → KineticEnd kind from end last
-  end_before e last h d s y =
+module _ (kind : List ℕ) (from end : ℕ) where
+  pub end_here : from ≤ end → KineticEnd kind from (end + 1) (end + 1)
+  end_here h = record { low = omega arith; high = omega arith; idle = λ a l g. absurd (omega arith) }
+
+  pub end_stays : (e : ℕ) → KineticEnd kind from end e → (get_or kind end 0 ≡ 0 → ⊥) → KineticEnd kind from (end + 1) e
+  end_stays e s y =
       record {
-        low = omega arith;
+        low = s.low;
         high = omega (arith, s.high);
-        idle = λ a l g. on_bool (eqb a last) (λ q. ap (λ (b : ℕ). eqb (get_or kind b 0) 0) (eqb-true a last q) ∙ ne_eqb (get_or kind last 0) 0 y) (λ q. s.idle a (omega (arith, eqb-false a last q)) g);
+        idle = λ a l g. on_bool (eqb a end) (λ q. ap (λ (b : ℕ). eqb (get_or kind b 0) 0) (eqb-true a end q) ∙ ne_eqb (get_or kind end 0) 0 y) (λ q. s.idle a l (omega (arith, eqb-false a end q)));
       }
 
 -- the propensity of transition j, from the slots before its kinetic end

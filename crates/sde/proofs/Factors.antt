@@ -1,63 +1,72 @@
 -- A propensity, slot by slot: the factors of the slots that are left, on top of what is worked so far, come to the whole. Assumes nothing.
 use Prim.Native.Nat.{ℕ, zero, suc, ◌+◌, ◌-◌, ◌*◌, ◌≤◌, ◌<◌}
 use mathlib.Core.Path.{◌≡◌, refl, sym, ap, ◌∙◌}
-use mathlib.Core.Bool.{Bool, ◌&&◌}
+use mathlib.Core.Bool.{Bool}
 use mathlib.Core.List.{List, ◌∷◌}
 use native.Mathlib.Omega.{arith}
 use lib.Dec.{eqb}
 use lib.ListN.{get_or, take}
 use lib.Seq.{get_or-take}
 use lib.IntN.{pos}
-use lib.Ieee.{Float, nan, le}
+use lib.Ieee.{Float, nan, binary64, mul, div, le, of_bits}
 use mir.Syntax.{w64}
 use mir.Val.{to_z}
 use mir.Facts.{to_z_pos}
 use borrow.Author.Tests.{lt-leb, ne_eqb}
 use Rattle.net.specs.declared.Net.{Net as NetRecord}
-use Rattle.net.specs.Net.{pick, zero64, rate_of}
+use Rattle.net.specs.Net.{pick, zero64, amount, rate_of}
 use Rattle.net.specs.Sound.{Sound}
 use Rattle.net.specs.Readable.{Slot, slots, takes_of, transition}
 use Rattle.net.proofs.Slots.{slots_step, slots_end}
-use Rattle.combinations.specs.declared.RealWays.{RealWays}
+use Rattle.std.specs.Prelude.{Option, Some, None}
+use Rattle.std.specs.Option.{unwrap_or}
 use Rattle.combinations.specs.Real.{meaning, combinations_real}
 use Rattle.sde.specs.Diffusion.{at, as_float, ways_at, kinetic_of, factored, propensity}
-use Rattle.sde.specs.Slots.{Inside, times_slot}
+use Rattle.sde.specs.Slots.{Inside}
 use Rattle.engine.proofs.Arcs.{span, slots_of_lem}
 
--- what the answer of `combinations_real` says of a number that is the same signed
-pub ways_answer : (x : Float) (w : ℕ) → w ≤ 1_000_000 → (r : RealWays) → meaning r ≡ combinations_real x (to_z w64 w) → as_float (meaning r) ≡ ways_at x w
+-- 0 over 0
+no_number : div binary64 zero64 zero64 ≡ nan
+unfolding div of_bits
+no_number = refl
+
+-- what the answer of `combinations_real` says of a number that is the same signed, a NaN in the place of none
+pub ways_answer : (x : Float) (w : ℕ) → w ≤ 1_000_000 → (r : Option Float) → meaning r ≡ combinations_real x (to_z w64 w)
+    → unwrap_or r (div binary64 zero64 zero64) ≡ ways_at x w
 ways_answer x w h r e =
     let b : to_z w64 w ≡ pos w = to_z_pos w64 (omega arith) in
-    ap as_float (e ∙ ap (combinations_real x) b)
+    said r ∙ ap as_float (e ∙ ap (combinations_real x) b)
+  where
+    said : (r : Option Float) → unwrap_or r (div binary64 zero64 zero64) ≡ as_float (meaning r)
+    said (Some v) = refl
+    said None = no_number
 
 -- one slot
 abbrev pub left : List Float → Float → List Slot → Float
 left x a ls = factored x a (kinetic_of (takes_of ls))
 
-module _ (x : List Float) (a : Float) (ls : List Slot) where
-  by_kind : (kind place weight : ℕ)
-      → left x a (record { kind = kind; place = place; weight = weight } ∷ ls)
-      ≡ pick (eqb kind 0 && le (times_slot a kind weight (at x place)) zero64) zero64 (left x (times_slot a kind weight (at x place)) ls)
-  by_kind zero place weight = refl
-  by_kind (suc zero) place weight = refl
-  by_kind (suc (suc k)) place weight =
-      simp (lt-leb (suc (suc k)) 1 (omega arith), ne_eqb (suc (suc k)) 0 (λ e. omega arith))
+other_kind : (x : List Float) (a : Float) (ls : List Slot) (kind place weight : ℕ) → (kind ≡ 0 → ⊥)
+    → left x a (record { kind = kind; place = place; weight = weight } ∷ ls) ≡ left x a ls
+other_kind x a ls zero place weight h = absurd (h refl)
+other_kind x a ls (suc zero) place weight h = refl
+other_kind x a ls (suc (suc k)) place weight h = simp (lt-leb (suc (suc k)) 1 (omega arith), ne_eqb (suc (suc k)) 0 (λ e. omega arith))
 
--- one turn of the loop over slots, at slot i; and its end
+-- one turn of the loop over slots, at slot i: a kinetic take, and any other slot; and its end
 module _ (x : List Float) (a : Float) (k p w : List ℕ) (i e : ℕ) where
-  turn : i < e → left x a (slots k p w i (e - i))
-      ≡ pick (eqb (get_or k i 0) 0 && le (times_slot a (get_or k i 0) (get_or w i 0) (at x (get_or p i 0))) zero64) zero64
-      (left x (times_slot a (get_or k i 0) (get_or w i 0) (at x (get_or p i 0))) (slots k p w (i + 1) (e - (i + 1))))
-  turn h = ap (left x a) (slots_step k p w i e h) ∙ by_kind x a (slots k p w (i + 1) (e - (i + 1))) (get_or k i 0) (get_or p i 0) (get_or w i 0)
+  abbrev after : Float → Float
+  after b = left x b (slots k p w (i + 1) (e - (i + 1)))
 
-  module _ (h : i < e) (v b : Float) (y : v ≡ at x (get_or p i 0)) (z : b ≡ times_slot a (get_or k i 0) (get_or w i 0) v) (s t : Bool)
-      (u : s ≡ (eqb (get_or k i 0) 0 && le b zero64)) (q : s ≡ t) where
-    pub made : left x a (slots k p w i (e - i)) ≡ pick t zero64 (left x b (slots k p w (i + 1) (e - (i + 1))))
-    made =
-        let c : times_slot a (get_or k i 0) (get_or w i 0) (at x (get_or p i 0)) ≡ b = sym (z ∙ ap (times_slot a (get_or k i 0) (get_or w i 0)) y) in
-        turn h
-        ∙ ap (λ (f : Float). pick (eqb (get_or k i 0) 0 && le f zero64) zero64 (left x f (slots k p w (i + 1) (e - (i + 1))))) c
-        ∙ ap (λ (o : Bool). pick o zero64 (left x b (slots k p w (i + 1) (e - (i + 1))))) (sym u ∙ q)
+  pub factor : i < e → get_or k i 0 ≡ 0 → (v b : Float) → v ≡ at x (get_or p i 0) → b ≡ mul binary64 a (ways_at v (amount (get_or w i 0))) → (t : Bool) → le b zero64 ≡ t
+      → left x a (slots k p w i (e - i)) ≡ pick t zero64 (after b)
+  factor h z v b y q t u =
+      let c : mul binary64 a (ways_at (at x (get_or p i 0)) (amount (get_or w i 0))) ≡ b = sym (q ∙ ap (λ (o : Float). mul binary64 a (ways_at o (amount (get_or w i 0)))) y) in
+      ap (left x a) (slots_step k p w i e h)
+      ∙ ap (λ (o : ℕ). left x a (record { kind = o; place = get_or p i 0; weight = get_or w i 0 } ∷ slots k p w (i + 1) (e - (i + 1)))) z
+      ∙ ap (λ (f : Float). pick (le f zero64) zero64 (after f)) c
+      ∙ ap (λ (o : Bool). pick o zero64 (after b)) u
+
+  pub no_factor : i < e → (get_or k i 0 ≡ 0 → ⊥) → left x a (slots k p w i (e - i)) ≡ after a
+  no_factor h z = ap (left x a) (slots_step k p w i e h) ∙ other_kind x a (slots k p w (i + 1) (e - (i + 1))) (get_or k i 0) (get_or p i 0) (get_or w i 0) z
 
   pub factors_end : e ≤ i → a ≡ left x a (slots k p w i (e - i))
   factors_end h = sym (ap (left x a) (slots_end k p w i e h))

@@ -1,20 +1,39 @@
 -- The table of skips: it is filled cell by cell, and a loop may step over places whose change is 0, since noise and drift leave them as they are;
 -- where it stops, the change is not 0. Assumes nothing.
-use Prim.Native.Nat.{ℕ, ◌+◌, ◌*◌, ◌/◌, ◌%◌, ◌≤◌, ◌<◌}
-use mathlib.Core.Path.{◌≡◌, sym, ap, ◌∙◌, subst}
-use mathlib.Core.Bool.{Bool, true, false}
+use Prim.Native.Nat.{ℕ, ◌+◌, ◌*◌, ◌/◌, ◌%◌, ◌≤◌, ◌<◌, max}
+use mathlib.Core.Path.{◌≡◌, refl, sym, ap, ◌∙◌, subst}
+use mathlib.Core.Bool.{Bool, true, false, not}
 use mathlib.Core.List.{List}
 use native.Mathlib.Omega.{arith}
+use native.Mathlib.Decide.{dec_lt}
 use lib.Dec.{eqb, ltb}
 use lib.ListN.{length, get_or, set}
 use lib.Seq.{get_or-set_same, get_or-set_other}
-use lib.Ieee.{Float, nan, binary64, add, mul, eq}
+use lib.Ieee.{Float, nan, binary64, add, mul, eq, ne}
 use borrow.Author.Tests.{eqb-true, eqb-false, ltb-true, ltb-false}
 use Rattle.net.specs.Net.{pick, zero64}
 use Rattle.sde.specs.Diffusion.{noise_by, drift_by}
 use Rattle.sde.specs.Slots.{Skip, Skips, SkipsOf}
 use Rattle.engine.proofs.Arcs.{on_bool}
 use Rattle.sde.proofs.Each.{MapTo}
+
+-- ---- a test for 0
+
+not_false : (b : Bool) → not b ≡ false → b ≡ true
+not_false true h = refl
+not_false false h = sym h
+
+not_true : (b : Bool) → not b ≡ true → b ≡ false
+not_true true h = sym h
+not_true false h = refl
+
+pub is_zero : (x : Float) → ne x zero64 ≡ false → eq x zero64 ≡ true
+unfolding ne
+is_zero x h = not_false (eq x zero64) h
+
+pub no_zero : (x : Float) → ne x zero64 ≡ true → eq x zero64 ≡ false
+unfolding ne
+no_zero x h = not_true (eq x zero64) h
 
 -- ---- the table
 
@@ -51,23 +70,37 @@ module _ (places j : ℕ) (changes : List Float) (skips : List ℕ) where
 pub record Idle (places from : ℕ) (changes : List Float) (p q : ℕ) : Type 0 where
   pub low : p ≤ q
   pub high : p ≤ places → q ≤ places
+  pub past : places < p → q ≡ p
   pub idle : (r : ℕ) → p ≤ r → r < q → eq (get_or changes (from + r) nan) zero64 ≡ true
 
 module _ (places from : ℕ) (changes : List Float) (p q : ℕ) where
   pub idle_none : p ≡ q → Idle places from changes p q
-  idle_none e = record { low = omega arith; high = λ h. omega arith; idle = λ r l h. absurd (omega arith) }
+  idle_none e = record { low = omega arith; high = λ h. omega arith; past = λ h. sym e; idle = λ r l h. absurd (omega arith) }
 
   pub idle_more : q < places → Idle places from changes p q → eq (get_or changes (from + q) nan) zero64 ≡ true → Idle places from changes p (q + 1)
   idle_more h s e =
       record {
         low = omega (arith, s.low);
         high = λ k. omega arith;
+        past = λ k. absurd (omega (arith, s.low));
         idle = λ r l k. on_bool (eqb r q) (λ y. ap (λ (x : ℕ). eq (get_or changes (from + x) nan) zero64) (eqb-true r q y) ∙ e) (λ y. s.idle r l (omega (arith, eqb-false r q y)));
       }
 
   -- at a place that is changed, or past the last
   pub skip_here : Idle places from changes p q → (q < places → eq (get_or changes (from + q) nan) zero64 ≡ false) → Skip places from changes p q
   skip_here s e = record { low = s.low; high = s.high; idle = s.idle; changed = e }
+
+  -- past the last place
+  pub skip_end : Idle places from changes p q → places ≤ q → (r : ℕ) → r ≡ max places p → Skip places from changes p r
+  skip_end s h r e = by_order (dec_lt places p)
+    where
+      by_order : Dec (places < p) → Skip places from changes p r
+      by_order (yes k) =
+          let z = s.past k in
+          record { low = omega arith; high = λ t. absurd (omega arith); idle = λ b l t. absurd (omega arith); changed = λ t. absurd (omega arith) }
+      by_order (no k) =
+          let z = s.high (omega arith) in
+          record { low = omega arith; high = λ t. omega arith; idle = λ b l t. s.idle b l (omega arith); changed = λ t. absurd (omega arith) }
 
 -- ---- the loop
 

@@ -14,7 +14,7 @@ use Rattle.rules.specs.Step.{Answer, refused, given}
 use Rattle.normals.specs.declared.GaussianSampler.{GaussianSampler}
 use Rattle.normals.specs.Normal.{sampler_of, seeded_sampler}
 use Rattle.sde.specs.Diffusion.{State, and_then, each_from, further, over_interval, first_state, walked, cells_of}
-use Rattle.sde.specs.Arrays.{state_of, preceded, Mapped, Beyond}
+use Rattle.sde.specs.Arrays.{preceded, Mapped, Beyond}
 
 counts_from_lem : (initial capacity : List ℕ) (p k : ℕ) (xs : List Float) → length xs ≡ k
     → each_from (λ (q : ℕ) (v : Float). float (get_or initial q 0)) p xs ≡ map (λ (q : Place). float q.initial) (places_from initial capacity p k)
@@ -29,19 +29,22 @@ preceded_one a (given rest) = refl
 
 module _ (n : NetRecord) (x x' : List Float) (long : length x ≡ 32) (small : n.places ≤ 32)
     (m : Mapped n.places (λ (p : ℕ) (v : Float). float (get_or n.initial p 0)) x x') (seed : ℕ) (s : GaussianSampler) (y : sampler_of s ≡ seeded_sampler seed) where
-  first_is : state_of n.places x' s ≡ first_state (readable n) (seeded_sampler seed)
+  abbrev first : State
+  first = record { x = take n.places x'; sampler = sampler_of s }
+
+  first_is : first ≡ first_state (readable n) (seeded_sampler seed)
   first_is =
       let e : take n.places x' ≡ map (λ (q : Place). float q.initial) (places_from n.initial n.capacity 0 n.places) =
       m.each ∙ counts_from_lem n.initial n.capacity 0 n.places (take n.places x) (length-take-le n.places x (omega arith)) in
       λ i. record { x = e i; sampler = y i }
 
   pub walk_made : (dt : Float) (samples : ℕ)
-      → cells_of n.places (preceded (take n.places x' ∷ []) (further (samples - 1) (over_interval (readable n) dt) (state_of n.places x' s)))
+      → cells_of n.places (preceded (take n.places x' ∷ []) (further (samples - 1) (over_interval (readable n) dt) first))
       ≡ cells_of n.places (walked (readable n) dt samples seed)
   walk_made dt samples =
       ap (cells_of n.places)
-      (preceded_one (take n.places x') (further (samples - 1) (over_interval (readable n) dt) (state_of n.places x' s))
-      ∙ ap (λ (u : State). and_then (further (samples - 1) (over_interval (readable n) dt) u) (λ (rest : List (List Float)). given (u.x ∷ rest))) first_is)
+      (preceded_one (take n.places x') (further (samples - 1) (over_interval (readable n) dt) first)
+      ∙ ap (λ (v : State). and_then (further (samples - 1) (over_interval (readable n) dt) v) (λ (rest : List (List Float)). given (v.x ∷ rest))) first_is)
 
 pub beyond_join : {cells : ℕ} {a b c : List Float} → Beyond cells a b → Beyond cells b c → Beyond cells a c
 beyond_join f g = record { long = g.long ∙ f.long; stays = g.stays ∙ f.stays }

@@ -1,7 +1,6 @@
 // The net changes of the transitions as floats, once a call: that of transition j at place p is cell 32 * j + p.
 ghost use Rattle.std.specs.Prelude.{◌≡◌, ◌+◌, ◌-◌, ◌*◌, ◌/◌, ◌%◌, ◌<◌, ◌≤◌, length};
 ghost use Rattle.net.specs.Net as Reader;
-ghost use Rattle.net.specs.declared.Net.{Net as NetRecord};
 ghost use Rattle.net.specs.Readable as Record;
 ghost use Rattle.net.specs.Record.{net_of};
 ghost use Rattle.net.specs.Sound as Sound;
@@ -16,10 +15,8 @@ fn less(d: f64, kind: u64, place: usize, weight: u64, p: usize) -> f64
     requires { weight ≤ 1_000_000 }
     ensures { result ≡ Slots.less_slot d kind place weight p }
 {
-    if kind <= net::TAKE {
-        if place == p {
-            return d - (slots::amount(weight) as f64);
-        }
+    if kind <= net::TAKE && place == p {
+        return d - (slots::amount(weight) as f64);
     }
     d
 }
@@ -29,10 +26,8 @@ fn more(d: f64, kind: u64, place: usize, weight: u64, p: usize) -> f64
     requires { weight ≤ 1_000_000 }
     ensures { result ≡ Slots.more_slot d kind place weight p }
 {
-    if kind == net::PUT {
-        if place == p {
-            return d + (slots::amount(weight) as f64);
-        }
+    if kind == net::PUT && place == p {
+        return d + (slots::amount(weight) as f64);
     }
     d
 }
@@ -43,10 +38,8 @@ fn less_takes(net: &LentNet, from: usize, end: usize, p: usize) -> f64
     ensures { result ≡ Diffusion.less_takes p Reader.zero64 (Record.takes_of (Record.slots net.now.kind.now net.now.place.now net.now.weight.now from (end - from))) }
 {
     let mut d = 0.0;
-    let mut a = from;
-    while a < end {
+    for a in from..end {
         d = less(d, net.kind[a], net.place[a], net.weight[a], p);
-        a += 1;
     }
     d
 }
@@ -57,10 +50,8 @@ fn plus_puts(net: &LentNet, from: usize, end: usize, p: usize, first: f64) -> f6
     ensures { result ≡ Diffusion.plus_puts p first (Record.arcs_of Record.is_put (Record.slots net.now.kind.now net.now.place.now net.now.weight.now from (end - from))) }
 {
     let mut d = first;
-    let mut a = from;
-    while a < end {
+    for a in from..end {
         d = more(d, net.kind[a], net.place[a], net.weight[a], p);
-        a += 1;
     }
     d
 }
@@ -80,16 +71,11 @@ fn change_of(net: &LentNet, c: usize) -> f64
 
 // Fills the table of net changes.
 pub fn fill_changes(net: &LentNet, changes: &mut [f64; 2048])
-    requires { let net = net_of net.now in Sound.Sound net × (length changes.old ≡ 2048) }
+    requires { let net = net_of net.now in Sound.Sound net }
     ensures { let net = net_of net.now in Slots.Changes net changes.new }
 {
-    let end = 32 * net.transitions;
-    let mut c: usize = 0;
-    while c < end {
-        let next = c + 1;
-        let d = change_of(net, c);
-        changes[c] = d;
-        c = next;
+    for c in 0..32 * net.transitions {
+        changes[c] = change_of(net, c);
     }
 }
 
@@ -98,16 +84,12 @@ fn next_changed(changes: &[f64; 2048], places: usize, from: usize, p: usize) -> 
     requires { (places ≤ 32) × (from ≤ 2016) }
     ensures { Slots.Skip places from changes.now p result }
 {
-    let mut q = p;
-    while q < places {
-        let d = changes[from + q];
-        if d == 0.0 {
-            q += 1;
-        } else {
+    for q in p..places {
+        if changes[from + q] != 0.0 {
             return q;
         }
     }
-    q
+    places.max(p)
 }
 
 // Fills the table of skips: cell 33 * j + p is the next place from p on that transition j changes.
@@ -117,15 +99,10 @@ pub fn fill_skips(
     transitions: usize,
     skips: &mut [usize; 2112],
 )
-    requires { (places ≤ 32) × (transitions ≤ 64) × (length skips.old ≡ 2112) }
+    requires { (places ≤ 32) × (transitions ≤ 64) }
     ensures { Slots.Skips places transitions changes.now skips.new }
 {
-    let end = 33 * transitions;
-    let mut c: usize = 0;
-    while c < end {
-        let next = c + 1;
-        let q = next_changed(changes, places, 32 * (c / 33), c % 33);
-        skips[c] = q;
-        c = next;
+    for c in 0..33 * transitions {
+        skips[c] = next_changed(changes, places, 32 * (c / 33), c % 33);
     }
 }

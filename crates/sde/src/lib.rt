@@ -5,6 +5,7 @@
 mod change;
 mod paths;
 mod propensity;
+mod run;
 mod substep;
 mod walk;
 
@@ -39,9 +40,9 @@ pub fn diffuse(
     deviation: &mut [f64],
     path: &mut [f64],
 ) -> DiffusionAnswer
-    ensures { Call.call_of result mean.exit.now deviation.new path.new
+    ensures { Call.call_of result mean.new deviation.new path.new
         ≡ Call.called net (record { samples = samples; realizations = realizations; seed = seed; horizon = horizon })
-        (record { mean = mean.entry.now; deviation = deviation.old; path = path.old }) }
+        (record { mean = mean.old; deviation = deviation.old; path = path.old }) }
 {
     if let Err(c) = net::test_net(net) {
         return DiffusionAnswer::TurnedDown(c);

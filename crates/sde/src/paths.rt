@@ -1,21 +1,19 @@
 // The paths of a call, their means and deviations. The sums stand in the mean and the deviation table while the paths run.
-ghost use Rattle.std.specs.Prelude.{◌≡◌, not, ◌-◌, ◌*◌, ◌+◌, ◌<◌, ◌≤◌, eqb, Float, length};
+ghost use Rattle.std.specs.Prelude.{◌≡◌, not, ◌*◌, ◌≤◌, eqb, Float, length};
 ghost use Rattle.std.proofs.Math.Option.{none};
 ghost use Rattle.net.specs.Net as Reader;
-ghost use Rattle.net.specs.declared.Net.{Net as NetRecord};
 ghost use Rattle.net.specs.Readable as Record;
-ghost use Rattle.net.specs.Record.{lent, net_of};
+ghost use Rattle.net.specs.Record.{net_of};
 ghost use Rattle.net.specs.Sound as Sound;
-ghost use Rattle.root.specs.Root.{root_of};
 ghost use Rattle.rules.specs.Propensity.{float};
 ghost use Rattle.averages.specs.Front as Front;
 ghost use Rattle.averages.specs.Moments as Moments;
 ghost use Rattle.sde.specs.Call as Call;
 ghost use Rattle.sde.specs.Diffusion as Diffusion;
 ghost use Rattle.gates.specs.Gated as Gated;
-ghost use Rattle.sde.specs.Slots as Slots;
 ghost use Rattle.sde.specs.Summed as Summed;
 
+use crate::run::Run;
 use crate::{DiffusionAnswer, change, propensity, walk};
 use averages::{moments, request};
 use net::{LentNet, Net};
@@ -31,51 +29,43 @@ fn width(samples: u32, horizon: f64) -> f64
     (steps * w - 0.0 * w) / steps / 20.0
 }
 
-// Walks the paths in order and sums them up. How many were walked: all, or those before the first that was refused.
-fn sum_paths<'a>(
-    net: &LentNet,
-    changes: &'a [f64; 2048],
-    skips: &'a [usize; 2112],
-    ends: &'a [usize; 64],
-    n: usize,
+// The first path that was refused, and why.
+#[derive(Clone, Copy)]
+struct Halt {
+    refusal: Refusal,
+    path: u64,
+}
+
+// Walks the paths in order and sums them up, or those before the first that is refused.
+fn sum_paths(
+    run: &Run,
     realizations: u64,
     seed: u64,
-    horizon: f64,
-    dt: f64,
-    root: f64,
     mean: &mut [f64],
     deviation: &mut [f64],
     path: &mut [f64],
-) -> u64
-    requires { let net = net_of net.now in Sound.Sound net × Slots.Prepared net changes.now skips.now ends.now
-        × (dt ≡ Diffusion.step_of n horizon) × (root ≡ root_of dt)
-        × (1 ≤ n) × (n ≤ 1024) × (1 ≤ realizations)
-        × (net.places * n ≤ length mean.old) × (net.places * n ≤ length deviation.old) × (net.places * n ≤ length path.old) }
-    ensures { let net = net_of net.now in Summed.SummedBy (net.places * n) realizations
-        (Call.members_from (Record.readable net) (record { samples = n; realizations = realizations; seed = seed; horizon = horizon }) 0 realizations)
-        (record { mean = mean.entry.now; deviation = deviation.old; path = path.old })
-        mean.exit.now deviation.new path.new result }
+) -> Result<(), Halt>
+    requires { let cells = run.now.net.places * run.now.n in (1 ≤ realizations) × (cells ≤ length mean.old) × (cells ≤ length deviation.old) × (cells ≤ length path.old) }
+    ensures { Summed.SummedBy (run.now.net.places * run.now.n) realizations
+        (Summed.walks (Record.readable (net_of run.now.net)) run.now.n run.now.dt seed 0 realizations)
+        (record { mean = mean.old; deviation = deviation.old; path = path.old })
+        mean.new deviation.new path.new result }
 {
-    let cells = net.places * n;
+    let cells = run.net.places * run.n;
     moments::clear(cells, mean);
     moments::clear(cells, deviation);
-    let mut x = [0.0; 32];
-    let mut drift = [0.0; 32];
-    let mut k: u64 = 0;
-    while k < realizations {
-        let next = k + 1;
+    for k in 0..realizations {
         let own = request::seed_of(seed, k);
-        let stopped = walk::walk(
-            net, changes, skips, ends, n, dt, root, own, &mut x, &mut drift, path,
-        );
-        if stopped {
-            return k;
+        if let Err(c) = walk::walk(run, own, path) {
+            return Err(Halt {
+                refusal: c,
+                path: k,
+            });
         }
         moments::add(cells, path, mean);
         moments::add_squares(cells, path, deviation);
-        k = next;
     }
-    k
+    Ok(())
 }
 
 // Makes means and deviations of the sums. With one realization there is no deviation, and its cells are +0.
@@ -102,50 +92,26 @@ fn finish(
 }
 
 // The paths, and what is made of them; +0 in the answer's cells where a path is refused.
-fn averaged<'a>(
-    net: &LentNet,
-    changes: &'a [f64; 2048],
-    skips: &'a [usize; 2112],
-    ends: &'a [usize; 64],
-    n: usize,
+fn averaged(
+    run: &Run,
     realizations: u64,
     seed: u64,
-    horizon: f64,
-    dt: f64,
-    root: f64,
     mean: &mut [f64],
     deviation: &mut [f64],
     path: &mut [f64],
 ) -> DiffusionAnswer
-    requires { let net = net_of net.now in Sound.Sound net × Slots.Prepared net changes.now skips.now ends.now
-        × (dt ≡ Diffusion.step_of n horizon) × (root ≡ root_of dt)
-        × (1 ≤ n) × (n ≤ 1024) × (1 ≤ realizations) × (realizations ≤ 65_535)
-        × (net.places * n ≤ length mean.old) × (net.places * n ≤ length deviation.old) × (net.places * n ≤ length path.old) }
-    ensures { let net = net_of net.now in Call.call_of result mean.exit.now deviation.new path.new
-        ≡ Call.tabulated (net.places * n) (record { mean = mean.entry.now; deviation = deviation.old; path = path.old })
-        (Call.members_from (Record.readable net) (record { samples = n; realizations = realizations; seed = seed; horizon = horizon }) 0 realizations) }
+    requires { let cells = run.now.net.places * run.now.n in (1 ≤ realizations) × (realizations ≤ 65_535)
+        × (cells ≤ length mean.old) × (cells ≤ length deviation.old) × (cells ≤ length path.old) }
+    ensures { Call.call_of result mean.new deviation.new path.new
+        ≡ Call.tabulated (run.now.net.places * run.now.n) (record { mean = mean.old; deviation = deviation.old; path = path.old })
+        (Summed.walks (Record.readable (net_of run.now.net)) run.now.n run.now.dt seed 0 realizations) }
 {
-    let cells = net.places * n;
-    let k = sum_paths(
-        net,
-        changes,
-        skips,
-        ends,
-        n,
-        realizations,
-        seed,
-        horizon,
-        dt,
-        root,
-        mean,
-        deviation,
-        path,
-    );
-    if k < realizations {
+    let cells = run.net.places * run.n;
+    if let Err(h) = sum_paths(run, realizations, seed, mean, deviation, path) {
         moments::clear(cells, mean);
         moments::clear(cells, deviation);
         moments::clear(cells, path);
-        return DiffusionAnswer::Stopped(Refusal::NoNormal, k);
+        return DiffusionAnswer::Stopped(h.refusal, h.path);
     }
     finish(cells, realizations, mean, deviation)
 }
@@ -164,10 +130,10 @@ pub fn lent_run(
     requires { let net = net_of net.now in Sound.Sound net
         × (2 ≤ samples) × (samples ≤ 1024) × (1 ≤ realizations) × (realizations ≤ 65_535)
         × (net.places * samples ≤ length mean.old) × (net.places * samples ≤ length deviation.old) × (net.places * samples ≤ length path.old) }
-    ensures { let net = net_of net.now in Call.call_of result mean.exit.now deviation.new path.new
+    ensures { let net = net_of net.now in Call.call_of result mean.new deviation.new path.new
         ≡ Call.unless_gated (Gated.gated (Gated.gates (Record.readable net))) (Gated.gates (Record.readable net))
-        (record { mean = mean.entry.now; deviation = deviation.old; path = path.old })
-        (Call.tabulated (net.places * samples) (record { mean = mean.entry.now; deviation = deviation.old; path = path.old })
+        (record { mean = mean.old; deviation = deviation.old; path = path.old })
+        (Call.tabulated (net.places * samples) (record { mean = mean.old; deviation = deviation.old; path = path.old })
         (Call.members_from (Record.readable net) (record { samples = samples; realizations = realizations; seed = seed; horizon = horizon }) 0 realizations)) }
 {
     let g = gates::gates_of(net);
@@ -187,23 +153,16 @@ pub fn lent_run(
     let mut ends: [usize; 64] = [0; 64];
     propensity::fill_ends(net, &mut ends);
     let dt = width(samples as u32, horizon);
-    let root = root::sqrt(dt);
-    let n = samples as usize;
-    averaged(
-        &rated,
-        &changes,
-        &skips,
-        &ends,
-        n,
-        realizations,
-        seed,
-        horizon,
-        dt,
-        root,
-        mean,
-        deviation,
-        path,
-    )
+    let run = Run {
+        net: rated,
+        changes: &changes,
+        skips: &skips,
+        ends: &ends,
+        n: samples as usize,
+        dt: dt,
+        root: root::sqrt(dt),
+    };
+    averaged(&run, realizations, seed, mean, deviation, path)
 }
 
 // The same for a net record.
@@ -220,10 +179,10 @@ pub fn accepted(
     requires { (Record.fault net ≡ none)
         × (2 ≤ samples) × (samples ≤ 1024) × (1 ≤ realizations) × (realizations ≤ 65_535)
         × (net.places * samples ≤ length mean.old) × (net.places * samples ≤ length deviation.old) × (net.places * samples ≤ length path.old) }
-    ensures { Call.call_of result mean.exit.now deviation.new path.new
+    ensures { Call.call_of result mean.new deviation.new path.new
         ≡ Call.unless_gated (Gated.gated (Gated.gates (Record.readable net))) (Gated.gates (Record.readable net))
-        (record { mean = mean.entry.now; deviation = deviation.old; path = path.old })
-        (Call.tabulated (net.places * samples) (record { mean = mean.entry.now; deviation = deviation.old; path = path.old })
+        (record { mean = mean.old; deviation = deviation.old; path = path.old })
+        (Call.tabulated (net.places * samples) (record { mean = mean.old; deviation = deviation.old; path = path.old })
         (Call.members_from (Record.readable net) (record { samples = samples; realizations = realizations; seed = seed; horizon = horizon }) 0 realizations)) }
 {
     lent_run(

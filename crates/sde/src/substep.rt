@@ -1,208 +1,119 @@
 // One substep: each transition's noise goes into the state at once, and the drift after all of them.
-ghost use Rattle.std.specs.Prelude.{◌≡◌, true, false, ◌-◌, ◌*◌, ◌+◌, ◌<◌, ◌≤◌, length, get_or};
+ghost use Rattle.std.specs.Prelude.{◌≡◌, ◌*◌, ◌+◌, ◌<◌, ◌≤◌, length, get_or};
 ghost use Rattle.std.specs.Float.{binary64, nan};
 ghost use Rattle.std.specs.Float.Ieee.{add};
 ghost use Rattle.net.specs.Net as Reader;
-ghost use Rattle.net.specs.declared.Net.{Net as NetRecord};
 ghost use Rattle.net.specs.Readable as Record;
 ghost use Rattle.net.specs.Record.{net_of};
-ghost use Rattle.net.specs.Sound as Sound;
-ghost use Rattle.root.specs.Root.{root_of};
 ghost use Rattle.sde.specs.Diffusion as Diffusion;
 ghost use Rattle.sde.specs.Arrays as Arrays;
-ghost use Rattle.sde.specs.Slots as Slots;
 
 use crate::propensity;
-use net::LentNet;
-use normals::{Draw, GaussianSampler};
+use crate::run::Run;
+use normals::GaussianSampler;
+use refusals::Refusal;
 
-// The sampler after some draws, and whether one of them was refused.
+// The value and the drift of each place, and the sampler.
 #[derive(Clone, Copy)]
-pub struct Pushed {
+pub struct State {
+    pub x: [f64; 32],
+    pub drift: [f64; 32],
     pub sampler: GaussianSampler,
-    pub stopped: bool,
 }
 
-// The noise and the drift of transition j, at the places that it changes.
-fn spread(
-    changes: &[f64; 2048],
-    skips: &[usize; 2112],
-    places: usize,
-    j: usize,
-    a: f64,
-    dt: f64,
-    noise: f64,
-    x: &mut [f64; 32],
-    drift: &mut [f64; 32],
-)
-    requires { (j < 64) × (places ≤ 32) × Arrays.Lengths x.old drift.old × Slots.SkipsOf places j changes.now skips.now }
-    ensures { Arrays.Mapped places (λ p. Diffusion.noise_by (get_or changes.now (32 * j + p) nan) noise) x.old x.new
-        × Arrays.Mapped places (λ p. Diffusion.drift_by (get_or changes.now (32 * j + p) nan) a dt) drift.old drift.new }
+// The noise and the drift of transition j of propensity a, at the places that it changes.
+fn spread(run: &Run, j: usize, a: f64, noise: f64, state: &mut State)
+    requires { j < run.now.net.transitions }
+    ensures { let places = run.now.net.places in Arrays.Mapped places (λ p. Diffusion.noise_by (get_or run.now.changes.now (32 * j + p) nan) noise) state.old.x state.new.x
+        × Arrays.Mapped places (λ p. Diffusion.drift_by (get_or run.now.changes.now (32 * j + p) nan) a run.now.dt) state.old.drift state.new.drift
+        × (state.new.sampler ≡ state.old.sampler) }
 {
     let from = 32 * j;
     let first = 33 * j;
-    let mut p = skips[first];
-    while p < places {
-        let q = p + 1;
-        let d = changes[from + p];
-        let v = x[p] + d * noise;
-        x[p] = v;
-        let w = drift[p] + d * a * dt;
-        drift[p] = w;
-        p = skips[first + q];
+    let mut p = run.skips[first];
+    while p < run.net.places {
+        let d = run.changes[from + p];
+        state.x[p] += d * noise;
+        state.drift[p] += d * a * run.dt;
+        p = run.skips[first + p + 1];
     }
+}
+
+// Transition j: its noise and its drift, with one draw; nothing, and no draw, where its propensity is 0.
+fn push(run: &Run, j: usize, state: &mut State) -> Result<(), Refusal>
+    requires { j < run.now.net.transitions }
+    ensures { let net = net_of run.now.net in Arrays.answered result (Arrays.going_of net.places state.new)
+        ≡ Diffusion.pushed run.now.dt (Record.transition net j) (Arrays.going_of net.places state.old) }
+{
+    let a = propensity::propensity(run, &state.x, j);
+    if a != 0.0 {
+        let z = normals::next_normal(&mut state.sampler)?;
+        let noise = root::sqrt(a) * run.root * z;
+        spread(run, j, a, noise, state);
+    }
+    Ok(())
+}
+
+// All transitions, in their order.
+fn push_all(run: &Run, state: &mut State) -> Result<(), Refusal>
+    ensures { let net = net_of run.now.net in Arrays.answered result (Arrays.going_of net.places state.new)
+        ≡ Diffusion.pushed_all run.now.dt (Record.transitions_from net 0 net.transitions) (Arrays.going_of net.places state.old) }
+{
+    for j in 0..run.net.transitions {
+        push(run, j, state)?;
+    }
+    Ok(())
 }
 
 // Sets the drift to +0.
 fn clear(places: usize, drift: &mut [f64; 32])
-    requires { (places ≤ 32) × (length drift.old ≡ 32) }
+    requires { places ≤ 32 }
     ensures { Arrays.Mapped places (λ p v. Reader.zero64) drift.old drift.new }
 {
-    let mut p: usize = 0;
-    while p < places {
+    for p in 0..places {
         drift[p] = 0.0;
-        p += 1;
     }
 }
 
-// v with its drift. "Negative states set to 0."
-fn after_drift(v: f64, d: f64) -> f64
-    ensures { result ≡ Diffusion.above_zero (add binary64 v d) }
+// "Negative states set to 0."
+fn above_zero(v: f64) -> f64
+    ensures { result ≡ Diffusion.above_zero v }
 {
-    let s = v + d;
-    if s < 0.0 {
-        return 0.0;
-    }
-    s
+    if v < 0.0 { 0.0 } else { v }
 }
 
 // Adds the drift to the state.
 fn add_drift(places: usize, drift: &[f64; 32], x: &mut [f64; 32])
-    requires { (places ≤ 32) × (length x.old ≡ 32) }
+    requires { places ≤ 32 }
     ensures { Arrays.Mapped places (λ p v. Diffusion.above_zero (add binary64 v (get_or drift.now p nan))) x.old x.new }
 {
-    let mut p: usize = 0;
-    while p < places {
-        let v = after_drift(x[p], drift[p]);
-        x[p] = v;
-        p += 1;
-    }
-}
-
-// All transitions, in their order: the noise and the drift of each, with one draw; nothing, and no draw, where its propensity is 0.
-fn push_all<'a>(
-    net: &LentNet,
-    changes: &'a [f64; 2048],
-    skips: &'a [usize; 2112],
-    ends: &'a [usize; 64],
-    dt: f64,
-    root: f64,
-    x: &mut [f64; 32],
-    drift: &mut [f64; 32],
-    sampler: GaussianSampler,
-) -> Pushed
-    requires { let net = net_of net.now in Sound.Sound net × Slots.Prepared net changes.now skips.now ends.now
-        × (root ≡ root_of dt) × Arrays.Lengths x.old drift.old }
-    ensures { let net = net_of net.now in (Arrays.unless result.stopped (Arrays.going_of net.places x.new drift.new result.sampler)
-        ≡ Diffusion.pushed_all dt (Record.transitions_from net 0 net.transitions) (Arrays.going_of net.places x.old drift.old sampler))
-        × Arrays.Lengths x.new drift.new }
-{
-    let mut s = sampler;
-    let mut j: usize = 0;
-    while j < net.transitions {
-        let next = j + 1;
-        let a = propensity::propensity(net, ends, x, j);
-        if a == 0.0 {} else {
-            let drawn = s.normal();
-            let draw = drawn.draw;
-            s = drawn.sampler;
-            match draw {
-                Draw::Value(z) => {
-                    let noise = root::sqrt(a) * root * z;
-                    spread(changes, skips, net.places, j, a, dt, noise, x, drift);
-                }
-                Draw::Refused => {
-                    return Pushed {
-                        sampler: s,
-                        stopped: true,
-                    };
-                }
-            }
-        }
-        j = next;
-    }
-    Pushed {
-        sampler: s,
-        stopped: false,
+    for p in 0..places {
+        x[p] = above_zero(x[p] + drift[p]);
     }
 }
 
 // One substep.
-pub fn substep<'a>(
-    net: &LentNet,
-    changes: &'a [f64; 2048],
-    skips: &'a [usize; 2112],
-    ends: &'a [usize; 64],
-    dt: f64,
-    root: f64,
-    x: &mut [f64; 32],
-    drift: &mut [f64; 32],
-    sampler: GaussianSampler,
-) -> Pushed
-    requires { let net = net_of net.now in Sound.Sound net × Slots.Prepared net changes.now skips.now ends.now
-        × (root ≡ root_of dt) × Arrays.Lengths x.old drift.old }
-    ensures { let net = net_of net.now in (Arrays.unless result.stopped (Arrays.state_of net.places x.new result.sampler)
-        ≡ Diffusion.substep (Record.readable net) dt (Arrays.state_of net.places x.old sampler))
-        × Arrays.Lengths x.new drift.new }
+fn substep(run: &Run, state: &mut State) -> Result<(), Refusal>
+    ensures { let net = net_of run.now.net in Arrays.answered result (Arrays.state_of net.places state.new)
+        ≡ Diffusion.substep (Record.readable net) run.now.dt (Arrays.state_of net.places state.old) }
 {
-    clear(net.places, drift);
-    let p = push_all(net, changes, skips, ends, dt, root, x, drift, sampler);
-    if p.stopped {
-        return p;
-    }
-    add_drift(net.places, drift, x);
-    p
+    clear(run.net.places, &mut state.drift);
+    push_all(run, state)?;
+    add_drift(run.net.places, &state.drift, &mut state.x);
+    Ok(())
 }
 
 const SUBSTEPS: u64 = 20;
 
 // An interval: 20 substeps, where dt is above 0.
-pub fn over_interval<'a>(
-    net: &LentNet,
-    changes: &'a [f64; 2048],
-    skips: &'a [usize; 2112],
-    ends: &'a [usize; 64],
-    dt: f64,
-    root: f64,
-    x: &mut [f64; 32],
-    drift: &mut [f64; 32],
-    sampler: GaussianSampler,
-) -> Pushed
-    requires { let net = net_of net.now in Sound.Sound net × Slots.Prepared net changes.now skips.now ends.now
-        × (root ≡ root_of dt) × Arrays.Lengths x.old drift.old }
-    ensures { let net = net_of net.now in (Arrays.unless result.stopped (Arrays.state_of net.places x.new result.sampler)
-        ≡ Diffusion.over_interval (Record.readable net) dt (Arrays.state_of net.places x.old sampler))
-        × Arrays.Lengths x.new drift.new }
+pub fn over_interval(run: &Run, state: &mut State) -> Result<(), Refusal>
+    ensures { let net = net_of run.now.net in Arrays.answered result (Arrays.state_of net.places state.new)
+        ≡ Diffusion.over_interval (Record.readable net) run.now.dt (Arrays.state_of net.places state.old) }
 {
-    let mut s = sampler;
-    if 0.0 < dt {
-        let mut i: u64 = 0;
-        while i < SUBSTEPS {
-            let next = i + 1;
-            let p = substep(net, changes, skips, ends, dt, root, x, drift, s);
-            if p.stopped {
-                return p;
-            }
-            s = p.sampler;
-            i = next;
+    if 0.0 < run.dt {
+        for _i in 0..SUBSTEPS {
+            substep(run, state)?;
         }
-        return Pushed {
-            sampler: s,
-            stopped: false,
-        };
     }
-    Pushed {
-        sampler: s,
-        stopped: false,
-    }
+    Ok(())
 }

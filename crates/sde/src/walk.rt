@@ -2,107 +2,66 @@
 ghost use Rattle.std.specs.Prelude.{◌≡◌, ◌∷◌, [], ℕ, ◌-◌, ◌*◌, ◌+◌, ◌^◌, ◌<◌, ◌≤◌, length, get_or};
 ghost use Rattle.std.specs.Float.{nan};
 ghost use Rattle.std.proofs.Math.ListN as ListN;
-ghost use Rattle.net.specs.declared.Net.{Net as NetRecord};
 ghost use Rattle.net.specs.Readable as Record;
 ghost use Rattle.net.specs.Record.{net_of};
-ghost use Rattle.net.specs.Sound as Sound;
-ghost use Rattle.root.specs.Root.{root_of};
 ghost use Rattle.rules.specs.Propensity.{float};
 ghost use Rattle.sde.specs.Diffusion as Diffusion;
 ghost use Rattle.sde.specs.Arrays as Arrays;
-ghost use Rattle.sde.specs.Slots as Slots;
 
+use crate::run::Run;
 use crate::substep;
-use net::LentNet;
+use crate::substep::State;
 use normals::GaussianSampler;
+use refusals::Refusal;
 
 // Writes the state into the cells of instant i of n.
 fn show(places: usize, n: usize, i: usize, x: &[f64; 32], table: &mut [f64])
     requires { (places ≤ 32) × (i < n) × (n ≤ 1024) × (places * n ≤ length table.old) }
     ensures { Arrays.Column n i places x.now table.old table.new }
 {
-    let mut p: usize = 0;
-    while p < places {
+    for p in 0..places {
         table[p * n + i] = x[p];
-        p += 1;
     }
 }
 
 // The initial counts, as floats.
 fn first_state(places: usize, initial: &[u64; 32], x: &mut [f64; 32])
-    requires { (places ≤ 32) × ((p : ℕ) → p < places → get_or initial.now p 0 ≤ 2 ^ 53) × (length x.old ≡ 32) }
+    requires { (places ≤ 32) × ((p : ℕ) → p < places → get_or initial.now p 0 ≤ 2 ^ 53) }
     ensures { Arrays.Mapped places (λ p v. float (get_or initial.now p 0)) x.old x.new }
 {
-    let mut p: usize = 0;
-    while p < places {
-        let v = initial[p] as i64 as f64;
-        x[p] = v;
-        p += 1;
+    for p in 0..places {
+        x[p] = initial[p] as i64 as f64;
     }
 }
 
-// The instants from number 1 on, an interval after the other. True where a draw was refused; then the answer's cells are of no use.
-fn walk_on<'a>(
-    net: &LentNet,
-    changes: &'a [f64; 2048],
-    skips: &'a [usize; 2112],
-    ends: &'a [usize; 64],
-    n: usize,
-    dt: f64,
-    root: f64,
-    x: &mut [f64; 32],
-    drift: &mut [f64; 32],
-    sampler: GaussianSampler,
-    table: &mut [f64],
-) -> bool
-    requires { let net = net_of net.now in Sound.Sound net × Slots.Prepared net changes.now skips.now ends.now
-        × (root ≡ root_of dt) × Arrays.Lengths x.old drift.old
-        × (1 ≤ n) × (n ≤ 1024) × (net.places * n ≤ length table.old)
-        × ((p : ℕ) → p < net.places → get_or table.old (p * n + 0) nan ≡ get_or x.old p nan) }
-    ensures { let net = net_of net.now in (Arrays.unless result (ListN.take (net.places * n) table.new)
-        ≡ Diffusion.cells_of net.places (Arrays.preceded (ListN.take net.places x.old ∷ []) (Diffusion.further (n - 1) (Diffusion.over_interval (Record.readable net) dt) (Arrays.state_of net.places x.old sampler))))
-        × Arrays.Beyond (net.places * n) table.old table.new
-        × Arrays.Lengths x.new drift.new }
+// The instants from number 1 on, an interval after the other. Where a draw was refused the answer's cells are of no use.
+fn walk_on(run: &Run, state: &mut State, table: &mut [f64]) -> Result<(), Refusal>
+    requires { let places = run.now.net.places in (places * run.now.n ≤ length table.old)
+        × ((p : ℕ) → p < places → get_or table.old (p * run.now.n + 0) nan ≡ get_or state.old.x p nan) }
+    ensures { let net = net_of run.now.net in (Arrays.answered result (ListN.take (net.places * run.now.n) table.new)
+        ≡ Diffusion.cells_of net.places (Arrays.preceded (ListN.take net.places state.old.x ∷ []) (Diffusion.further (run.now.n - 1) (Diffusion.over_interval (Record.readable net) run.now.dt) (Arrays.state_of net.places state.old))))
+        × Arrays.Beyond (net.places * run.now.n) table.old table.new }
 {
-    let mut s = sampler;
-    let mut i: usize = 1;
-    while i < n {
-        let next = i + 1;
-        let p = substep::over_interval(net, changes, skips, ends, dt, root, x, drift, s);
-        if p.stopped {
-            return true;
-        }
-        s = p.sampler;
-        show(net.places, n, i, x, table);
-        i = next;
+    for i in 1..run.n {
+        substep::over_interval(run, state)?;
+        show(run.net.places, run.n, i, &state.x, table);
     }
-    false
+    Ok(())
 }
 
-// The path of a seed over n instants. True where a draw was refused.
-pub fn walk<'a>(
-    net: &LentNet,
-    changes: &'a [f64; 2048],
-    skips: &'a [usize; 2112],
-    ends: &'a [usize; 64],
-    n: usize,
-    dt: f64,
-    root: f64,
-    seed: u64,
-    x: &mut [f64; 32],
-    drift: &mut [f64; 32],
-    table: &mut [f64],
-) -> bool
-    requires { let net = net_of net.now in Sound.Sound net × Slots.Prepared net changes.now skips.now ends.now
-        × (root ≡ root_of dt) × Arrays.Lengths x.old drift.old
-        × (1 ≤ n) × (n ≤ 1024) × (net.places * n ≤ length table.old) }
-    ensures { let net = net_of net.now in (Arrays.unless result (ListN.take (net.places * n) table.new)
-        ≡ Diffusion.cells_of net.places (Diffusion.walked (Record.readable net) dt n seed))
-        × Arrays.Beyond (net.places * n) table.old table.new
-        × Arrays.Lengths x.new drift.new }
+// The path of a seed.
+pub fn walk(run: &Run, seed: u64, table: &mut [f64]) -> Result<(), Refusal>
+    requires { run.now.net.places * run.now.n ≤ length table.old }
+    ensures { let net = net_of run.now.net in (Arrays.answered result (ListN.take (net.places * run.now.n) table.new)
+        ≡ Diffusion.cells_of net.places (Diffusion.walked (Record.readable net) run.now.dt run.now.n seed))
+        × Arrays.Beyond (net.places * run.now.n) table.old table.new }
 {
-    first_state(net.places, net.initial, x);
-    show(net.places, n, 0, x, table);
-    let s = GaussianSampler::new(seed);
-    walk_on(net, changes, skips, ends, n, dt, root, x, drift, s, table)
+    let mut state = State {
+        x: [0.0; 32],
+        drift: [0.0; 32],
+        sampler: GaussianSampler::new(seed),
+    };
+    first_state(run.net.places, run.net.initial, &mut state.x);
+    show(run.net.places, run.n, 0, &state.x, table);
+    walk_on(run, &mut state, table)
 }

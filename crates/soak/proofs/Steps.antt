@@ -1,4 +1,4 @@
--- Words written one behind the other: five of them, seven of them, those of one place or one transition more; and where all of them fit, the joined
+-- Words written one behind the other: those of one place or one transition more; and where all of them fit, the joined
 -- bytes. Assumes nothing.
 use Prim.Native.Nat.{ℕ, suc, ◌+◌, ◌-◌, ◌%◌, ◌≤◌, ◌<◌}
 use native.Mathlib.Omega.{arith}
@@ -10,33 +10,23 @@ use Rattle.rng.specs.Xoshiro.{output, step}
 use Rattle.text.specs.Text.{Bytes, bytes}
 use Rattle.text.specs.Numbers.{decimal_text}
 use Rattle.text.specs.Buffer.{written, and_then}
-use Rattle.text.specs.declared.Written.{Written}
+use Rattle.std.specs.Prelude.{Option, Some, None}
 use Rattle.text.proofs.Places.{then_joined, front_fits}
 use Rattle.net_writing.specs.Writing.{together}
 use Rattle.soak.specs.Soak.{start, choice, after}
 use Rattle.soak.specs.Words.{then_all, place_words, places_words, move_words, moves_words, run_words, all_the_words}
 
 abbrev pub Left : Type 0
-Left = Bytes × Written
+Left = Bytes × Option ℕ
 
 pub all_join : (s : Left) (vs ws : List Bytes) → then_all s (vs ++ ws) ≡ then_all (then_all s vs) ws
 all_join s [] ws = refl
 all_join s (v ∷ vs) ws = all_join (and_then s v) vs ws
 
-pub three : (a b c : Bytes) (s s₁ s₂ s₃ : Left) → s₁ ≡ and_then s a → s₂ ≡ and_then s₁ b → s₃ ≡ and_then s₂ c → s₃ ≡ then_all s (a ∷ b ∷ c ∷ [])
-three a b c s s₁ s₂ s₃ e₁ e₂ e₃ = e₃ ∙ ap (λ (x : Left). and_then x c) (e₂ ∙ ap (λ (x : Left). and_then x b) e₁)
-
-pub five : (a b c d e : Bytes) (s s₁ s₂ s₃ s₄ s₅ : Left) → s₁ ≡ and_then s a → s₂ ≡ and_then s₁ b → s₃ ≡ and_then s₂ c → s₄ ≡ and_then s₃ d → s₅ ≡ and_then s₄ e
-    → s₅ ≡ then_all s (a ∷ b ∷ c ∷ d ∷ e ∷ [])
-five a b c d e s s₁ s₂ s₃ s₄ s₅ e₁ e₂ e₃ e₄ e₅ = three c d e s₂ s₃ s₄ s₅ e₃ e₄ e₅ ∙ ap (λ (x : Left). then_all x (c ∷ d ∷ e ∷ [])) (e₂ ∙ ap (λ (x : Left). and_then x b) e₁)
-
-pub seven : (a b c d e f g : Bytes) (s s₁ s₂ s₃ s₄ s₅ s₆ s₇ : Left) → s₁ ≡ and_then s a → s₂ ≡ and_then s₁ b → s₃ ≡ and_then s₂ c → s₄ ≡ and_then s₃ d
-    → s₅ ≡ and_then s₄ e
-    → s₆ ≡ and_then s₅ f
-    → s₇ ≡ and_then s₆ g
-    → s₇ ≡ then_all s (a ∷ b ∷ c ∷ d ∷ e ∷ f ∷ g ∷ [])
-seven a b c d e f g s s₁ s₂ s₃ s₄ s₅ s₆ s₇ e₁ e₂ e₃ e₄ e₅ e₆ e₇ =
-    five c d e f g s₂ s₃ s₄ s₅ s₆ s₇ e₃ e₄ e₅ e₆ e₇ ∙ ap (λ (x : Left). then_all x (c ∷ d ∷ e ∷ f ∷ g ∷ [])) (e₂ ∙ ap (λ (x : Left). and_then x b) e₁)
+-- no word behind a buffer that was too short
+pub short : (out : Bytes) (ws : List Bytes) {r : Option ℕ} → r ≡ None → (out, r) ≡ then_all (out, None) ws
+short out [] e = ap (λ (r : Option ℕ). (out, r)) e
+short out (w ∷ ws) e = short out ws e
 
 -- ---- a turn of a loop
 
@@ -81,23 +71,21 @@ move_turn s t places transitions number g g₁ g₂ g₃ a b r h ea e₁ eb e₂
 
 -- ---- all of it
 
-pub all_words : (seed places transitions : ℕ) (s s₀ s₁ s₂ s₃ s₄ s₅ : Left) (g g₁ : State) → g ≡ start seed → s₀ ≡ s → s₁ ≡ then_all s₀ (places_words 0 places g) → g₁ ≡ after places g
-    → s₂ ≡ then_all s₁ (moves_words places transitions g₁)
-    → s₃ ≡ and_then s₂ (bytes "(run 11 1 ")
-    → s₄ ≡ and_then s₃ (decimal_text seed)
-    → s₅ ≡ and_then s₄ (bytes " 4024000000000000)\n)\n")
-    → s₅ ≡ then_all s (all_the_words seed places transitions)
-all_words seed places transitions s s₀ s₁ s₂ s₃ s₄ s₅ g g₁ eg e₀ e₁ eg₁ e₂ e₃ e₄ e₅ =
-    let ps : List Bytes = places_words 0 places (start seed) in
-    let ms : List Bytes = moves_words places transitions (after places (start seed)) in
-    let one : s₁ ≡ then_all s ps = e₁ ∙ ap (λ (x : State). then_all s₀ (places_words 0 places x)) eg ∙ ap (λ (x : Left). then_all x ps) e₀ in
-    let drawn : g₁ ≡ after places (start seed) = eg₁ ∙ ap (after places) eg in
-    let two : s₂ ≡ then_all (then_all s ps) ms =
-    e₂ ∙ ap (λ (x : State). then_all s₁ (moves_words places transitions x)) drawn ∙ ap (λ (x : Left). then_all x ms) one in
-    three (bytes "(run 11 1 ") (decimal_text seed) (bytes " 4024000000000000)\n)\n") s₂ s₃ s₄ s₅ e₃ e₄ e₅
-    ∙ ap (λ (x : Left). then_all x (run_words seed)) two
-    ∙ sym (all_join (then_all s ps) ms (run_words seed))
-    ∙ sym (all_join s ps (ms ++ run_words seed))
+pub places_all : (seed places transitions : ℕ) (s s₀ t : Left) (g : State) → g ≡ start seed → s₀ ≡ s → t ≡ then_all s₀ (places_words 0 places g)
+    → then_all t (moves_words places transitions (after places (start seed)) ++ run_words seed) ≡ then_all s (all_the_words seed places transitions)
+places_all seed places transitions s s₀ t g eg e₀ e =
+    let ws : List Bytes = moves_words places transitions (after places (start seed)) ++ run_words seed in
+    ap (λ (x : Left). then_all x ws) e
+    ∙ ap (λ (x : State). then_all (then_all s₀ (places_words 0 places x)) ws) eg
+    ∙ ap (λ (x : Left). then_all (then_all x (places_words 0 places (start seed))) ws) e₀
+    ∙ sym (all_join s (places_words 0 places (start seed)) ws)
+
+pub moves_all : (seed places transitions : ℕ) (t u : Left) (g g₁ : State) → g ≡ start seed → g₁ ≡ after places g → u ≡ then_all t (moves_words places transitions g₁)
+    → then_all u (run_words seed) ≡ then_all t (moves_words places transitions (after places (start seed)) ++ run_words seed)
+moves_all seed places transitions t u g g₁ eg e₁ e =
+    ap (λ (x : Left). then_all x (run_words seed)) e
+    ∙ ap (λ (x : State). then_all (then_all t (moves_words places transitions x)) (run_words seed)) (e₁ ∙ ap (after places) eg)
+    ∙ sym (all_join t (moves_words places transitions (after places (start seed))) (run_words seed))
 
 pub joined : (out : Bytes) (v : Bytes) (ws : List Bytes) → 0 + length (v ++ together ws) ≤ length out → then_all (written out 0 v) ws ≡ written out 0 (v ++ together ws)
 joined out v [] h = ap (written out 0) (sym (append-nil v))

@@ -1,8 +1,10 @@
 -- The published soak load: its net, its text, and what a call leaves. Document 02, order 14.
-use Rattle.std.specs.Prelude.{ℕ, zero, suc, ◌%◌, Bool, true, ◌&&◌, List, [], ◌∷◌, ◌++◌, eqb, leb, Float}
+use Rattle.std.specs.Prelude.{ℕ, zero, suc, ◌%◌, Bool, true, ◌&&◌, List, [], ◌∷◌, ◌++◌, eqb, leb, Float, Option, Some, None, Result, Ok, Err}
 use Rattle.std.specs.Float.{binary64}
 use Rattle.std.specs.Float.Ieee.{of_bits}
-use Rattle.refusals.specs as Refusal
+use Rattle.refusals.specs as Reason
+use Rattle.refusals.specs.Number.{number_of}
+use Rattle.refusals.specs.declared.Refusal.{Refusal}
 use Rattle.net.specs.Net.{Place, Transition, Net, pick, numbered, zero64}
 use Rattle.rng.specs.State.{State}
 use Rattle.rng.specs.Splitmix.{seeded}
@@ -10,12 +12,8 @@ use Rattle.rng.specs.Xoshiro.{output, step}
 use Rattle.text.specs.Text.{Bytes, bytes}
 use Rattle.text.specs.Numbers.{decimal_text}
 use Rattle.text.specs.Buffer.{written}
-use Rattle.text.specs.declared.Written.{Written}
-use Rattle.text.specs.declared.Written.TheVariants.{Next, Short}
 use Rattle.net_text.specs.Reading.{RunLine}
 use Rattle.net_writing.specs.Writing.{net_text}
-use Rattle.soak.specs.declared.Answer.{Answer}
-use Rattle.soak.specs.declared.Answer.TheVariants.{Text, Refused}
 
 -- ---- the choices
 
@@ -92,15 +90,20 @@ abbrev pub sized : ℕ → ℕ → Bool
 sized places transitions = leb 1 places && leb places 32 && leb 1 transitions && leb transitions 16
 
 -- "a short buffer 19, …; otherwise the text's length is returned"
-abbrev pub answer_of : Written → Answer
-answer_of (Next n) = Text n
-answer_of Short = Refused Refusal.short_buffer
+abbrev pub answer_of : Option ℕ → Result ℕ ℕ
+answer_of (Some n) = Ok n
+answer_of None = Err Reason.short_buffer
 
-abbrev pub answered : Bytes × Written → Bytes × Answer
+-- the program's answer, its refusal by its number
+abbrev pub told : Result ℕ Refusal → Result ℕ ℕ
+told (Ok n) = Ok n
+told (Err e) = Err (number_of e)
+
+abbrev pub answered : Bytes × Option ℕ → Bytes × Result ℕ ℕ
 answered s = (s.0, answer_of s.1)
 
 -- The buffer that a call leaves, and its answer: "A wrong P or T is refusal 2 and a short buffer 19, in that order, nothing written". The text stands
 -- at the buffer's front, and "the bytes after it stay".
-unfoldable pub called : Bytes → ℕ → ℕ → ℕ → Bytes × Answer
+unfoldable pub called : Bytes → ℕ → ℕ → ℕ → Bytes × Result ℕ ℕ
 called out seed places transitions =
-    pick (sized places transitions) (answered (written out 0 (soak_text seed places transitions))) (out, Refused Refusal.bad_size)
+    pick (sized places transitions) (answered (written out 0 (soak_text seed places transitions))) (out, Err Reason.bad_size)

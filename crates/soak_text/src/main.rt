@@ -4,60 +4,32 @@
 
 ghost use Rattle.std.specs.Prelude.{◌≡◌, length};
 
-use soak::Answer;
-use std::env::{Env, FillError};
+use net_io::arguments::is_given;
+use net_io::{say, write_front};
+use refusals::Refusal;
+use std::env::Env;
 
-// A decimal of at most 64 bits, or no such number.
-#[derive(Clone, Copy)]
-enum Number {
-    Is(u64),
-    Wrong,
+// The number with one digit more, if that is a digit and the number fits.
+fn with_digit(v: u64, b: u8) -> Option<u64> {
+    if !b.is_ascii_digit() {
+        return None;
+    }
+    v.checked_mul(10)?.checked_add(u64::from(b - b'0'))
 }
 
-// The number with one digit more.
-fn with_digit(v: u64, b: u8) -> Number {
-    if b < 48 {
-        return Number::Wrong;
-    }
-    if 57 < b {
-        return Number::Wrong;
-    }
-    let d = (b - 48) as u64;
-    if 1_844_674_407_370_955_161 < v {
-        return Number::Wrong;
-    }
-    if v * 10 > 18_446_744_073_709_551_615 - d {
-        return Number::Wrong;
-    }
-    Number::Is(v * 10 + d)
-}
-
-fn number_of(digits: &[u8]) -> Number {
-    if digits.len() == 0 {
-        return Number::Wrong;
+// A decimal of at most 64 bits.
+fn number_of(digits: &[u8]) -> Option<u64> {
+    if digits.is_empty() {
+        return None;
     }
     let mut v = 0;
-    let mut i = 0;
-    while i < digits.len() {
-        let Number::Is(more) = with_digit(v, digits[i]) else {
-            return Number::Wrong;
-        };
-        v = more;
-        i += 1;
+    for b in digits {
+        v = with_digit(v, *b)?;
     }
-    Number::Is(v)
+    Some(v)
 }
 
-// Is there such an argument? It may be longer than the room.
-fn is_given(rt: &HostRuntime, i: usize) -> bool {
-    let mut room = [0u8; 1];
-    match rt.arg(i, &mut room) {
-        Err(FillError::NotPresent) => false,
-        _ => true,
-    }
-}
-
-fn argument(rt: &HostRuntime, i: usize) -> Number {
+fn argument(rt: &HostRuntime, i: usize) -> Option<u64> {
     let mut room = [0u8; 32];
     let n = rt.arg(i, &mut room).unwrap_or(0);
     number_of(&room[..n])
@@ -70,10 +42,6 @@ fn text_room() -> [u8; soak::LONGEST]
     [0; soak::LONGEST]
 }
 
-fn say(rt: &HostRuntime, words: &[u8]) {
-    let _ = rt.stderr().write_all(words);
-}
-
 fn say_usage(rt: &HostRuntime) {
     say(
         rt,
@@ -81,17 +49,15 @@ fn say_usage(rt: &HostRuntime) {
     );
 }
 
-fn write_front(rt: &HostRuntime, out: &[u8], n: usize) {
-    if n <= out.len() {
-        if rt.write_all(&out[..n]).is_err() {
-            say(rt, b"soak_text: standard output cannot be written\n");
-        }
+fn show(rt: &HostRuntime, out: &[u8], n: usize) {
+    if !write_front(rt, out, n) {
+        say(rt, b"soak_text: standard output cannot be written\n");
     }
 }
 
-fn refuse(rt: &HostRuntime, number: u64) {
+fn refuse(rt: &HostRuntime, refusal: Refusal) {
     say(rt, b"soak_text: refused by ");
-    let _ = rt.eprint(number);
+    let _ = rt.eprint(refusal.number());
     say(rt, b"\n");
     say_usage(rt);
 }
@@ -99,8 +65,8 @@ fn refuse(rt: &HostRuntime, number: u64) {
 fn print(rt: &HostRuntime, seed: u64, places: u64, transitions: u64) {
     let mut out = text_room();
     match soak::soak(seed, places, transitions, &mut out) {
-        Answer::Text(n) => write_front(rt, &out, n),
-        Answer::Refused(c) => refuse(rt, c),
+        Ok(n) => show(rt, &out, n),
+        Err(refusal) => refuse(rt, refusal),
     }
 }
 
@@ -110,17 +76,17 @@ fn main(rt: HostRuntime) {
         say_usage(&rt);
         return;
     }
-    let Number::Is(seed) = argument(&rt, 1) else {
+    let Some(seed) = argument(&rt, 1) else {
         say(&rt, b"soak_text: SEED is not a decimal below 2^64\n");
         say_usage(&rt);
         return;
     };
-    let Number::Is(places) = argument(&rt, 2) else {
+    let Some(places) = argument(&rt, 2) else {
         say(&rt, b"soak_text: PLACES is not a decimal below 2^64\n");
         say_usage(&rt);
         return;
     };
-    let Number::Is(transitions) = argument(&rt, 3) else {
+    let Some(transitions) = argument(&rt, 3) else {
         say(&rt, b"soak_text: TRANSITIONS is not a decimal below 2^64\n");
         say_usage(&rt);
         return;

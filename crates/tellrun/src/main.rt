@@ -8,7 +8,7 @@ ghost use Rattle.std.specs.Prelude.{◌≤◌};
 
 use averages::request;
 use net::Net;
-use net_io::{Input, read_input, say, text_room, write, write_refused};
+use net_io::{read_input, say, text_room, write, write_refused};
 use net_text::{Judged, RunLine};
 use rng::Xoshiro256;
 use ssa::{PathAnswer, PathEnd};
@@ -101,7 +101,7 @@ fn tell_front(rt: &HostRuntime, text: &[u8], n: usize) {
 fn main(rt: HostRuntime) {
     let mut text = text_room();
     match read_input(&rt, &mut text) {
-        Input::Read(n) => tell_front(&rt, &text, n),
-        Input::Failed => say(&rt, b"tellrun: standard input cannot be read\n"),
+        Ok(n) => tell_front(&rt, &text, n),
+        Err(_) => say(&rt, b"tellrun: standard input cannot be read\n"),
     }
 }

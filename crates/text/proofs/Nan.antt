@@ -1,19 +1,11 @@
--- A float that differs from itself is the NaN, and one that does not is a number.
-use mathlib.Core.Path.{◌≡◌, refl, sym, ap, subst, ◌∙◌}
-use mathlib.Core.Bool.{true, false, not}
+-- The pattern that stands for every NaN is the definition's.
+use mathlib.Core.Path.{◌≡◌, refl, subst}
+use mathlib.Core.Bool.{true}
 use lib.Dec.{T}
-use lib.Ieee.{Float, nan, inf, fin, ne, eq, is_nan, binary64, to_bits}
-use lib.Ieee.Compare.{differs_from_itself}
+use lib.Ieee.{Float, nan, inf, fin, is_nan, binary64, to_bits}
 
-pub number : (x : Float) → ne x x ≡ false → T (not (is_nan x))
-unfolding ne eq is_nan
-number nan e = absurd (subst T e tt)
-number (inf s) e = tt
-number (fin s m k) e = tt
-
-nan_bits : 0x7ff8_0000_0000_0000 ≡ to_bits binary64 nan
-unfolding to_bits
-nan_bits = refl
-
-pub no_number : (x : Float) → ne x x ≡ true → 0x7ff8_0000_0000_0000 ≡ to_bits binary64 x
-no_number x e = nan_bits ∙ ap (to_bits binary64) (sym (differs_from_itself x (subst T (sym e) tt)))
+pub nan_bits : (x : Float) → true ≡ is_nan x → 0x7ff8_0000_0000_0000 ≡ to_bits binary64 x
+unfolding to_bits is_nan
+nan_bits nan e = refl
+nan_bits (inf s) e = absurd (subst T e tt)
+nan_bits (fin s m k) e = absurd (subst T e tt)

@@ -2,80 +2,23 @@
 -- the list off. Places within 256 of each other have slots of their own (apart).
 use Prim.Native.Nat.{ℕ, zero, suc, ◌+◌, ◌%◌, ◌≤◌, ◌<◌}
 use mathlib.Core.Path.{◌≡◌, refl, sym, ap, ap₂, ◌∙◌}
-use mathlib.Core.Bool.{Bool, true, false, and-false}
+use mathlib.Core.Bool.{true, false, and-false}
 use mathlib.Core.Logic.{⊎_elim}
 use mathlib.Core.List.{List, [], ◌∷◌}
 use native.Mathlib.Nat.{eq-or-lt_of_le}
 use native.Mathlib.Omega.{arith}
 use lib.ListN.{length, get_or}
-use lib.Ieee.{Float, nan, lt}
+use lib.Ieee.{Float, lt}
 use Rattle.rules.specs.Timers.{Timer, insert, first}
 use Rattle.timers.specs.InOrder.{insert_last, all_later}
 use Rattle.timers.specs.Turning.{idle, from}
-use Rattle.timers.specs.Slots.{Stored, MovedUp, EachLater}
+use Rattle.timers.specs.Slots.{Stored, MovedUp}
 
 -- ---- places
 
 -- two places of one list have two slots
 pub apart : (s a b : ℕ) → s ≤ a → a < b → b < s + 256 → a % 256 ≡ b % 256 → ⊥
 apart s a b h l u e = omega arith
-
--- ---- moving
-
-pub up_none : (s e : ℕ) (f : ℕ → Timer) → MovedUp s e e f f
-up_none s e f = record { below = λ k h l. refl; above = λ k h l. absurd (no h l); beyond = λ k h l. refl }
-  where
-    no : {k : ℕ} → e ≤ k → k < e → ⊥
-    no h l = omega arith
-
--- the timer of place j goes to place k, the next one, where all from k on have moved already
-pub up_one : (s j k e : ℕ) {a b : ℕ} {x : Timer} (f g g' : ℕ → Timer) → s ≤ j → k ≡ suc j → k ≤ e → e < s + 256 → MovedUp s k e f g
-    → a ≡ j % 256 → x ≡ g a → b ≡ k % 256 → Stored b x g g' → MovedUp s j e f g'
-up_one s j k e {a} {b} {x} f g g' low next h w m qa qx qb st' =
-    record {
-      below = λ i l u. st.rest (i % 256) (λ q. apart s i k l (omega arith) (omega arith) q) ∙ m.below i l (omega arith);
-      above = λ i l u. ⊎_elim (λ q. now i q) (λ q. moved i q u) (eq-or-lt_of_le l);
-      beyond = λ i l u. st.rest (i % 256) (λ q. apart s k i (omega arith) (omega arith) u (sym q)) ∙ m.beyond i l u;
-    }
-  where
-    st : Stored (k % 256) (g (j % 256)) g g'
-    st = rw qb at (rw (qx ∙ ap g qa) at st')
-
-    moved : (i : ℕ) → j < i → i < e → g' (suc i % 256) ≡ f (i % 256)
-    moved i l u = st.rest (suc i % 256) (λ q. apart s k (suc i) (omega arith) (omega arith) (omega arith) (sym q)) ∙ m.above i (omega arith) u
-
-    now : (i : ℕ) → j ≡ i → g' (suc i % 256) ≡ f (i % 256)
-    now i q =
-        let at_k : suc i ≡ k = omega arith in
-        ap (λ (p : ℕ). g' (p % 256)) at_k ∙ st.here ∙ m.below j low (omega arith) ∙ ap (λ (p : ℕ). f (p % 256)) q
-
--- ---- the place of a new timer
-
-module _ (b : Bool) (at : Float) (ats : List Float) where
-  pub each_none : (p : ℕ) → EachLater b at p p ats
-  each_none p = record { each = λ k h l. absurd (no h l) }
-    where
-      no : {k : ℕ} → p ≤ k → k < p → ⊥
-      no h l = omega arith
-
-  -- one place more at the end
-  pub each_more : (p e e' : ℕ) → e' ≡ suc e → EachLater b at p e ats → lt at (get_or ats (e % 256) nan) ≡ b → EachLater b at p e' ats
-  each_more p e e' next m t = record { each = λ k h l. ⊎_elim (λ q. rw q t) (λ u. m.each k h u) (eq-or-lt_of_le {n = k} {m = e} (omega arith)) }
-
-  -- one place more at the front
-  pub each_less : (p p' e : ℕ) → p ≡ suc p' → EachLater b at p e ats → lt at (get_or ats (p' % 256) nan) ≡ b → EachLater b at p' e ats
-  each_less p p' e next m t = record { each = λ k h l. ⊎_elim (λ q. ap (λ (i : ℕ). lt at (get_or ats (i % 256) nan)) (sym q) ∙ t) (λ u. m.each k (omega arith) l) (eq-or-lt_of_le h) }
-
--- the one place just before p, if there is one
-pub just_before : (at : Float) (s p q : ℕ) (ats : List Float) → p ≡ suc q → lt at (get_or ats (q % 256) nan) ≡ false
-    → (k : ℕ) → s ≤ k → suc k ≡ p → lt at (get_or ats (k % 256) nan) ≡ false
-just_before at s p q ats e t k h l = let same : k ≡ q = omega arith in rw same t
-
-pub none_before : (at : Float) (s p : ℕ) (ats : List Float) → p ≡ s → (k : ℕ) → s ≤ k → suc k ≡ p → lt at (get_or ats (k % 256) nan) ≡ false
-none_before at s p ats e k h l = absurd (no h l e)
-  where
-    no : s ≤ k → suc k ≡ p → p ≡ s → ⊥
-    no a b c = omega arith
 
 -- ---- the list
 

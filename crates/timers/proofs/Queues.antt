@@ -1,21 +1,18 @@
 -- A queue, filled from a ring place by place, and slots filled from a queue.
 use Prim.Native.Nat.{ℕ, zero, suc, ◌+◌, ◌-◌, ◌%◌, ◌≤◌, ◌<◌, min}
-use mathlib.Core.Path.{◌≡◌, refl, sym, ap, ap₂, ◌∙◌}
+use mathlib.Core.Path.{◌≡◌, refl, ap, ap₂, ◌∙◌}
 use mathlib.Core.Bool.{Bool, true, false, ◌&&◌}
-use mathlib.Core.Logic.{⊎_elim}
 use mathlib.Core.List.{List, ◌∷◌}
 use native.Mathlib.Omega.{arith}
-use native.Mathlib.Nat.{mod-eq_of_lt, eq-or-lt_of_le}
+use native.Mathlib.Nat.{mod-eq_of_lt}
 use lib.Dec.{eqb}
-use lib.ListN.{length, get_or, set, length-set, replicate, get_or-replicate}
-use lib.Seq.{get_or-set_same, get_or-set_other}
+use lib.ListN.{length, get_or, replicate, get_or-replicate}
 use lib.Ieee.{Float, nan, inf, le}
 use Rattle.timers.specs.declared.queue.Queue.{Queue}
 use Rattle.net.specs.Net.{pick, zero64}
 use Rattle.rules.specs.Timers.{Timer}
 use Rattle.timers.specs.InOrder.{rises_from, in_order}
 use Rattle.timers.specs.Turning.{from}
-use Rattle.timers.specs.Slots.{Stored}
 use Rattle.timers.specs.Queues.{waiting, queue_of, blank}
 use Rattle.timers.proofs.Stores.{timer_is}
 use Rattle.timers.proofs.Places.{from_same}
@@ -47,35 +44,6 @@ queued_none f s =
       beyond = λ k h l. timer_is _ _ _ _ _ _ (get_or-replicate 256 k zero64 nan l) (get_or-replicate 256 k 0 0 l) (get_or-replicate 256 k 0 0 l);
     }
 
-pub queued_more : (f : ℕ → Timer) (s i : ℕ) {a : ℕ} (times : List Float) (whos takens : List ℕ) (x : Timer) → i < 256 → Queued f s i times whos takens
-    → a ≡ (s + i) % 256 → x ≡ f a → Queued f s (i + 1) (set times i x.at) (set whos i x.who) (set takens i x.taken)
-queued_more f s i {a} times whos takens x h q e p =
-    record {
-      times_long = length-set times i x.at ∙ q.times_long;
-      whos_long = length-set whos i x.who ∙ q.whos_long;
-      takens_long = length-set takens i x.taken ∙ q.takens_long;
-      each = λ k l. ⊎_elim (λ r. new k r) (λ u. old k (off u) ∙ q.each k u) (eq-or-lt_of_le {n = k} {m = i} (omega arith));
-      beyond = λ k l u. old k (past l) ∙ q.beyond k (omega arith) u;
-    }
-  where
-    off : {k : ℕ} → k < i → k ≡ i → ⊥
-    off l r = omega arith
-
-    past : {k : ℕ} → i + 1 ≤ k → k ≡ i → ⊥
-    past l r = omega arith
-
-    old : (k : ℕ) → (k ≡ i → ⊥) → row (set times i x.at) (set whos i x.who) (set takens i x.taken) k ≡ row times whos takens k
-    old k n = timer_is _ _ _ _ _ _ (get_or-set_other times i k x.at nan n) (get_or-set_other whos i k x.who 0 n) (get_or-set_other takens i k x.taken 0 n)
-
-    here : row (set times i x.at) (set whos i x.who) (set takens i x.taken) i ≡ x
-    here =
-        timer_is _ _ _ _ _ _ (get_or-set_same times i x.at nan (omega (arith, q.times_long))) (get_or-set_same whos i x.who 0 (omega (arith, q.whos_long)))
-        (get_or-set_same takens i x.taken 0 (omega (arith, q.takens_long)))
-
-    new : (k : ℕ) → k ≡ i → row (set times i x.at) (set whos i x.who) (set takens i x.taken) k ≡ f ((s + k) % 256)
-    new k r =
-        ap (row (set times i x.at) (set whos i x.who) (set takens i x.taken)) r ∙ here ∙ p ∙ ap f e ∙ ap (λ (j : ℕ). f ((s + j) % 256)) (sym r)
-
 -- places from s on, and numbers from 0 on
 turn : (f g : ℕ → Timer) (s i n : ℕ) → i + n ≤ 256 → ((k : ℕ) → i ≤ k → k < i + n → g k ≡ f ((s + k) % 256)) → from g i n ≡ from f (s + i) n
 turn f g s i zero h q = refl
@@ -99,22 +67,6 @@ pub record Loaded (q : Queue) (i : ℕ) (before f : ℕ → Timer) : Type 0 wher
 
 pub loaded_none : (q : Queue) (f : ℕ → Timer) → Loaded q 0 f f
 loaded_none q f = record { each = λ k h. absurd (no_less h); beyond = λ k h. refl }
-
-pub loaded_more : (q : Queue) (i : ℕ) (before f g : ℕ → Timer) → Loaded q i before f → Stored i (waiting q i) f g → Loaded q (i + 1) before g
-loaded_more q i before f g l st =
-    record {
-      each = λ k h. ⊎_elim (λ r. new k r) (λ u. st.rest k (λ r. off u r) ∙ l.each k u) (eq-or-lt_of_le {n = k} {m = i} (omega arith));
-      beyond = λ k h. st.rest k (λ r. past h r) ∙ l.beyond k (omega arith);
-    }
-  where
-    past : {k : ℕ} → i + 1 ≤ k → k ≡ i → ⊥
-    past u r = omega arith
-
-    off : {k : ℕ} → k < i → k ≡ i → ⊥
-    off u r = omega arith
-
-    new : (k : ℕ) → k ≡ i → g k ≡ waiting q k
-    new k r = ap g r ∙ st.here ∙ ap (waiting q) (sym r)
 
 pub loaded_all : (q : Queue) (i n m : ℕ) (before f : ℕ → Timer) → i ≡ n → m ≡ n → n ≡ min q.len 256 → Loaded q i before f → from f 0 m ≡ queue_of q
 loaded_all q i n m before f e d c l =
@@ -146,6 +98,3 @@ module _ (f : ℕ → Timer) (n : ℕ) where
 
     pub rises_stop : n ≤ 256 → i < n → le a (f i).at ≡ false → rises_from a (from f i (n - i)) ≡ false
     rises_stop few h t = left few h ∙ ap (λ (b : Bool). b && rises_from (f i).at (from f (i + 1) (n - (i + 1)))) t
-
-    pub rises_end : n ≤ i → rises_from a (from f i (n - i)) ≡ true
-    rises_end h = let none : n - i ≡ 0 = omega arith in rw none refl

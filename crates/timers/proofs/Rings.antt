@@ -107,16 +107,6 @@ others_none f p (suc n) e = absurd (no e)
 others_from : (f : ℕ → Timer) (p q n m : ℕ) → n ≡ suc m → q % 256 ≡ suc p % 256 → from f q m ≡ others (from f p n)
 others_from f p q n m e h = from_mod f q (suc p) m h ∙ sym (ap (λ (k : ℕ). others (from f p k)) e)
 
-pub removed_none : (r : Ring) → running r ≡ 0 → RemovedFrom r r
-removed_none r e =
-    record {
-      list = λ ats owners. others_none (held ats owners) r.start (running r) e;
-      stays = λ ats owners s. s;
-      slots = λ h. absurd (no_less h e);
-      none = λ z. refl;
-      ordered = refl;
-    }
-
 pub removed_one : (r : Ring) (n s : ℕ) → n ≡ running r → (n ≡ 0 → ⊥) → s ≡ (r.start + 1) % 256
     → RemovedFrom r (record { start = s; len = n - 1; ordered = r.ordered })
 removed_one r n s e h q =

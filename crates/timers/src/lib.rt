@@ -30,7 +30,7 @@ pub struct Ring {
     pub ordered: u64,
 }
 
-// Whether a timer was taken, and the ring after that.
+// Whether a timer was taken, and the ring after that. No `Option`: `InsertedIn` hands on the ring after a refusal too.
 #[derive(Clone, Copy)]
 pub struct Inserted {
     pub taken: bool,
@@ -79,10 +79,7 @@ pub fn insert(
 {
     let n = count(ring);
     if slots::capped(room) <= n {
-        return Inserted {
-            taken: false,
-            ring: ring,
-        };
+        return Inserted { taken: false, ring };
     }
     let start = ring.start;
     let at = x.at;
@@ -91,7 +88,7 @@ pub fn insert(
     Inserted {
         taken: true,
         ring: Ring {
-            start: start,
+            start,
             len: n + 1,
             ordered: still_ordered(ring.ordered, at),
         },

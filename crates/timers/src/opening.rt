@@ -10,13 +10,11 @@ fn front_place(ats: &[f64; 256], start: usize, n: usize, at: f64) -> usize
     requires { n ≤ 256 }
     ensures { Slots.FirstLater at start (start + result) (start + n) ats.now }
 {
-    let mut i: usize = 0;
-    while i < n {
+    for i in 0..n {
         let k = slots::slot(start, i);
         if at < ats[k] {
             return i;
         }
-        i += 1;
     }
     n
 }
@@ -33,15 +31,12 @@ fn open_from_end(
     ensures place { Slots.LastEarlier at start (start + result) (start + n) ats.old }
     ensures moved { Slots.MovedUp start (start + result) (start + n) (Turning.held ats.old owners.old) (Turning.held ats.new owners.new) }
 {
-    let mut i = n;
-    while 0 < i {
-        let j = i - 1;
-        let x = slots::read(ats, owners, slots::slot(start, j));
+    for i in (0..n).rev() {
+        let x = slots::read(ats, owners, slots::slot(start, i));
         if at < x.at {
-            slots::write(ats, owners, slots::slot(start, i), x);
-            i = j;
+            slots::write(ats, owners, slots::slot(start, i + 1), x);
         } else {
-            return i;
+            return i + 1;
         }
     }
     0

@@ -22,12 +22,10 @@ fn order_of(ats: &[f64; 256], n: usize) -> u64
     ensures { (owners : List ℕ) → result ≡ pick (InOrder.in_order (Turning.from (Turning.held ats.now owners) 0 n)) 1 0 }
 {
     let mut last = f64::from_bits(0xFFF0_0000_0000_0000);
-    let mut i: usize = 0;
-    while i < n {
+    for i in 0..n {
         let at = ats[i];
         if last <= at {
             last = at;
-            i += 1;
         } else {
             return 0;
         }
@@ -40,18 +38,13 @@ pub fn hand_in(ats: &mut [f64; 256], owners: &mut [u64; 512], queue: Queue) -> R
     ensures { Queues.HandedIn queue ats.old owners.old ats.new owners.new result }
 {
     let n = slots::capped(queue.len);
-    let mut i: usize = 0;
-    while i < n {
-        let at = queue.ats[i];
-        let who = queue.whos[i];
-        let taken = queue.takens[i];
+    for i in 0..n {
         let x = Timer {
-            at: at,
-            who: who,
-            taken: taken,
+            at: queue.ats[i],
+            who: queue.whos[i],
+            taken: queue.takens[i],
         };
         slots::write(ats, owners, i, x);
-        i += 1;
     }
     Ring {
         start: 0,
@@ -69,18 +62,16 @@ pub fn hand_out<'a>(ats: &'a [f64; 256], owners: &'a [u64; 512], ring: Ring) -> 
     let mut times = [0.0; 256];
     let mut whos = [0usize; 256];
     let mut takens = [0u64; 256];
-    let mut i: usize = 0;
-    while i < n {
+    for i in 0..n {
         let x = slots::read(ats, owners, slots::slot(start, i));
         times[i] = x.at;
         whos[i] = x.who;
         takens[i] = x.taken;
-        i += 1;
     }
     Queue {
         ats: times,
-        whos: whos,
-        takens: takens,
+        whos,
+        takens,
         len: n,
     }
 }

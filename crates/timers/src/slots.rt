@@ -9,10 +9,7 @@ use crate::Timer;
 pub fn capped(n: usize) -> usize
     ensures { result ≡ min n 256 }
 {
-    if n < 256 {
-        return n;
-    }
-    256
+    n.min(256)
 }
 
 // The slot of place i of a list that starts at place start.
@@ -56,11 +53,8 @@ pub fn make_room(ats: &mut [f64; 256], owners: &mut [u64; 512], start: usize, i:
     requires { (i ≤ n) × (n < 256) }
     ensures { Slots.MovedUp start (start + i) (start + n) (Turning.held ats.old owners.old) (Turning.held ats.new owners.new) }
 {
-    let mut k = n;
-    while i < k {
-        let j = k - 1;
-        let x = read(ats, owners, slot(start, j));
-        write(ats, owners, slot(start, k), x);
-        k = j;
+    for k in (i..n).rev() {
+        let x = read(ats, owners, slot(start, k));
+        write(ats, owners, slot(start, k + 1), x);
     }
 }

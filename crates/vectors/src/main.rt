@@ -1,7 +1,6 @@
 // Runs published vectors and cases at edges: words in decimal or hexadecimal as they are published, floats by their bits, any NaN as `nan`.
 #![tactic(auto)]
 
-use combinations::{RealWays, Ways};
 use rng::Xoshiro256;
 use std::io;
 
@@ -153,12 +152,15 @@ fn roots(rt: &impl Print) -> io::Result<()> {
     root_of(rt, 0.0 / 0.0)
 }
 
-fn ways(rt: &impl Print, m: i64, w: i64) -> io::Result<()> {
-    let answer = combinations::combinations(m, w);
-    match answer {
-        Ways::Value(x, _) => float_line(rt, x),
-        Ways::Refused => print(rt, b"refused\n"),
+fn ways_line(rt: &impl Print, ways: Option<f64>) -> io::Result<()> {
+    match ways {
+        Some(x) => float_line(rt, x),
+        None => print(rt, b"refused\n"),
     }
+}
+
+fn ways(rt: &impl Print, m: i64, w: i64) -> io::Result<()> {
+    ways_line(rt, combinations::combinations(m, w).map(|c| c.value))
 }
 
 fn whole_ways(rt: &impl Print) -> io::Result<()> {
@@ -186,11 +188,7 @@ fn whole_ways(rt: &impl Print) -> io::Result<()> {
 }
 
 fn real(rt: &impl Print, x: f64, w: i64) -> io::Result<()> {
-    let answer = combinations::combinations_real(x, w);
-    match answer {
-        RealWays::Value(v) => float_line(rt, v),
-        RealWays::Refused => print(rt, b"refused\n"),
-    }
+    ways_line(rt, combinations::combinations_real(x, w))
 }
 
 fn real_ways(rt: &impl Print) -> io::Result<()> {

@@ -3,10 +3,8 @@
 // nothing else: that the input cannot be read or the output cannot be written is said on standard error.
 #![tactic(auto)]
 
-use net_io::{Input, read_input, say, text_room, write_front};
+use net_io::{read_input, say, text_room, write_front};
 use net_text::Judged;
-use reason::ReasonAnswer;
-use text::Written;
 
 fn show(rt: &HostRuntime, out: &[u8], n: usize) {
     if !write_front(rt, out, n) {
@@ -16,20 +14,19 @@ fn show(rt: &HostRuntime, out: &[u8], n: usize) {
 
 fn show_refused(rt: &HostRuntime, number: u64, line: u64) {
     let mut out = [0u8; 64];
-    match result_text::refused_line(&mut out, 0, number, line) {
-        Written::Next(n) => show(rt, &out, n),
-        Written::Short => {}
+    if let Some(n) = result_text::refused_line(&mut out, 0, number, line) {
+        show(rt, &out, n);
     }
 }
 
 fn show_reason(rt: &HostRuntime, net: net::Net) {
     let mut out = [0u8; 2080];
     match reason::reason(net, &mut out) {
-        ReasonAnswer::Length(n) => {
+        Ok(n) => {
             show(rt, &out, n);
             show(rt, b"\n", 1);
         }
-        ReasonAnswer::TurnedDown(number) => show_refused(rt, number, 0),
+        Err(c) => show_refused(rt, c.number(), 0),
     }
 }
 
@@ -42,16 +39,10 @@ fn ask(rt: &HostRuntime, text: &[u8]) {
     }
 }
 
-fn ask_front(rt: &HostRuntime, text: &[u8], n: usize) {
-    if n <= text.len() {
-        ask(rt, &text[..n]);
-    }
-}
-
 fn main(rt: HostRuntime) {
     let mut text = text_room();
     match read_input(&rt, &mut text) {
-        Input::Read(n) => ask_front(&rt, &text, n),
-        Input::Failed => say(&rt, b"whyrun: standard input cannot be read\n"),
+        Ok(n) => ask(&rt, &text[..n]),
+        Err(_) => say(&rt, b"whyrun: standard input cannot be read\n"),
     }
 }

@@ -8,8 +8,7 @@ use Rattle.combinations.proofs.is_exact.Goals as goal
 
 pub returns-then-m-unrounded : goal.returns-then-m-unrounded
 returns-then-m-unrounded c =
-    let u = c in
-    let a = u.args in
-    let h = u.requires in
+    let a = c.args in
+    let h = c.requires in
     sym (ap (λ (v : Float). exact v a.m a.w) h.2
-    ∙ product_exact a.m a.w h.0 h.1 (subst (λ (n : ℕ). a.m ≤ n) u.unrounded.ensures c.if-m-unrounded.true))
+    ∙ product_exact a.m a.w h.0 h.1 (subst (λ (n : ℕ). a.m ≤ n) c.unrounded.ensures c.if-m-unrounded.true))

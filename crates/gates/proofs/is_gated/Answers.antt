@@ -1,19 +1,22 @@
 -- The tests in the definition's order; a mask of 64 bits is above 0 just where one is set. Assumes nothing.
-use native.Mathlib.Omega.{arith}
-use Rattle.gates.proofs.Mask.{gated_reads, gated_inhibitors, gated_nonkinetic, gated_bounded, gated_delayed}
+use Rattle.std.proofs.Common.{arith}
+use Rattle.std.proofs.lemmas.Grind.{common_steps}
+use Rattle.gates.proofs.Mask.{gated_is}
 use Rattle.gates.proofs.is_gated.Goals as goal
-
-pub returns-then-g-gt0 : goal.returns-then-g-gt0
-returns-then-g-gt0 c = gated_reads c.args.g (omega arith) c.if-g-gt0.true
-
-pub returns-then-g-gt0-2 : goal.returns-then-g-gt0-2
-returns-then-g-gt0-2 c = gated_inhibitors c.args.g (omega arith) c.if-g-gt0.false c.if-g-gt0-2.true
-
-pub returns-then-g-gt0-3 : goal.returns-then-g-gt0-3
-returns-then-g-gt0-3 c = gated_nonkinetic c.args.g (omega arith) c.if-g-gt0.false c.if-g-gt0-2.false c.if-g-gt0-3.true
+use Rattle.gates.proofs.is_gated.Goals.{then-g-gt0, else-g-gt0, then-g-gt0-2, else-g-gt0-2, then-g-gt0-3, else-g-gt0-3}
 
 pub returns-then-g-gt0-4 : goal.returns-then-g-gt0-4
-returns-then-g-gt0-4 c = gated_bounded c.args.g (omega arith) c.if-g-gt0.false c.if-g-gt0-2.false c.if-g-gt0-3.false c.if-g-gt0-4.true
+returns-then-g-gt0-4 c =
+    let e = gated_is c.args.g (omega arith) in
+    elim c.if-g-gt0-3.branch [
+      then-g-gt0-3 w ↦ elim c.if-g-gt0-2.branch [
+        then-g-gt0-2 v ↦ elim c.if-g-gt0.branch [ then-g-gt0 u ↦ grind (arith, common_steps) | else-g-gt0 u ↦ grind (arith, common_steps) ]
+      | else-g-gt0-2 v ↦ grind (arith, common_steps)
+      ]
+    | else-g-gt0-3 w ↦ grind (arith, common_steps)
+    ]
 
-pub returns : goal.returns
-returns c = gated_delayed c.args.g (omega arith) c.if-g-gt0.false c.if-g-gt0-2.false c.if-g-gt0-3.false c.if-g-gt0-4.false
+pub returns-else-g-gt0-4 : goal.returns-else-g-gt0-4
+returns-else-g-gt0-4 c =
+    let e = gated_is c.args.g (omega arith) in
+    grind (arith, common_steps)

@@ -2,12 +2,6 @@
 use Rattle.portable_log.proofs.Laws.{inf_bits, inf_is_no_nan}
 use Rattle.jump.proofs.waiting.Goals as goal
 
-pub returns-then-a0 : goal.returns-then-a0
-returns-then-a0 c =
-    let test = c.if-a0.true in
-    let start = c in
-    (simp (test, start.requires), simp (test, c.next_u64-d.ensures.1))
-
 pub float_from_bits-result : goal.float_from_bits-result
 float_from_bits-result c = inf_is_no_nan
 

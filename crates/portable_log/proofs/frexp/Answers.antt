@@ -1,6 +1,5 @@
 -- What differs from itself is the NaN, where the definition computes. Elsewhere the test on the exponent's field picks the definition's case.
 use mathlib.Core.Path.{sym, ap, ◌∙◌}
-use borrow.Author.Tests.{eq-eqb, ne_eqb}
 use Rattle.portable_log.specs.Log.{frexp}
 use Rattle.portable_log.proofs.Laws.{nan_of_ne, no_nan, frexp_nan, scaled_number}
 use Rattle.portable_log.proofs.frexp.Goals as goal
@@ -12,10 +11,4 @@ pub float_to_bits-b : goal.float_to_bits-b
 float_to_bits-b c = no_nan c.args.x c.if-x.false
 
 pub float_to_bits-x : goal.float_to_bits-x
-float_to_bits-x c = let s = c in scaled_number s.args.x (no_nan s.args.x s.if-x.false)
-
-pub returns-then-field-eq0 : goal.returns-then-field-eq0
-returns-then-field-eq0 c = let f = c in c.parts_of.ensures ∙ simp (eq-eqb _ _ (sym f.field.ensures ∙ c.if-field-eq0.true))
-
-pub returns : goal.returns
-returns c = let f = c in c.parts_of-2.ensures ∙ simp (ne_eqb _ _ (λ e. c.if-field-eq0.false (f.field.ensures ∙ e)))
+float_to_bits-x c = scaled_number c.args.x (no_nan c.args.x c.if-x.false)

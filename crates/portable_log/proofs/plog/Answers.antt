@@ -1,7 +1,6 @@
 -- A NaN is the definition's first case. Where the pattern shows a normal number above 0, the definition goes by the pattern's parts (`at_normal`). Where one of
 -- the two tests on the field fails, x is no such number.
 use mathlib.Core.Path.{◌∙◌}
-use native.Mathlib.Nat.{lt_irrefl, lt_of_le_of_lt}
 use native.Mathlib.Omega.{arith}
 use Rattle.portable_log.proofs.Laws.{no_nan, at_nan, at_normal}
 use Rattle.portable_log.proofs.plog.Goals as goal
@@ -14,14 +13,4 @@ float_to_bits-b c = no_nan c.args.x c.if-x.false
 
 pub returns-then-e-lt2047 : goal.returns-then-e-lt2047
 returns-then-e-lt2047 c =
-    let p = c in
-    c.scaled_log.ensures ∙ at_normal p.args.x p.if-x.false (omega arith) (omega arith)
-
-pub other_log-requires : goal.other_log-requires
-other_log-requires c = (
-  c.if-x.false,
-  λ g. elim c.if-e-ge1.branch [
-    | goal.then-e-ge1+else-e-lt2047 w ↦ w.if-e-lt2047.false
-    | goal.else-e-ge1 w ↦ absurd (lt_irrefl 1 (lt_of_le_of_lt g w.if-e-ge1.false))
-  ],
-)
+    c.scaled_log.ensures ∙ at_normal c.args.x c.if-x.false (omega arith) (omega arith)

@@ -1,6 +1,5 @@
 -- `judged` meets its contract: where it answers true, its tests are what `reached` asks. Assumes nothing.
-use Rattle.std.proofs.Common.{sym, ◌∙◌, arith, ltb-true, leb-true}
-use mathlib.Core.Bool.{false≢true}
+use Rattle.std.proofs.Common.{refl, sym, ◌∙◌, arith, ltb-true, leb-true}
 use Rattle.root.proofs.Squares.{reached}
 use Rattle.root.proofs.judged.Goals as goal
 
@@ -9,13 +8,7 @@ pub returns-then-part-low : goal.returns-then-part-low
 returns-then-part-low c test =
     let at = c.args in
     let nearest-if-close =
-    reached at.n at.g c.wrapping_mul-low.ensures
+    reached at.n at.g refl
     (sym c.high.ensures ∙ c.if-high-n.true) c.if-part-low.true in
     let c = test in
     nearest-if-close (omega (arith, ltb-true, leb-true))
-
-pub returns-else-part-low : goal.returns-else-part-low
-returns-else-part-low c e = absurd (false≢true e)
-
-pub returns-else-high-n : goal.returns-else-high-n
-returns-else-high-n c e = absurd (false≢true e)

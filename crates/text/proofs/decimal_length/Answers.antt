@@ -1,8 +1,7 @@
 -- `decimal_length` meets its contract. The invariant: the digits counted and those of what is left are the decimal's.
 -- That the count fits follows from its sum with what is left, which does not grow.
 use native.Mathlib.Omega.{arith}
-use mathlib.Core.Path.{◌≡◌, ap}
-use Rattle.text.proofs.Digits.{count_of, count_tenth, decimal_length}
+use Rattle.text.proofs.Digits.{count_tenth, decimal_length}
 use Rattle.text.proofs.decimal_length.Goals as goal
 
 pub loop-rest-init : goal.loop-rest-init
@@ -10,9 +9,3 @@ loop-rest-init c = (rw (decimal_length c.args.n) (omega arith), omega arith)
 
 pub loop-rest-preserved : goal.loop-rest-preserved
 loop-rest-preserved c = (omega (arith, count_tenth c.loop-rest.rest (omega arith)), omega arith)
-
-pub returns : goal.returns
-returns c =
-    let none : c.loop-rest.rest ≡ 0 = omega arith in
-    let all : count_of c.loop-rest.rest ≡ 0 = ap count_of none in
-    omega arith

@@ -1,6 +1,5 @@
 -- `fill` meets its contract. The invariant: the k digits still to be written, placed in front of those that stand, are all of them placed.
 use mathlib.Core.Path.{◌≡◌}
-use Prim.Native.Nat.{◌≤◌}
 use lib.ListN.{length}
 use Rattle.text.specs.Numbers.{low_digits}
 use Rattle.text.specs.Buffer.{placed}
@@ -8,7 +7,4 @@ use Rattle.text.proofs.fill.Given as goal
 
 abbrev pub invariant-loop-k : goal.invariant-loop-k
 invariant-loop-k l =
-    (placed l.out l.at (low_digits l.base l.k l.rest) ≡ placed l.initial.out l.at (low_digits l.base l.count l.n)) × (l.k ≤ l.count) × (length l.out ≡ length l.initial.out)
-
-abbrev pub decreases-loop-k : goal.decreases-loop-k
-decreases-loop-k l = l.k
+    (placed l.out l.at (low_digits l.base l.k l.rest) ≡ placed l.initial.out l.at (low_digits l.base l.count l.n)) × (length l.out ≡ length l.initial.out)

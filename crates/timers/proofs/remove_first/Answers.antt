@@ -1,10 +1,6 @@
 -- The list from the next place on is the others; an empty list stays.
-use native.Mathlib.Omega.{arith}
-use Rattle.timers.proofs.Rings.{removed_none, removed_one}
+use Rattle.timers.proofs.Rings.{removed_one}
 use Rattle.timers.proofs.remove_first.Goals as goal
-
-pub returns-then-n-eq0 : goal.returns-then-n-eq0
-returns-then-n-eq0 c = removed_none c.args.ring (omega arith)
 
 pub returns : goal.returns
 returns c =

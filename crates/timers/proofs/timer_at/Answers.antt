@@ -7,11 +7,9 @@ use Rattle.timers.proofs.timer_at.Goals as goal
 
 pub returns-then-count-i : goal.returns-then-count-i
 returns-then-count-i c =
-    let s = c in
-    c.idle.ensures ∙ sym (from_past (held s.args.ats.now s.args.owners.now) s.args.ring.start (running s.args.ring) s.args.i (omega arith))
+    c.idle.ensures ∙ sym (from_past (held c.args.ats.now c.args.owners.now) c.args.ring.start (running c.args.ring) c.args.i (omega arith))
 
 pub returns : goal.returns
 returns c =
-    let s = c in
-    let f = held s.args.ats.now s.args.owners.now in
-    c.read.ensures ∙ ap f c.slot.ensures ∙ sym (from_at f s.args.ring.start (running s.args.ring) s.args.i (omega arith))
+    let f = held c.args.ats.now c.args.owners.now in
+    c.read.ensures ∙ ap f c.slot.ensures ∙ sym (from_at f c.args.ring.start (running c.args.ring) c.args.i (omega arith))

@@ -1,12 +1,9 @@
 -- The invariant: the first i cells are instants by their numbers, and the others stay (Fronts). Assumes nothing.
-use Rattle.std.proofs.Common.{◌≡◌, ◌-◌, ◌≤◌, length}
+use Rattle.std.proofs.Common.{◌≡◌, ◌-◌, length}
 use Rattle.averages.specs.Front as Front
 use Rattle.averages.specs.Request as Spec
 use Rattle.averages.proofs.request.fill_grid.Given as goal
 
 abbrev pub invariant-loop-i : goal.invariant-loop-i
 invariant-loop-i l =
-    (l.i ≤ l.samples) × (length l.instants ≡ length l.initial.instants) × (l.instants ≡ Front.by_number (Spec.instant l.width) 0 l.i l.initial.instants)
-
-abbrev pub decreases-loop-i : goal.decreases-loop-i
-decreases-loop-i l = l.samples - l.i
+    (length l.instants ≡ length l.initial.instants) × (l.instants ≡ Front.by_number (Spec.instant l.width) 0 l.i l.initial.instants)

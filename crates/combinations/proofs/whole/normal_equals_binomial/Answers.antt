@@ -5,24 +5,18 @@ use Rattle.combinations.proofs.whole.normal_equals_binomial.Goals as goal
 
 pub returns-then-l-r-2 : goal.returns-then-l-r-2
 returns-then-l-r-2 c =
-    let q = c in
-    let p = q in
-    let a = p.args in
-    let h = p.requires in
-    alike a.b a.m a.w h.0 h.1 h.2 p.times_factorial-l.ensures.0 q.falling_parts-r.ensures.0 c.if-l-r.true c.if-l-r-2.true
+    let a = c.args in
+    let h = c.requires in
+    alike a.b a.m a.w h.0 h.1 h.2 c.times_factorial-l.ensures.0 c.falling_parts-r.ensures.0 c.if-l-r.true c.if-l-r-2.true
 
 pub returns-else-l-r-2 : goal.returns-else-l-r-2
 returns-else-l-r-2 c =
-    let q = c in
-    let p = q in
-    let a = p.args in
-    let h = p.requires in
-    unlike a.b a.m a.w h.0 h.1 h.2 p.times_factorial-l.ensures.0 q.falling_parts-r.ensures.0 (λ e. c.if-l-r-2.false (apart (omega arith) (omega arith) e).1)
+    let a = c.args in
+    let h = c.requires in
+    unlike a.b a.m a.w h.0 h.1 h.2 c.times_factorial-l.ensures.0 c.falling_parts-r.ensures.0 (λ e. c.if-l-r-2.false (apart (omega arith) (omega arith) e).1)
 
 pub returns-else-l-r : goal.returns-else-l-r
 returns-else-l-r c =
-    let q = c in
-    let p = q in
-    let a = p.args in
-    let h = p.requires in
-    unlike a.b a.m a.w h.0 h.1 h.2 p.times_factorial-l.ensures.0 q.falling_parts-r.ensures.0 (λ e. c.if-l-r.false (apart (omega arith) (omega arith) e).0)
+    let a = c.args in
+    let h = c.requires in
+    unlike a.b a.m a.w h.0 h.1 h.2 c.times_factorial-l.ensures.0 c.falling_parts-r.ensures.0 (λ e. c.if-l-r.false (apart (omega arith) (omega arith) e).0)

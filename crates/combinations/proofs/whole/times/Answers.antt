@@ -6,45 +6,34 @@ use Prim.Native.Nat.{◌*◌}
 use Rattle.combinations.proofs.Parts.{times, fitting, outgrown, by_carry, by_upper}
 use Rattle.combinations.proofs.whole.times.Goals as goal
 
-pub overflow_add-result : goal.overflow_add-result
-overflow_add-result c = omega (arith, c.if-carry-above.true, c.wrapping_mul-above.ensures)
-
 pub returns-then-carry-above : goal.returns-then-carry-above
 returns-then-carry-above c =
-    let k = c in
-    let f = k in
-    let s = f in
-    let p = s.args.p in
-    let o = f.stripped-f.result.low in
-    let h : k.wrapping_mul-above.result ≡ p.high * o = omega (arith, k.if-high-eq0.true, k.high.ensures, k.wrapping_mul-above.ensures) in (
+    let p = c.args.p in
+    let o = c.stripped-f.result.low in
+    let h : c.wrapping_mul-above.result ≡ p.high * o = omega (arith, c.if-high-eq0.true, c.high.ensures, c.wrapping_mul-above.ensures) in (
       λ N g.
-          times N s.args.n p.high p.low p.twos o f.stripped-f.result.twos _ _ g (sym f.stripped-f.ensures.2) f.stripped-f.ensures.1
+          times N c.args.n p.high p.low p.twos o c.stripped-f.result.twos _ _ g (sym c.stripped-f.ensures.2) c.stripped-f.ensures.1
           (fitting p.high p.low o h c.high-carry.ensures c.wrapping_mul.ensures),
       omega arith,
     )
 
 pub returns-else-carry-above : goal.returns-else-carry-above
 returns-else-carry-above c =
-    let k = c in
-    let f = k in
-    let s = f in
-    let p = s.args.p in
-    let o = f.stripped-f.result.low in
-    let h : k.wrapping_mul-above.result ≡ p.high * o = omega (arith, k.if-high-eq0.true, k.high.ensures, k.wrapping_mul-above.ensures) in (
+    let p = c.args.p in
+    let o = c.stripped-f.result.low in
+    let h : c.wrapping_mul-above.result ≡ p.high * o = omega (arith, c.if-high-eq0.true, c.high.ensures, c.wrapping_mul-above.ensures) in (
       λ N g.
-          times N s.args.n p.high p.low p.twos o f.stripped-f.result.twos _ _ g (sym f.stripped-f.ensures.2) f.stripped-f.ensures.1
+          times N c.args.n p.high p.low p.twos o c.stripped-f.result.twos _ _ g (sym c.stripped-f.ensures.2) c.stripped-f.ensures.1
           (outgrown p.high p.low o (by_carry h c.high-carry.ensures c.if-carry-above.false)),
       omega arith,
     )
 
 pub returns-else-high-eq0 : goal.returns-else-high-eq0
 returns-else-high-eq0 c =
-    let f = c in
-    let s = f in
-    let p = s.args.p in
-    let o = f.stripped-f.result.low in (
+    let p = c.args.p in
+    let o = c.stripped-f.result.low in (
       λ N g.
-          times N s.args.n p.high p.low p.twos o f.stripped-f.result.twos _ _ g (sym f.stripped-f.ensures.2) f.stripped-f.ensures.1
+          times N c.args.n p.high p.low p.twos o c.stripped-f.result.twos _ _ g (sym c.stripped-f.ensures.2) c.stripped-f.ensures.1
           (outgrown p.high p.low o (by_upper (p.high * o) _ c.high.ensures c.if-high-eq0.false)),
       omega arith,
     )

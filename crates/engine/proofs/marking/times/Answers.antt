@@ -32,22 +32,22 @@ returns-then-limit-eq18446744073709551615 c =
     ap (λ (z : ℤ). mul binary64 x (of_int binary64 z)) a
     ∙ ap (mul binary64 x) (sym (one_way count s.requires.0))
     ∙ ap (λ (w : ℕ). mul binary64 x (ways count w)) one
-    ∙ sym (ap (λ (b : Bool). pick b (mul binary64 x (ways count (at_least s.args.limit))) x) (eq-eqb s.args.kind 0 c.if-kind-eq0.true))
+    ∙ sym (ap (λ (b : Bool). pick b (mul binary64 x (ways count (at_least s.args.limit))) x) (eq-eqb s.args.kind 0 c.if-kind-eq-KINETIC_TAKE.true))
 
 pub overflow_add-limit : goal.overflow_add-limit
-overflow_add-limit c = omega (arith, c.requires.1 c.if-kind-eq0.true)
+overflow_add-limit c = omega (arith, c.requires.1 c.if-kind-eq-KINETIC_TAKE.true)
 
 pub ways-requires : goal.ways-requires
 ways-requires c =
     let s = c in
-    (s.requires.0, omega (arith, s.requires.1 c.if-kind-eq0.true))
+    (s.requires.0, omega (arith, s.requires.1 c.if-kind-eq-KINETIC_TAKE.true))
 
-pub returns-then-kind-eq0 : goal.returns-then-kind-eq0
-returns-then-kind-eq0 c =
+pub returns-then-kind-eq-KINETIC_TAKE : goal.returns-then-kind-eq-KINETIC_TAKE
+returns-then-kind-eq-KINETIC_TAKE c =
     let s = c in
     let same : 0xFFFF_FFFF_FFFF_FFFF - s.args.limit + 1 ≡ at_least s.args.limit = omega (arith, s.ranges.limit) in
     ap (mul binary64 s.args.x) (c.ways.ensures ∙ ap (ways s.args.count) same)
-    ∙ sym (ap (λ (b : Bool). pick b (mul binary64 s.args.x (ways s.args.count (at_least s.args.limit))) s.args.x) (eq-eqb s.args.kind 0 c.if-kind-eq0.true))
+    ∙ sym (ap (λ (b : Bool). pick b (mul binary64 s.args.x (ways s.args.count (at_least s.args.limit))) s.args.x) (eq-eqb s.args.kind 0 c.if-kind-eq-KINETIC_TAKE.true))
 
 pub returns : goal.returns
-returns c = simp (ne_eqb _ _ c.if-kind-eq0.false)
+returns c = simp (ne_eqb _ _ c.if-kind-eq-KINETIC_TAKE.false)

@@ -17,12 +17,12 @@ returns-then-count-unrounded c =
     let u = c in
     let a = u.args in
     sym (ap not (exact_to a.weight a.count (subst (λ (n : ℕ). a.count ≤ n) u.unrounded.ensures c.if-count-unrounded.true)))
-    ∙ sym (ap (λ (b : Bool). b && not (exact_ways a.count (amount a.weight))) (eq-eqb a.kind 0 u.if-kind-eq0.true))
+    ∙ sym (ap (λ (b : Bool). b && not (exact_ways a.count (amount a.weight))) (eq-eqb a.kind 0 u.if-kind-eq-KINETIC_TAKE.true))
 
 -- above the bound of 0 tokens, which is 2^53, there is no count
-pub returns-then-kind-eq0 : goal.returns-then-kind-eq0
+pub returns-then-kind-eq-KINETIC_TAKE : goal.returns-then-kind-eq-KINETIC_TAKE
 unfolding exact_ways
-returns-then-kind-eq0 c =
+returns-then-kind-eq-KINETIC_TAKE c =
     let u = c in
     let s = u in
     let a = s.args in
@@ -30,9 +30,9 @@ returns-then-kind-eq0 c =
     ap not c.exact_ways.ensures
     ∙ ap (λ (w : ℕ). not (exact_ways a.count w))
     (sym (amount_pos a.weight (λ e. let over : 2 ^ 53 < a.count = subst (λ (w : ℕ). get_or unrounded w 0 < a.count) e above in omega (arith, s.requires))))
-    ∙ sym (ap (λ (b : Bool). b && not (exact_ways a.count (amount a.weight))) (eq-eqb a.kind 0 u.if-kind-eq0.true))
+    ∙ sym (ap (λ (b : Bool). b && not (exact_ways a.count (amount a.weight))) (eq-eqb a.kind 0 u.if-kind-eq-KINETIC_TAKE.true))
 
 pub returns : goal.returns
 returns c =
     let a = c.args in
-    sym (ap (λ (b : Bool). b && not (exact_ways a.count (amount a.weight))) (ne_eqb a.kind 0 c.if-kind-eq0.false))
+    sym (ap (λ (b : Bool). b && not (exact_ways a.count (amount a.weight))) (ne_eqb a.kind 0 c.if-kind-eq-KINETIC_TAKE.false))

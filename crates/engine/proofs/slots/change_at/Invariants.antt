@@ -12,6 +12,3 @@ invariant-loop-a l =
     × (l.taken + taken_by (takes_of (slots l.net.kind.now l.net.place.now l.net.weight.now l.a (l.end - l.a))) l.p ≡ taken_by (takes_of (slots l.net.kind.now l.net.place.now l.net.weight.now l.from (l.end - l.from))) l.p)
     × (l.put ≤ 1_000_000 * l.a)
     × (l.taken ≤ 1_000_000 * l.a)
-
-abbrev pub decreases-loop-a : goal.decreases-loop-a
-decreases-loop-a l = l.end - l.a

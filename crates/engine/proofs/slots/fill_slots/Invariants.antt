@@ -3,13 +3,9 @@ use Rattle.net.specs.Record.{net_of}
 use lib.ListN.{length, get_or}
 use Rattle.engine.specs.Limits.{limit_at}
 use mathlib.Core.Path.{◌≡◌}
-use Prim.Native.Nat.{ℕ, ◌-◌, ◌<◌}
+use Prim.Native.Nat.{ℕ, ◌<◌, ◌≤◌}
 use Rattle.engine.proofs.slots.fill_slots.Given as goal
 
 abbrev pub invariant-loop-a : goal.invariant-loop-a
 invariant-loop-a l =
-    (length l.limit ≡ 1024) × ((b : ℕ) → b < l.a → get_or l.limit b 0 ≡ limit_at (net_of l.net) b)
-
-abbrev pub decreases-loop-a : goal.decreases-loop-a
-decreases-loop-a l =
-    l.end - l.a
+    (l.net.transitions ≤ 64) × (length l.limit ≡ 1024) × ((b : ℕ) → b < l.a → get_or l.limit b 0 ≡ limit_at (net_of l.net) b)

@@ -1,37 +1,25 @@
--- The counts of the places below p are the initial ones, and all counts are at most 2^53. Assumes nothing.
-use lib.ListN.{length, get_or, set, length-set, length-replicate}
-use lib.Seq.{get_or-set_same, get_or-set_other}
-use native.Mathlib.Nat.{ne_of_lt}
-use borrow.Author.Count.{below_none, below_more}
-use Rattle.engine.proofs.Lists.{each_zero, each_set, first_all}
-use native.Mathlib.Omega.{arith}
-use mathlib.Core.Path.{◌≡◌, ◌∙◌}
+-- The counts are the initial ones in the places that are copied, and 0 behind them. Assumes nothing.
 use Prim.Native.Nat.{ℕ, ◌^◌, ◌≤◌, ◌<◌}
+use mathlib.Core.Path.{◌≡◌, refl, ap, ◌∙◌, subst⁻¹}
+use mathlib.Core.List.{List, ◌++◌}
+use native.Mathlib.Omega.{arith}
+use lib.ListN.{length, get_or, take, drop, replicate, length-append, get_or-append}
+use lib.Seq.{get_or-take, length-take-le}
+use Rattle.std.proofs.Common.{length-drop}
+use Rattle.engine.specs.Engine.{AtMost, Counts, counts_from}
+use Rattle.engine.proofs.Lists.{first_all, each_zero, most_append, most_take, most_drop}
 use Rattle.engine.proofs.slots.first_counts.Goals as goal
 
-pub loop-p-init : goal.loop-p-init
-loop-p-init c = (length-replicate {A = ℕ} 32 0, each_zero (λ (x : ℕ). x ≤ 2 ^ 53) 32 (omega arith), below_none _)
-
-pub loop-p-preserved : goal.loop-p-preserved
-loop-p-preserved c =
-    let l = c in
-    let s = l in
-    let xs = l.loop-p.counts in
-    let p = l.loop-p.p in
-    let x = get_or s.args.initial.now p 0 in
-    let h : p < s.args.places = c.loop-p-test.true in
-    let i : p < length xs = omega (arith, l.loop-p.invariant.0, s.requires.0) in (
-      length-set xs p x ∙ l.loop-p.invariant.0,
-      each_set (λ (y : ℕ). y ≤ 2 ^ 53) xs p x i (s.requires.1 p h) l.loop-p.invariant.1,
-      below_more (λ (b : ℕ). get_or (set xs p x) b 0 ≡ get_or s.args.initial.now b 0) p
-          (λ b k. get_or-set_other xs p b x 0 (ne_of_lt k) ∙ l.loop-p.invariant.2 b k) (get_or-set_same xs p x 0 i),
+copied : (k : ℕ) (xs zs new : List ℕ) → k ≤ length xs → k ≤ 32 → length zs ≡ 32 → ((p : ℕ) → p < k → get_or xs p 0 ≤ 2 ^ 53) → AtMost (2 ^ 53) zs → new ≡ take k xs
+    → (take k (new ++ drop k zs) ≡ counts_from xs 0 k) × Counts (new ++ drop k zs)
+copied k xs zs new l k32 lz f g e =
+    let n : length new ≡ k = ap (length {A = ℕ}) e ∙ length-take-le k xs l in
+    let all : length (new ++ drop k zs) ≡ 32 = omega (arith, length-append new (drop k zs), length-drop k zs) in (
+      first_all k (new ++ drop k zs) xs (omega arith) (λ i h. get_or-append new (drop k zs) 0 i (omega arith) ∙ ap (λ (ys : List ℕ). get_or ys i 0) e ∙ get_or-take k xs i 0 h),
+      record { long = all; small = most_append (2 ^ 53) new (drop k zs) (subst⁻¹ (AtMost (2 ^ 53)) e (most_take (2 ^ 53) k xs f)) (most_drop (2 ^ 53) k zs g) },
     )
 
 pub returns : goal.returns
 returns c =
-    let l = c in
-    let s = l in (
-      first_all s.args.places l.loop-p.counts s.args.initial.now (omega (arith, l.loop-p.invariant.0, s.requires.0))
-          (λ i h. l.loop-p.invariant.2 i (omega (arith, c.loop-p-test.false))),
-      record { long = l.loop-p.invariant.0; small = l.loop-p.invariant.1 },
-    )
+    copied c.args.places c.args.initial.now (replicate 32 0) _ (omega (arith, c.told-initial)) c.requires.0 refl c.requires.1 (each_zero (λ (x : ℕ). x ≤ 2 ^ 53) 32 (omega arith))
+    c.copy_from_slice.ensures.after

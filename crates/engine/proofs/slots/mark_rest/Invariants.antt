@@ -5,6 +5,3 @@ use Rattle.engine.proofs.slots.mark_rest.Given as goal
 
 abbrev pub invariant-loop-a : goal.invariant-loop-a
 invariant-loop-a l = (l.from ≤ l.a) × (l.a ≤ l.end) × Rest l.a l.end l.initial.limit l.limit
-
-abbrev pub decreases-loop-a : goal.decreases-loop-a
-decreases-loop-a l = l.a

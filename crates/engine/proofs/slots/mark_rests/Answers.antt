@@ -6,24 +6,6 @@ use Rattle.engine.specs.Limits.{its}
 use Rattle.engine.proofs.Limits.{says_more}
 use Rattle.engine.proofs.slots.mark_rests.Goals as goal
 
-pub loop-j-init : goal.loop-j-init
-loop-j-init c = (c.requires.2, λ a h. refl, λ a. its refl)
-
-pub overflow_add-k : goal.overflow_add-k
-overflow_add-k c = omega (arith, c.requires.0)
-
-pub overflow_mul-from : goal.overflow_mul-from
-overflow_mul-from c = omega (arith, c.requires.0)
-
-pub offset_bounds-arcs-j : goal.offset_bounds-arcs-j
-offset_bounds-arcs-j c = omega (arith, c.requires.0)
-
-pub bounds-arcs-j : goal.bounds-arcs-j
-bounds-arcs-j c = omega (arith, c.requires.0)
-
-pub overflow_add-end : goal.overflow_add-end
-overflow_add-end c = let s = c in omega (arith, s.requires.0, s.requires.1 c.loop-j.j)
-
 pub mark_rest-requires : goal.mark_rest-requires
 mark_rest-requires c =
     let l = c in
@@ -39,6 +21,3 @@ loop-j-preserved c =
       λ a h. m.2.outside a (inr (omega (arith, s.requires.1 l.loop-j.j))) ∙ l.loop-j.invariant.1 a (omega arith),
       says_more s.args.arcs.now s.args.limit.now l.loop-j.limit _ l.loop-j.j c.mark_rest.result s.requires.1 m.0 m.2 l.loop-j.invariant.1 l.loop-j.invariant.2,
     )
-
-pub returns : goal.returns
-returns c = c.loop-j.invariant.2

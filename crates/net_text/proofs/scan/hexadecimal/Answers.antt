@@ -1,55 +1,41 @@
--- `hexadecimal` meets its contract: the digits that are left, behind the value so far, give the number; i digits are below 16 ^ i (Hexadecimal). Assumes nothing.
-use native.Mathlib.Omega.{arith}
-use mathlib.Core.Path.{◌≡◌, sym, ◌∙◌}
-use Prim.Native.Nat.{◌<◌}
-use lib.ListN.{drop, length-drop}
-use native.Mathlib.Nat.{add-zero}
-use Rattle.net_text.proofs.Hexadecimal.{hex_short, hex_more, hex_stop, ne_below, room, wider}
+-- A digit more, or none; i digits are below 16 ^ i (Hexadecimal).
+use Rattle.std.proofs.Common.{arith}
+use Rattle.net_text.proofs.Hexadecimal.{no_float, read_none, room, read_all, read_more, read_stop}
 use Rattle.net_text.proofs.scan.hexadecimal.Goals as goal
 
-pub returns-then-line-at-lt16 : goal.returns-then-line-at-lt16
-returns-then-line-at-lt16 c =
-    let s = c.args in
-    record { is = hex_short 16 0 (drop s.at s.line.now) (omega (arith, length-drop s.at s.line.now)); within = omega arith; small = omega arith }
+pub returns-in_err-digits : goal.returns-in_err-digits
+returns-in_err-digits c = rw c.from_residual.ensures (no_float c.args.line.now c.in_err-digits.ensures.cases)
 
-pub loop-i-init : goal.loop-i-init
-loop-i-init c = (omega arith, omega arith, omega arith, rw add-zero)
-
-pub returns-then-d-eq16 : goal.returns-then-d-eq16
-returns-then-d-eq16 c =
-    let l = c in
-    let s = l.args in record {
-      is = sym l.loop-i.invariant.3 ∙ hex_stop s.line.now s.at l.loop-i.i l.loop-i.bits c.hex_digit-d.result (omega arith) (omega arith)
-          c.hex_digit-d.ensures.is c.if-d-eq16.true;
-      within = omega arith;
-      small = omega arith;
-    }
+pub loop-b-init : goal.loop-b-init
+loop-b-init c =
+    let parts = c.in_ok-digits.ensures.cases in
+    read_none c.args.line.now c.in_ok-digits.digits.now c.in_ok-digits.rest.now parts.1 parts.2
 
 pub overflow_mul-bits : goal.overflow_mul-bits
 overflow_mul-bits c =
-    let l = c in
-    omega (arith, room l.loop-i.bits l.loop-i.i l.loop-i.invariant.2 (omega arith))
+    let long = c.in_ok-digits.ensures.cases.3 in
+    omega (arith, room c.args.line.now c.in_ok-digits.digits.now c.in_ok-digits.rest.now _ _ c.loop-b.invariant long (omega arith))
+
+pub returns-in_err-bits : goal.returns-in_err-bits
+returns-in_err-bits c =
+    let long = c.in_ok-digits.ensures.cases.3 in
+    rw c.from_residual-in_err-bits.ensures
+    (read_stop c.args.line.now c.in_ok-digits.digits.now c.in_ok-digits.rest.now _ _ c.loop-b.invariant long c.hex_digit.result (omega arith)
+    c.hex_digit.ensures.is c.in_err-bits.was)
 
 pub overflow_add-bits : goal.overflow_add-bits
 overflow_add-bits c =
-    let l = c in
-    omega (arith, room l.loop-i.bits l.loop-i.i l.loop-i.invariant.2 (omega arith), c.hex_digit-d.ensures.small)
+    let long = c.in_ok-digits.ensures.cases.3 in
+    let small = c.in_ok-bits.ensures.small in
+    omega (arith, small, room c.args.line.now c.in_ok-digits.digits.now c.in_ok-digits.rest.now _ _ c.loop-b.invariant long (omega arith))
 
-pub loop-i-preserved : goal.loop-i-preserved
-loop-i-preserved c =
-    let l = c in
-    let s = l.args in
-    let digit : c.hex_digit-d.result < 16 = ne_below c.hex_digit-d.ensures.small c.if-d-eq16.false in (
-      omega arith,
-      omega arith,
-      wider l.loop-i.bits l.loop-i.i c.hex_digit-d.result l.loop-i.invariant.2 digit,
-      sym (hex_more s.line.now s.at l.loop-i.i l.loop-i.bits c.hex_digit-d.result (omega arith) (omega arith)
-          c.hex_digit-d.ensures.is digit) ∙ l.loop-i.invariant.3,
-    )
+pub loop-b-preserved : goal.loop-b-preserved
+loop-b-preserved c =
+    let long = c.in_ok-digits.ensures.cases.3 in
+    read_more c.args.line.now c.in_ok-digits.digits.now c.in_ok-digits.rest.now _ _ c.loop-b.invariant long c.hex_digit.result (omega arith)
+    c.hex_digit.ensures.is _ c.in_ok-bits.was c.in_ok-bits.ensures.small
 
 pub returns : goal.returns
 returns c =
-    let l = c in
-    let s = l.args in
-    let all : l.loop-i.i ≡ 16 = omega arith in
-    record { is = sym l.loop-i.invariant.3 ∙ rw all; within = omega arith; small = rw all at l.loop-i.invariant.2 }
+    let long = c.in_ok-digits.ensures.cases.3 in
+    read_all c.args.line.now c.in_ok-digits.digits.now c.in_ok-digits.rest.now _ _ c.loop-b.invariant long (omega arith)

@@ -6,13 +6,8 @@ use Rattle.normals.proofs.GaussianSampler.normal.Goals as goal
 pub returns-then-self : goal.returns-then-self
 returns-then-self c = spare_given (sampler_of c.args.self) c.if-self.true
 
-pub returns-then-found : goal.returns-then-found
-returns-then-found c =
-    let f = c.first_accepted-found in
-    drawn_value (sampler_of c.args.self) c.if-self.false (pair_in f.result.pair) f.result.any f.ensures c.if-found.true c.scale-m.result
-    c.scale-m.ensures
-
 pub returns : goal.returns
-returns c =
-    let f = c.first_accepted-found in
-    drawn_nothing (sampler_of c.args.self) c.if-self.false (pair_in f.result.pair) f.result.any f.ensures c.if-found.false
+returns c = drawn_value (sampler_of c.args.self) c.if-self.false (pair_in c.in-Some.p) c.in-Some.ensures c.scale-m.result c.scale-m.ensures
+
+pub returns-in_default : goal.returns-in_default
+returns-in_default c = drawn_nothing (sampler_of c.args.self) c.if-self.false c.in_default.ensures

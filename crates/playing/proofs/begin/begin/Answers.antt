@@ -3,4 +3,4 @@ use mathlib.Core.Path.{refl}
 use Rattle.playing.proofs.begin.begin.Goals as goal
 
 pub returns : goal.returns
-returns c = (c.show-first.ensures, refl, c.empty-none.ensures, c.sum-tokens.ensures, refl, refl)
+returns c = (c.show-next.ensures, refl, c.empty.ensures, c.sum-tokens.ensures, refl, refl)

@@ -18,21 +18,16 @@ sum_more counts p h =
     ap (λ (k : ℕ). sum_of (take k counts)) (add-one p) ∙ ap sum_of (take-suc counts p 0 h)
     ∙ sum_append (take p counts) (get_or counts p 0 ∷ []) ∙ (omega arith)
 
-pub loop-p-init : goal.loop-p-init
-loop-p-init c = (omega arith, refl, omega arith)
-
 pub overflow_add-total : goal.overflow_add-total
 overflow_add-total c = omega (arith, c.requires.1.small c.loop-p.p)
 
 pub loop-p-preserved : goal.loop-p-preserved
 loop-p-preserved c =
-    let l = c in
-    let x = l.requires.1.small l.loop-p.p in
-    let m = sum_more l.args.counts.now l.loop-p.p (omega (arith, l.requires.1.long)) in
-    (omega arith, omega (arith, m), omega (arith, x))
+    let x = c.requires.1.small c.loop-p.p in
+    let m = sum_more c.args.counts.now c.loop-p.p (omega (arith, c.requires.1.long)) in
+    (omega (arith, m), omega (arith, x))
 
 pub returns : goal.returns
 returns c =
-    let l = c in
-    let e : l.loop-p.p ≡ l.args.places = omega arith in
-    l.loop-p.invariant.1 ∙ ap (λ (k : ℕ). sum_of (take k l.args.counts.now)) e
+    let e : c.loop-p.p ≡ c.args.places = omega arith in
+    c.loop-p.invariant.0 ∙ ap (λ (k : ℕ). sum_of (take k c.args.counts.now)) e

@@ -2,11 +2,8 @@
 use lib.ListN.{take}
 use Rattle.rules.specs.Moments.{sum_of}
 use mathlib.Core.Path.{◌≡◌}
-use Prim.Native.Nat.{◌-◌, ◌*◌, ◌^◌, ◌≤◌}
+use Prim.Native.Nat.{◌*◌, ◌^◌, ◌≤◌}
 use Rattle.playing.proofs.begin.sum.Given as goal
 
 abbrev pub invariant-loop-p : goal.invariant-loop-p
-invariant-loop-p l = (l.p ≤ l.places) × (l.total ≡ sum_of (take l.p l.counts)) × (l.total ≤ 2 ^ 53 * l.p)
-
-abbrev pub decreases-loop-p : goal.decreases-loop-p
-decreases-loop-p l = l.places - l.p
+invariant-loop-p l = (l.total ≡ sum_of (take l.p l.counts)) × (l.total ≤ 2 ^ 53 * l.p)

@@ -14,7 +14,7 @@ use Prim.Native.Nat.{ℕ, ◌+◌, ◌*◌}
 use Rattle.playing.proofs.shown.fill_column.Goals as goal
 
 pub loop-p-init : goal.loop-p-init
-loop-p-init c = (omega arith, column_none _ _ _ _)
+loop-p-init c = column_none _ _ _ _
 
 pub overflow_cast-table : goal.overflow_cast-table
 overflow_cast-table c = let l = c in omega (arith, l.requires.4.small l.loop-p.p)
@@ -51,19 +51,17 @@ bounds-table-p c =
     let l = c in
     let s = l.args in
     let e = cell_in l.loop-p.p s.i s.places s.n (omega arith) (omega arith) in
-    omega (arith, e, l.loop-p.invariant.1.long)
+    omega (arith, e, l.loop-p.invariant.long)
 
 pub loop-p-preserved : goal.loop-p-preserved
 loop-p-preserved c =
     let l = c in
     let s = l.args in
     let e = cell_in l.loop-p.p s.i s.places s.n (omega arith) (omega arith) in
-    let h = l.requires.4.small l.loop-p.p in (
-      omega arith,
-      subst⁻¹ (λ (v : Float). Column s.n s.i (l.loop-p.p + 1) s.counts.now s.table.now (set l.loop-p.table (l.loop-p.p * s.n + s.i) v))
+    let h = l.requires.4.small l.loop-p.p in
+    subst⁻¹ (λ (v : Float). Column s.n s.i (l.loop-p.p + 1) s.counts.now s.table.now (set l.loop-p.table (l.loop-p.p * s.n + s.i) v))
           (ap (of_int binary64) (to_z_pos w64 (omega (arith, h))))
-          (column_more s.n s.i l.loop-p.p s.counts.now s.table.now l.loop-p.table (omega arith) (omega (arith, e, l.loop-p.invariant.1.long)) l.loop-p.invariant.1),
-    )
+          (column_more s.n s.i l.loop-p.p s.counts.now s.table.now l.loop-p.table (omega arith) (omega (arith, e, l.loop-p.invariant.long)) l.loop-p.invariant)
 
 pub returns : goal.returns
 returns c =
@@ -71,4 +69,4 @@ returns c =
     let s = l.args in
     let e : l.loop-p.p ≡ s.places = omega arith in
     column_all s.places s.n s.i s.counts.now s.table.now l.loop-p.table (omega arith)
-    (subst (λ (k : ℕ). Column s.n s.i k s.counts.now s.table.now l.loop-p.table) e l.loop-p.invariant.1)
+    (subst (λ (k : ℕ). Column s.n s.i k s.counts.now s.table.now l.loop-p.table) e l.loop-p.invariant)

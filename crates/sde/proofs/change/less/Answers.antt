@@ -10,9 +10,3 @@ int_to_float-result c = in_f64 _ (omega (arith, c.amount.ensures, amount_most c.
 
 pub returns-then-place-p : goal.returns-then-place-p
 returns-then-place-p c = simp (le-leb _ _ c.if-kind-le-TAKE.true, eq-eqb _ _ c.if-place-p.true, c.amount.ensures)
-
-pub returns-else-place-p : goal.returns-else-place-p
-returns-else-place-p c = simp (le-leb _ _ c.if-kind-le-TAKE.true, ne_eqb _ _ c.if-place-p.false)
-
-pub returns-else-kind-le-TAKE : goal.returns-else-kind-le-TAKE
-returns-else-kind-le-TAKE c = simp (lt-leb _ _ c.if-kind-le-TAKE.false)

@@ -9,6 +9,3 @@ use Rattle.sde.proofs.change.less_takes.Given as goal
 abbrev pub invariant-loop-a : goal.invariant-loop-a
 invariant-loop-a l =
     (l.from ≤ l.a) × (less_takes l.p l.d (takes_of (slots l.net.kind.now l.net.place.now l.net.weight.now l.a (l.end - l.a))) ≡ less_takes l.p zero64 (takes_of (slots l.net.kind.now l.net.place.now l.net.weight.now l.from (l.end - l.from))))
-
-abbrev pub decreases-loop-a : goal.decreases-loop-a
-decreases-loop-a l = l.end - l.a

@@ -5,6 +5,3 @@ use Rattle.sde.proofs.change.next_changed.Given as goal
 
 abbrev pub invariant-loop-q : goal.invariant-loop-q
 invariant-loop-q l = Idle l.places l.from l.changes l.p l.q
-
-abbrev pub decreases-loop-q : goal.decreases-loop-q
-decreases-loop-q l = l.places - l.q

@@ -1,13 +1,7 @@
 -- The cells below j are filled. Assumes nothing.
-use lib.ListN.{length, get_or}
+use Rattle.std.proofs.Common.{ℕ, ◌+◌, ◌*◌, ◌<◌, get_or}
 use Rattle.sde.specs.Slots.{KineticEnd}
-use mathlib.Core.Path.{◌≡◌}
-use Prim.Native.Nat.{ℕ, ◌+◌, ◌-◌, ◌*◌, ◌<◌}
 use Rattle.sde.proofs.propensity.fill_ends.Given as goal
 
 abbrev pub invariant-loop-j : goal.invariant-loop-j
-invariant-loop-j l =
-    (length l.ends ≡ 64) × ((b : ℕ) → b < l.j → KineticEnd l.net.kind.now (16 * b) (16 * b + get_or l.net.arcs.now b 0) (get_or l.ends b 0))
-
-abbrev pub decreases-loop-j : goal.decreases-loop-j
-decreases-loop-j l = l.net.transitions - l.j
+invariant-loop-j l = (b : ℕ) → b < l.j → KineticEnd l.net.kind.now (16 * b) (16 * b + get_or l.net.arcs.now b 0) (get_or l.ends b 0)

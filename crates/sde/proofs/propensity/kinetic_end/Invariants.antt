@@ -1,9 +1,6 @@
--- From e on no slot is a kinetic take. Assumes nothing.
+-- From e on no slot before a is a kinetic take. Assumes nothing.
 use Rattle.sde.specs.Slots.{KineticEnd}
 use Rattle.sde.proofs.propensity.kinetic_end.Given as goal
 
-abbrev pub invariant-loop-e : goal.invariant-loop-e
-invariant-loop-e l = KineticEnd l.kind l.from l.end l.e
-
-abbrev pub decreases-loop-e : goal.decreases-loop-e
-decreases-loop-e l = l.e
+abbrev pub invariant-loop-a : goal.invariant-loop-a
+invariant-loop-a l = KineticEnd l.kind l.from l.a l.e

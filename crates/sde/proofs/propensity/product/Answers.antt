@@ -1,60 +1,35 @@
--- The factors that are left, on top of a, come to the whole. Assumes nothing.
-use mathlib.Core.Bool.{true, false}
-use lib.ListN.{get_or, take}
-use lib.Ieee.{nan}
-use Rattle.sde.proofs.Factors.{made, factors_end, value_at}
-use native.Mathlib.Omega.{arith}
-use mathlib.Core.Path.{refl, sym, ◌∙◌}
+-- A kinetic take is a factor, and no other slot is. Assumes nothing.
+use Rattle.std.proofs.Common.{◌≡◌, true, false, get_or, take, sym, refl, ap, ◌∙◌, arith}
+use Rattle.std.specs.Float.{nan}
+use Rattle.sde.proofs.Factors.{left, factor, no_factor, factors_end, value_at}
 use Rattle.sde.proofs.propensity.product.Goals as goal
+use Rattle.sde.proofs.propensity.product.Goals.{then-net-s-eq-KINETIC_TAKE+else-a, else-net-s-eq-KINETIC_TAKE}
 
-pub loop-s-init : goal.loop-s-init
-loop-s-init c = (omega arith, refl)
-
-pub offset_bounds-x-p : goal.offset_bounds-x-p
-offset_bounds-x-p c =
-    let l = c in
-    omega (arith, l.requires.1, l.requires.3 l.loop-s.s l.loop-s.invariant.0 c.loop-s-test.true)
-
-pub bounds-x-p : goal.bounds-x-p
-bounds-x-p c =
-    let l = c in
-    omega (arith, l.requires.1, l.requires.3 l.loop-s.s l.loop-s.invariant.0 c.loop-s-test.true)
-
-pub times-b-requires : goal.times-b-requires
-times-b-requires c =
-    let l = c in
-    l.requires.2 l.loop-s.s l.loop-s.invariant.0 c.loop-s-test.true
-
-pub returns-then-spent : goal.returns-then-spent
-returns-then-spent c =
-    let l = c in
-    let g = l.args in
-    let i = l.loop-s.s in
-    let t = c.loop-s-test.true in
-    let p = get_or g.net.now.place.now i 0 in
-    sym
-    (made (take g.net.now.places g.x.now) l.loop-s.a g.net.now.kind.now g.net.now.place.now g.net.now.weight.now i g.end t (get_or g.x.now p nan) c.times-b.result
-    (value_at g.net.now.places g.x.now p (l.requires.3 i l.loop-s.invariant.0 t)) c.times-b.ensures c.spent.result true
-    c.spent.ensures c.if-spent.true)
-    ∙ l.loop-s.invariant.1
+pub returns-then-a : goal.returns-then-a
+returns-then-a c =
+    let n = c.args.net.now in
+    let i = c.loop-s.s in
+    let v = value_at n.places c.args.x.now (get_or n.place.now i 0) (c.requires.3 i c.loop-s.auto.s c.loop-s-test.true) in
+    sym (factor (take n.places c.args.x.now) c.loop-s.a n.kind.now n.place.now n.weight.now i c.args.end c.loop-s-test.true c.if-net-s-eq-KINETIC_TAKE.true _ _ v
+    c.times-a.ensures true c.if-a.true)
+    ∙ c.loop-s.invariant
 
 pub loop-s-preserved : goal.loop-s-preserved
 loop-s-preserved c =
-    let l = c in
-    let g = l.args in
-    let i = l.loop-s.s in
-    let t = c.loop-s-test.true in
-    let p = get_or g.net.now.place.now i 0 in (
-      omega arith,
-      sym
-          (made (take g.net.now.places g.x.now) l.loop-s.a g.net.now.kind.now g.net.now.place.now g.net.now.weight.now i g.end t (get_or g.x.now p nan) c.times-b.result
-          (value_at g.net.now.places g.x.now p (l.requires.3 i l.loop-s.invariant.0 t)) c.times-b.ensures c.spent.result false
-          c.spent.ensures c.if-spent.false)
-          ∙ l.loop-s.invariant.1,
-    )
+    let n = c.args.net.now in
+    let i = c.loop-s.s in
+    let x = take n.places c.args.x.now in
+    elim c.if-net-s-eq-KINETIC_TAKE.branch [
+      then-net-s-eq-KINETIC_TAKE+else-a w ↦
+        let v = value_at n.places c.args.x.now (get_or n.place.now i 0) (c.requires.3 i c.loop-s.auto.s c.loop-s-test.true) in
+        let f = factor x c.loop-s.a n.kind.now n.place.now n.weight.now i c.args.end c.loop-s-test.true w.if-net-s-eq-KINETIC_TAKE.true _ _ v w.times-a.ensures false w.if-a.false in
+        cc
+    | else-net-s-eq-KINETIC_TAKE w ↦
+        let f = no_factor x c.loop-s.a n.kind.now n.place.now n.weight.now i c.args.end c.loop-s-test.true w.if-net-s-eq-KINETIC_TAKE.false in
+        cc
+    ]
 
 pub returns : goal.returns
 returns c =
-    let l = c in
-    let g = l.args in
-    factors_end (take g.net.now.places g.x.now) l.loop-s.a g.net.now.kind.now g.net.now.place.now g.net.now.weight.now l.loop-s.s g.end c.loop-s-test.false ∙ l.loop-s.invariant.1
+    let n = c.args.net.now in
+    factors_end (take n.places c.args.x.now) c.loop-s.a n.kind.now n.place.now n.weight.now c.loop-s.s c.args.end c.loop-s-test.false ∙ c.loop-s.invariant

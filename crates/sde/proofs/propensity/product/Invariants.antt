@@ -1,14 +1,10 @@
 -- The factors that are left, on top of a, come to the whole. Assumes nothing.
-use lib.ListN.{take}
+use Rattle.std.proofs.Common.{◌≡◌, ℕ, ◌-◌, ◌≤◌, take}
 use Rattle.net.specs.Readable.{slots}
 use Rattle.sde.proofs.Factors.{left}
-use mathlib.Core.Path.{◌≡◌}
-use Prim.Native.Nat.{◌-◌, ◌≤◌}
 use Rattle.sde.proofs.propensity.product.Given as goal
 
 abbrev pub invariant-loop-s : goal.invariant-loop-s
 invariant-loop-s l =
-    (l.from ≤ l.s) × (left (take l.net.places l.x) l.a (slots l.net.kind.now l.net.place.now l.net.weight.now l.s (l.end - l.s)) ≡ left (take l.net.places l.x) l.rate (slots l.net.kind.now l.net.place.now l.net.weight.now l.from (l.end - l.from)))
-
-abbrev pub decreases-loop-s : goal.decreases-loop-s
-decreases-loop-s l = l.end - l.s
+    left (take l.net.places l.x) l.a (slots l.net.kind.now l.net.place.now l.net.weight.now l.s (l.end - l.s))
+    ≡ left (take l.net.places l.x) l.rate (slots l.net.kind.now l.net.place.now l.net.weight.now l.from (l.end - l.from))

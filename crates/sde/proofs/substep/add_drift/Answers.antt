@@ -1,33 +1,19 @@
 -- The state below p has its drift. Assumes nothing.
-use lib.ListN.{get_or}
+use Rattle.std.proofs.Common.{ℕ, get_or, arith}
 use lib.Ieee.{Float, nan, binary64, add}
 use Rattle.sde.specs.Diffusion.{above_zero}
 use Rattle.sde.proofs.Each.{map_none, map_more, map_all}
-use native.Mathlib.Omega.{arith}
-use Prim.Native.Nat.{ℕ}
 use Rattle.sde.proofs.substep.add_drift.Goals as goal
 
 pub loop-p-init : goal.loop-p-init
-loop-p-init c = (omega arith, map_none _ _)
-
-pub offset_bounds-x-p-in-loop-p : goal.offset_bounds-x-p-in-loop-p
-offset_bounds-x-p-in-loop-p c = omega (arith, c.loop-p.invariant.1.long, c.requires.1, c.requires.0)
-
-pub bounds-x-p-in-loop-p : goal.bounds-x-p-in-loop-p
-bounds-x-p-in-loop-p c = omega (arith, c.loop-p.invariant.1.long, c.requires.1, c.requires.0)
+loop-p-init c = map_none _ _
 
 pub loop-p-preserved : goal.loop-p-preserved
 loop-p-preserved c =
-    let l = c in
-    let s = l in (
-      omega arith,
-      map_more (λ (q : ℕ) (v : Float). above_zero (add binary64 v (get_or s.args.drift.now q nan))) l.loop-p.p s.args.x.now l.loop-p.x c.after_drift-v.result
-          (omega (arith, l.loop-p.invariant.1.long, s.requires.1, s.requires.0)) c.after_drift-v.ensures l.loop-p.invariant.1,
-    )
+    map_more (λ (q : ℕ) (v : Float). above_zero (add binary64 v (get_or c.args.drift.now q nan))) c.loop-p.p c.args.x.now c.loop-p.x c.above_zero.result
+    (omega (arith, c.loop-p.invariant.long)) c.above_zero.ensures c.loop-p.invariant
 
 pub returns : goal.returns
 returns c =
-    let l = c in
-    let s = l in
-    map_all (λ (q : ℕ) (v : Float). above_zero (add binary64 v (get_or s.args.drift.now q nan))) s.args.places l.loop-p.p s.args.x.now l.loop-p.x s.requires.1 s.requires.0
-    c.loop-p-test.false l.loop-p.invariant.0 l.loop-p.invariant.1
+    map_all (λ (q : ℕ) (v : Float). above_zero (add binary64 v (get_or c.args.drift.now q nan))) c.args.places c.loop-p.p c.args.x.now c.loop-p.x (omega arith) c.requires
+    c.loop-p-test.false c.loop-p.auto.p-end c.loop-p.invariant

@@ -1,77 +1,72 @@
 -- State and drift below p have the transition's noise and drift: a skip steps over places that both leave as they are, to one that is changed.
 -- Assumes nothing.
-use lib.ListN.{get_or, set}
+use Rattle.std.proofs.Common.{◌≡◌, ◌+◌, ◌*◌, length, get_or, set, arith, refl, subst}
 use lib.Ieee.{nan, binary64, add, mul}
+use Rattle.sde.specs.Slots.{Skip}
 use Rattle.sde.proofs.Each.{map_none, map_more, map_all}
-use Rattle.sde.proofs.Skips.{skips_first, map_skip, noise_idle, drift_idle, noise_changed, drift_changed}
-use native.Mathlib.Omega.{arith}
-use Prim.Native.Nat.{◌+◌, ◌*◌}
+use Rattle.sde.proofs.Skips.{skips_of, skips_first, map_skip, noise_idle, drift_idle, noise_changed, drift_changed}
 use Rattle.sde.proofs.substep.spread.Invariants.{noisy, drifting}
 use Rattle.sde.proofs.substep.spread.Goals as goal
 
 pub loop-p-init : goal.loop-p-init
 loop-p-init c =
-    let s = c in
-    let g = s.args in
-    let k = skips_first g.places g.j g.changes.now g.skips.now s.requires.3 in (
-      k.high (omega arith),
-      map_skip (noisy g.changes.now g.j g.noise) 0 (get_or g.skips.now (33 * g.j) 0) g.x.now g.x.now k.low
-          (λ r l h v. noise_idle (get_or g.changes.now (32 * g.j + r) nan) g.noise v (k.idle r l h)) (map_none _ _),
-      map_skip (drifting g.changes.now g.j g.a g.dt) 0 (get_or g.skips.now (33 * g.j) 0) g.drift.now g.drift.now k.low
-          (λ r l h v. drift_idle (get_or g.changes.now (32 * g.j + r) nan) g.a g.dt v (k.idle r l h)) (map_none _ _),
-      k.changed,
-    )
-
-pub offset_bounds-x-p-in-loop-p : goal.offset_bounds-x-p-in-loop-p
-offset_bounds-x-p-in-loop-p c = omega (arith, c.loop-p.invariant.1.long, c.requires.2.of_x, c.requires.1)
-
-pub bounds-x-p-in-loop-p : goal.bounds-x-p-in-loop-p
-bounds-x-p-in-loop-p c = omega (arith, c.loop-p.invariant.1.long, c.requires.2.of_x, c.requires.1)
-
-pub offset_bounds-drift-p-in-loop-p : goal.offset_bounds-drift-p-in-loop-p
-offset_bounds-drift-p-in-loop-p c = omega (arith, c.loop-p.invariant.2.long, c.requires.2.of_drift, c.requires.1)
-
-pub bounds-drift-p-in-loop-p : goal.bounds-drift-p-in-loop-p
-bounds-drift-p-in-loop-p c = omega (arith, c.loop-p.invariant.2.long, c.requires.2.of_drift, c.requires.1)
+    let r = c.args.run.now in
+    let j = c.args.j in
+    let n = r.net.places in
+    let k = skips_first n j r.changes.now r.skips.now (skips_of n j r.changes.now r.skips.now r.net.transitions c.requires r.ready.sound.places r.ready.prepared.of_skips) in
+    record {
+      within = k.high (omega arith);
+      noised = map_skip (noisy r.changes.now j c.args.noise) 0 (get_or r.skips.now (33 * j) 0) c.args.state.now.x c.args.state.now.x k.low
+          (λ q l h v. noise_idle (get_or r.changes.now (32 * j + q) nan) c.args.noise v (k.idle q l h)) (map_none _ _);
+      drifted = map_skip (drifting r.changes.now j c.args.a r.dt) 0 (get_or r.skips.now (33 * j) 0) c.args.state.now.drift c.args.state.now.drift k.low
+          (λ q l h v. drift_idle (get_or r.changes.now (32 * j + q) nan) c.args.a r.dt v (k.idle q l h)) (map_none _ _);
+      changed = k.changed;
+      sampler = refl;
+    }
 
 pub loop-p-smaller : goal.loop-p-smaller
 loop-p-smaller c =
-    let l = c in
-    let s = l in
+    let r = c.args.run.now in
+    let j = c.args.j in
+    let n = r.net.places in
     let t = c.loop-p-test.true in
-    omega (arith, t, (s.requires.3 (l.loop-p.p + 1) (omega (arith, t))).low)
+    let k = skips_of n j r.changes.now r.skips.now r.net.transitions c.requires r.ready.sound.places r.ready.prepared.of_skips (c.loop-p.p + 1) (omega (arith, t)) in
+    let e : 33 * j + (c.loop-p.p + 1) ≡ 33 * j + c.loop-p.p + 1 = omega arith in
+    omega (arith, t, (rw e at k).low)
 
 pub loop-p-preserved : goal.loop-p-preserved
 loop-p-preserved c =
-    let l = c in
-    let s = l in
-    let g = s.args in
-    let p = l.loop-p.p + 1 in
+    let r = c.args.run.now in
+    let j = c.args.j in
+    let n = r.net.places in
+    let i = c.loop-p.p in
     let t = c.loop-p-test.true in
-    let k = s.requires.3 p (omega (arith, t)) in
-    let q = get_or g.skips.now (33 * g.j + p) 0 in
-    let d = get_or g.changes.now (32 * g.j + l.loop-p.p) nan in
-    let u = get_or l.loop-p.x l.loop-p.p nan in
-    let w = get_or l.loop-p.drift l.loop-p.p nan in (
-      k.high (omega (arith, t)),
-      map_skip (noisy g.changes.now g.j g.noise) p q g.x.now (set l.loop-p.x l.loop-p.p (add binary64 u (mul binary64 d g.noise))) k.low
-          (λ r b h v. noise_idle (get_or g.changes.now (32 * g.j + r) nan) g.noise v (k.idle r b h))
-          (map_more (noisy g.changes.now g.j g.noise) l.loop-p.p g.x.now l.loop-p.x (add binary64 u (mul binary64 d g.noise))
-          (omega (arith, l.loop-p.invariant.1.long, s.requires.2.of_x, s.requires.1)) (noise_changed d g.noise u (l.loop-p.invariant.3 t)) l.loop-p.invariant.1),
-      map_skip (drifting g.changes.now g.j g.a g.dt) p q g.drift.now (set l.loop-p.drift l.loop-p.p (add binary64 w (mul binary64 (mul binary64 d g.a) g.dt))) k.low
-          (λ r b h v. drift_idle (get_or g.changes.now (32 * g.j + r) nan) g.a g.dt v (k.idle r b h))
-          (map_more (drifting g.changes.now g.j g.a g.dt) l.loop-p.p g.drift.now l.loop-p.drift (add binary64 w (mul binary64 (mul binary64 d g.a) g.dt))
-          (omega (arith, l.loop-p.invariant.2.long, s.requires.2.of_drift, s.requires.1)) (drift_changed d g.a g.dt w (l.loop-p.invariant.3 t)) l.loop-p.invariant.2),
-      k.changed,
-    )
+    let m = c.loop-p.invariant in
+    let e : 33 * j + (i + 1) ≡ 33 * j + i + 1 = omega arith in
+    let k = rw e at (skips_of n j r.changes.now r.skips.now r.net.transitions c.requires r.ready.sound.places r.ready.prepared.of_skips (i + 1) (omega (arith, t))) in
+    let q = get_or r.skips.now (33 * j + i + 1) 0 in
+    let d = get_or r.changes.now (32 * j + i) nan in
+    let u = get_or c.loop-p.state.x i nan in
+    let w = get_or c.loop-p.state.drift i nan in
+    record {
+      within = k.high (omega (arith, t));
+      noised = map_skip (noisy r.changes.now j c.args.noise) (i + 1) q c.args.state.now.x (set c.loop-p.state.x i (add binary64 u (mul binary64 d c.args.noise))) k.low
+          (λ q l h v. noise_idle (get_or r.changes.now (32 * j + q) nan) c.args.noise v (k.idle q l h))
+          (map_more (noisy r.changes.now j c.args.noise) i c.args.state.now.x c.loop-p.state.x (add binary64 u (mul binary64 d c.args.noise))
+          (omega (arith, m.noised.long)) (noise_changed d c.args.noise u (m.changed t)) m.noised);
+      drifted = map_skip (drifting r.changes.now j c.args.a r.dt) (i + 1) q c.args.state.now.drift (set c.loop-p.state.drift i (add binary64 w (mul binary64 (mul binary64 d c.args.a) r.dt))) k.low
+          (λ q l h v. drift_idle (get_or r.changes.now (32 * j + q) nan) c.args.a r.dt v (k.idle q l h))
+          (map_more (drifting r.changes.now j c.args.a r.dt) i c.args.state.now.drift c.loop-p.state.drift (add binary64 w (mul binary64 (mul binary64 d c.args.a) r.dt))
+          (omega (arith, m.drifted.long)) (drift_changed d c.args.a r.dt w (m.changed t)) m.drifted);
+      changed = k.changed;
+      sampler = m.sampler;
+    }
 
 pub returns : goal.returns
 returns c =
-    let l = c in
-    let s = l in
-    let g = s.args in (
-      map_all (noisy g.changes.now g.j g.noise) g.places l.loop-p.p g.x.now l.loop-p.x s.requires.2.of_x s.requires.1 c.loop-p-test.false
-          l.loop-p.invariant.0 l.loop-p.invariant.1,
-      map_all (drifting g.changes.now g.j g.a g.dt) g.places l.loop-p.p g.drift.now l.loop-p.drift s.requires.2.of_drift s.requires.1 c.loop-p-test.false
-          l.loop-p.invariant.0 l.loop-p.invariant.2,
+    let r = c.args.run.now in
+    let m = c.loop-p.invariant in (
+      map_all (noisy r.changes.now c.args.j c.args.noise) r.net.places c.loop-p.p c.args.state.now.x c.loop-p.state.x (omega arith) r.ready.sound.places c.loop-p-test.false m.within m.noised,
+      map_all (drifting r.changes.now c.args.j c.args.a r.dt) r.net.places c.loop-p.p c.args.state.now.drift c.loop-p.state.drift (omega arith) r.ready.sound.places c.loop-p-test.false m.within m.drifted,
+      m.sampler,
     )

@@ -1,14 +1,10 @@
 -- State and drift below p have the transition's noise and drift: a skip steps over places that both leave as they are, to one that is changed.
 -- Assumes nothing.
-use lib.ListN.{get_or}
+use Rattle.std.proofs.Common.{◌≡◌, ℕ, ◌+◌, ◌-◌, ◌*◌, ◌≤◌, ◌<◌, false, List, get_or}
 use lib.Ieee.{Float, nan, eq}
-use mathlib.Core.Path.{◌≡◌}
-use mathlib.Core.Bool.{false}
-use mathlib.Core.List.{List}
 use Rattle.net.specs.Net.{zero64}
 use Rattle.sde.specs.Diffusion.{noise_by, drift_by}
 use Rattle.sde.proofs.Each.{MapTo}
-use Prim.Native.Nat.{ℕ, ◌+◌, ◌-◌, ◌*◌, ◌≤◌, ◌<◌}
 use Rattle.sde.proofs.substep.spread.Given as goal
 
 abbrev pub noisy : List Float → ℕ → Float → ℕ → Float → Float
@@ -18,9 +14,13 @@ abbrev pub drifting : List Float → ℕ → Float → Float → ℕ → Float �
 drifting changes j a dt p = drift_by (get_or changes (32 * j + p) nan) a dt
 
 abbrev pub invariant-loop-p : goal.invariant-loop-p
-invariant-loop-p l =
-    (l.p ≤ l.places) × MapTo (noisy l.changes l.j l.noise) l.p l.initial.x l.x × MapTo (drifting l.changes l.j l.a l.dt) l.p l.initial.drift l.drift
-    × (l.p < l.places → eq (get_or l.changes (32 * l.j + l.p) nan) zero64 ≡ false)
+invariant-loop-p l = record {
+  within : l.p ≤ l.run.net.places;
+  noised : MapTo (noisy l.run.changes.now l.j l.noise) l.p l.initial.state.x l.state.x;
+  drifted : MapTo (drifting l.run.changes.now l.j l.a l.run.dt) l.p l.initial.state.drift l.state.drift;
+  changed : l.p < l.run.net.places → eq (get_or l.run.changes.now (32 * l.j + l.p) nan) zero64 ≡ false;
+  sampler : l.state.sampler ≡ l.initial.state.sampler;
+}
 
 abbrev pub decreases-loop-p : goal.decreases-loop-p
-decreases-loop-p l = l.places - l.p
+decreases-loop-p l = l.run.net.places - l.p

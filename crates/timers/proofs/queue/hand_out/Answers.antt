@@ -1,32 +1,21 @@
 -- The first i places of the queue hold the first i timers.
-use borrow.Author.Rules.{rules}
 use native.Mathlib.Omega.{arith}
 use Prim.Native.Nat.{min}
-use Rattle.timers.specs.Turning.{timer_of, held, running}
-use Rattle.timers.proofs.Queues.{queued_none, queued_more, queued_all}
+use Rattle.timers.specs.Turning.{held, running}
+use Rattle.timers.proofs.Queues.{queued_none, queued_all}
 use Rattle.timers.proofs.queue.hand_out.Goals as goal
 
 pub loop-i-init : goal.loop-i-init
-loop-i-init c = (search rules, queued_none _ _)
-
-pub loop-i-preserved : goal.loop-i-preserved
-loop-i-preserved c =
-    let l = c.loop-i in
-    let n = c.capped-n in
-    let s = c in (
-      omega arith,
-      queued_more (held s.args.ats.now s.args.owners.now) s.args.ring.start l.i l.times l.whos l.takens
-          (timer_of c.read-x.result) (omega (arith, n.ensures)) l.invariant.1 c.slot.ensures c.read-x.ensures,
-    )
+loop-i-init c = queued_none _ _
 
 pub returns : goal.returns
 returns c =
     let l = c.loop-i in
     let n = c.capped-n in
-    let s = c in
+    let a = c.args in
     record {
-      list = queued_all (held s.args.ats.now s.args.owners.now) s.args.ring.start l.i (running s.args.ring) (min n.result 256)
-          l.times l.whos l.takens (omega arith) (omega arith) (omega arith) l.invariant.1;
+      list = queued_all (held a.ats.now a.owners.now) a.ring.start l.i (running a.ring) (min n.result 256)
+          l.times l.whos l.takens (omega arith) (omega arith) (omega arith) l.invariant;
       long = n.ensures;
-      beyond = λ k h u. l.invariant.1.beyond k (omega arith) u;
+      beyond = λ k h u. l.invariant.beyond k (omega arith) u;
     }

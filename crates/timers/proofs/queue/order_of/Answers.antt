@@ -1,5 +1,4 @@
 -- What is left, read from the last time passed, is in order exactly where the whole is.
-use borrow.Author.Rules.{rules}
 use native.Mathlib.Omega.{arith}
 use mathlib.Core.Path.{sym, ap, ◌∙◌}
 use mathlib.Core.Bool.{Bool}
@@ -7,7 +6,7 @@ use Prim.{tt}
 use lib.Ieee.{nan_bits, of_bits}
 use Rattle.net.specs.Net.{pick}
 use Rattle.timers.specs.Turning.{held}
-use Rattle.timers.proofs.Queues.{rises_start, rises_step, rises_stop, rises_end}
+use Rattle.timers.proofs.Queues.{rises_start, rises_step, rises_stop}
 use Rattle.timers.proofs.queue.order_of.Goals as goal
 
 pub float_from_bits-last : goal.float_from_bits-last
@@ -16,28 +15,16 @@ float_from_bits-last c = tt
 
 pub loop-i-init : goal.loop-i-init
 unfolding of_bits
-loop-i-init c = (search rules, λ owners. rises_start (held c.args.ats.now owners) c.args.n)
+loop-i-init c = λ owners. rises_start (held c.args.ats.now owners) c.args.n
 
 pub loop-i-preserved : goal.loop-i-preserved
 loop-i-preserved c =
     let l = c.loop-i in
-    let s = c in (
-      omega arith,
-      λ owners. l.invariant.1 owners ∙ rises_step (held s.args.ats.now owners) s.args.n l.i l.last s.requires (omega arith) c.if-last-at.true,
-    )
+    λ owners. l.invariant owners ∙ rises_step (held c.args.ats.now owners) c.args.n l.i l.last c.requires (omega arith) c.if-last-at.true
 
 pub returns-else-last-at : goal.returns-else-last-at
 returns-else-last-at c =
     let l = c.loop-i in
-    let s = c in
     λ owners.
-    let stop = l.invariant.1 owners ∙ rises_stop (held s.args.ats.now owners) s.args.n l.i l.last s.requires (omega arith) c.if-last-at.false in
+    let stop = l.invariant owners ∙ rises_stop (held c.args.ats.now owners) c.args.n l.i l.last c.requires (omega arith) c.if-last-at.false in
     sym (ap (λ (b : Bool). pick b 1 0) stop)
-
-pub returns : goal.returns
-returns c =
-    let l = c.loop-i in
-    let s = c in
-    λ owners.
-    let end = l.invariant.1 owners ∙ rises_end (held s.args.ats.now owners) s.args.n l.i l.last (omega arith) in
-    sym (ap (λ (b : Bool). pick b 1 0) end)

@@ -5,7 +5,4 @@ use Rattle.timers.specs.Slots.{MovedUp}
 use Rattle.timers.proofs.slots.make_room.Given as goal
 
 abbrev pub invariant-loop-k : goal.invariant-loop-k
-invariant-loop-k l = (l.i ≤ l.k) × (l.k ≤ l.n) × MovedUp l.start (l.start + l.k) (l.start + l.n) (held l.initial.ats l.initial.owners) (held l.ats l.owners)
-
-abbrev pub decreases-loop-k : goal.decreases-loop-k
-decreases-loop-k l = l.k
+invariant-loop-k l = (l.i ≤ l.k) × MovedUp l.start (l.start + l.k) (l.start + l.n) (held l.initial.ats l.initial.owners) (held l.ats l.owners)
