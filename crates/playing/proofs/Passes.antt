@@ -18,9 +18,7 @@ use Rattle.rules.specs.Enabled.{enabled}
 use Rattle.rules.specs.Timers.{Timer, timer_of, insert}
 use Rattle.rules.specs.Moves.{taking}
 use Rattle.rules.specs.Step.{Answer, refused, given, Starts, preceded, pass, nobody, unless_none, passes}
-use Rattle.timers.specs.declared.Ring.{Ring}
-use Rattle.playing.specs.declared.starts.Started.{Started}
-use Rattle.playing.specs.Starts.{StartsAre, full, done}
+use Rattle.playing.specs.Starts.{Begun, Full}
 
 -- these starts, and the counts and timers that they leave
 abbrev pub left : List ℕ → Marking → List Timer → Answer Starts
@@ -74,55 +72,48 @@ so_none whole rest e = record { who = []; so = sym (preceded_none rest ∙ e); n
 
 module _ {whole rest : Answer Starts} {any : Bool} (s : SoFar whole rest any) where
   -- nobody else starts
-  pub so_ended : (who : List ℕ) (m : Marking) (q : List Timer) (k : Ring) (moved crossed : ℕ) → rest ≡ left who m q → nobody who ≡ true
-      → StartsAre whole m q (record { timers = k; any = any; full = false; moved = moved; crossed = crossed })
-  so_ended who m q k moved crossed e quiet =
-      done (s.who ++ who) refl (s.so ∙ ap (preceded s.who) e)
-      (nobody_append s.who who ∙ neither (nobody s.who) (nobody who) any false s.none quiet ∙ ap not (or_false any))
+  pub so_ended : (who : List ℕ) (m : Marking) (q : List Timer) → rest ≡ left who m q → nobody who ≡ true → Begun whole m q any
+  so_ended who m q e quiet =
+      record {
+        who = s.who ++ who;
+        is = s.so ∙ ap (preceded s.who) e;
+        none = nobody_append s.who who ∙ neither (nobody s.who) (nobody who) any false s.none quiet ∙ ap not (or_false any);
+      }
 
-  module _ {one : Answer Starts} {m : Marking} {q : List Timer} {r : Started} where
-    -- there is no room for another timer
-    so_full : (again : Answer Starts → Answer Starts) (m' : Marking) (q' : List Timer) → StartsAre one m q r → rest ≡ again one
-        → again (refused Refusal.too_many_timers) ≡ refused Refusal.too_many_timers → r.full ≡ true → StartsAre whole m' q' r
-    so_full again m' q' (full f p) e id y = full y (s.so ∙ ap (preceded s.who) (e ∙ ap again p ∙ id))
-    so_full again m' q' (done who f p quiet) e id y = absurd (true≢false (sym y ∙ f))
+  -- there is no room for another timer
+  module _ {one : Answer Starts} (full : Full one) (further : Marking → List Timer → Answer Starts) where
+    pub turn_full : rest ≡ onward further one → Full whole
+    turn_full e = s.so ∙ ap (preceded s.who) (e ∙ ap (onward further) full)
 
-    module _ (further : Marking → List Timer → Answer Starts) where
-      pub turn_full : (m' : Marking) (q' : List Timer) → StartsAre one m q r → rest ≡ onward further one → r.full ≡ true → StartsAre whole m' q' r
-      turn_full m' q' is e y = so_full (onward further) m' q' is e refl y
+    pub again_full : rest ≡ unless_none further one → Full whole
+    again_full e = s.so ∙ ap (preceded s.who) (e ∙ ap (unless_none further) full)
 
-      pub again_full : (m' : Marking) (q' : List Timer) → StartsAre one m q r → rest ≡ unless_none further one → r.full ≡ true → StartsAre whole m' q' r
-      again_full m' q' is e y = so_full (unless_none further) m' q' is e refl y
+  module _ {one : Answer Starts} {m : Marking} {q : List Timer} {more : Bool} (b : Begun one m q more) (further : Marking → List Timer → Answer Starts) where
+    -- a transition more
+    pub turned : rest ≡ onward further one → SoFar whole (further m q) (any || more)
+    turned e =
+        record {
+          who = s.who ++ b.who;
+          so = s.so ∙ ap (preceded s.who) (e ∙ ap (onward further) b.is) ∙ sym (preceded_append s.who b.who (further m q));
+          none = nobody_append s.who b.who ∙ neither (nobody s.who) (nobody b.who) any more s.none b.none;
+        }
 
-      -- a transition more
-      pub turned : StartsAre one m q r → rest ≡ onward further one → r.full ≡ false → SoFar whole (further m q) (any || r.any)
-      turned (full f p) e n = absurd (true≢false (sym f ∙ n))
-      turned (done who f p quiet) e n =
-          record {
-            who = s.who ++ who;
-            so = s.so ∙ ap (preceded s.who) (e ∙ ap (onward further) p) ∙ sym (preceded_append s.who who (further m q));
-            none = nobody_append s.who who ∙ neither (nobody s.who) (nobody who) any r.any s.none quiet;
-          }
+    -- a pass in which one starts is followed by another
+    pub again_turned : rest ≡ unless_none further one → more ≡ true → SoFar whole (further m q) true
+    again_turned e y =
+        let some : nobody b.who ≡ false = b.none ∙ ap not y in
+        let next : rest ≡ preceded b.who (further m q) = e ∙ ap (unless_none further) b.is ∙ rw some in
+        record {
+          who = s.who ++ b.who;
+          so = s.so ∙ ap (preceded s.who) next ∙ sym (preceded_append s.who b.who (further m q));
+          none = nobody_append s.who b.who ∙ neither (nobody s.who) (nobody b.who) any true s.none some ∙ ap not (or_true any);
+        }
 
-      -- a pass in which one starts is followed by another
-      pub again_turned : StartsAre one m q r → rest ≡ unless_none further one → r.full ≡ false → r.any ≡ true → SoFar whole (further m q) true
-      again_turned (full f p) e n y = absurd (true≢false (sym f ∙ n))
-      again_turned (done who f p quiet) e n y =
-          let some : nobody who ≡ false = quiet ∙ ap not y in
-          let next : rest ≡ preceded who (further m q) = e ∙ ap (unless_none further) p ∙ rw some in
-          record {
-            who = s.who ++ who;
-            so = s.so ∙ ap (preceded s.who) next ∙ sym (preceded_append s.who who (further m q));
-            none = nobody_append s.who who ∙ neither (nobody s.who) (nobody who) any true s.none some ∙ ap not (or_true any);
-          }
-
-      -- one in which none starts is the last
-      pub again_ended : (k : Ring) (moved crossed : ℕ) → StartsAre one m q r → rest ≡ unless_none further one → r.full ≡ false → r.any ≡ false
-          → StartsAre whole m q (record { timers = k; any = any; full = false; moved = moved; crossed = crossed })
-      again_ended k moved crossed (full f p) e n y = absurd (true≢false (sym f ∙ n))
-      again_ended k moved crossed (done who f p quiet) e n y =
-          let none : nobody who ≡ true = quiet ∙ ap not y in
-          so_ended who m q k moved crossed (e ∙ ap (unless_none further) p ∙ rw none) none
+    -- one in which none starts is the last
+    pub again_ended : rest ≡ unless_none further one → more ≡ false → Begun whole m q any
+    again_ended e y =
+        let none : nobody b.who ≡ true = b.none ∙ ap not y in
+        so_ended b.who m q (e ∙ ap (unless_none further) b.is ∙ rw none) none
 
 -- ---- one transition
 
@@ -144,12 +135,13 @@ module _ (room : ℕ) (n : Net) (t : Float) (j : ℕ) (x : Transition) (m : Mark
   pub try_disabled : enabled n m x ≡ false → pass room n t j (x ∷ []) m q ≡ left [] m q
   try_disabled e = try_is false (ltb (length q) room) (and_off (timed x) (enabled n m x) e) refl
 
-  -- whether its timer is taken decides
-  pub try_on : (m' : Marking) (q' : List Timer) (k : Ring) (b : Bool) (moved crossed : ℕ) → timed x ≡ true → enabled n m x ≡ true → b ≡ ltb (length q) room
-      → m' ≡ taking m x.takes → (b ≡ true → q' ≡ with_timer t j x q)
-      → StartsAre (pass room n t j (x ∷ []) m q) m' q' (record { timers = k; any = b; full = not b; moved = moved; crossed = crossed })
-  try_on m' q' k true moved crossed d e h f g = done (j ∷ []) refl (rw (f, g refl) (try_is true true (rw (d, e)) (sym h))) refl
-  try_on m' q' k false moved crossed d e h f g = full refl (try_is true false (rw (d, e)) (sym h))
+  -- whether there is room for its timer decides
+  pub try_started : (m' : Marking) (q' : List Timer) → timed x ≡ true → enabled n m x ≡ true → ltb (length q) room ≡ true
+      → m' ≡ taking m x.takes → q' ≡ with_timer t j x q → Begun (pass room n t j (x ∷ []) m q) m' q' true
+  try_started m' q' d e h f g = record { who = j ∷ []; is = rw (f, g) (try_is true true (rw (d, e)) h); none = refl }
+
+  pub try_full : timed x ≡ true → enabled n m x ≡ true → ltb (length q) room ≡ false → Full (pass room n t j (x ∷ []) m q)
+  try_full d e h = try_is true false (rw (d, e)) h
 
   -- a pass that begins with it
   pass_next : (xs : List Transition) → pass room n t j (x ∷ xs) m q ≡ onward (pass room n t (suc j) xs) (pass room n t j (x ∷ []) m q)

@@ -24,8 +24,7 @@ use Rattle.engine.specs.Guards.{Quiet}
 use Rattle.engine.specs.Traits.{Marks}
 use Rattle.kept.specs.Kept.{AllShut}
 use Rattle.playing.specs.Keeping.{ShutBut}
-use Rattle.playing.specs.Starts.{StartsAre, full, done}
-use Rattle.playing.specs.declared.starts.Started.{Started}
+use Rattle.playing.specs.Starts.{Begun}
 use Rattle.engine.proofs.Sides.{transition_at}
 use Rattle.playing.proofs.Passes.{Off}
 
@@ -112,8 +111,6 @@ module _ (room : ℕ) (n : Net) (t : Float) where
       second true b e d = e
       second false b e d = absurd (true≢false (sym d))
 
-pub starts_shut : (room : ℕ) (n : Net) (before : State) → length before.timers ≤ room → {m : Marking} {q : List Timer} {r : Started} → StartsAre (starts room n before) m q r
-    → r.full ≡ false → AllShut n m
-starts_shut room n before few (full a e) h = absurd (true≢false (sym a ∙ h))
-starts_shut room n before few {m} {q} (done who a e b) h =
-    all_shut room n before.clock m q (starts_done room n before few (record { who = who; counts = m; timers = q }) e)
+pub starts_shut : (room : ℕ) (n : Net) (before : State) → length before.timers ≤ room → {m : Marking} {q : List Timer} {any : Bool} → Begun (starts room n before) m q any → AllShut n m
+starts_shut room n before few {m} {q} b =
+    all_shut room n before.clock m q (starts_done room n before few (record { who = b.who; counts = m; timers = q }) b.is)

@@ -28,17 +28,16 @@ use Rattle.rules.proofs.Allowing.{StepGood, step_good}
 use Rattle.rules.proofs.Peaks.{sets_tokens}
 use Rattle.rules.proofs.Detours.{still_same, not_drawn}
 use Rattle.playing.specs.declared.firing.Change.{Change}
-use Rattle.playing.specs.declared.starts.Started.{Started}
 use Rattle.playing.specs.declared.step.Ending.TheVariants.{GoesOn, Reached, Refused}
 use Rattle.playing.specs.declared.step.Due.{Due}
-use Rattle.playing.specs.declared.step.Due.TheVariants.{Nothing, Event as Follows, Full}
+use Rattle.playing.specs.declared.step.Due.TheVariants.{Nothing, Event as Follows}
 use Rattle.jump.specs.Answers.{Told}
 use Rattle.timers.specs.declared.Timer.{Timer as TimerStruct}
 use Rattle.timers.specs.declared.Ring.{Ring}
 use Rattle.timers.specs.Turning.{running, timers_of, timer_of}
 use Rattle.timers.proofs.Rings.{length_timers}
 use Rattle.engine.specs.Engine.{Tidy, marking, Counts, PutBy, Totalled}
-use Rattle.playing.specs.Starts.{StartsAre, full, done}
+use Rattle.playing.specs.Starts.{Begun, Full as NoRoom}
 use Rattle.playing.specs.Stepping as Stepping
 use Rattle.playing.specs.Stepping.{state_of, tokens_of, event_of, AdvancedBy, EventBy, ChangedBy, happens, too_large, StepBy}
 use Rattle.engine.proofs.Marks.{fit_all}
@@ -209,25 +208,26 @@ pub record Going (room : ℕ) (n : NetRecord) (before : State) (counts : List �
   pub is : step room (readable n) before ≡ given (go_on (readable n) rounded who (state_of n counts ats owners ring before.clock ws) a0 (take n.transitions props) x)
   pub same : x ≡ nothing_left → state_of n counts ats owners ring before.clock ws ≡ before
 
-module _ (room : ℕ) (n : NetRecord) (before : State) (counts : List ℕ) (ats : List Float) (owners : List ℕ) (r : Started)
-    (s : StartsAre (starts room (readable n) before) (marking n.places counts) (timers_of ats owners r.timers) r) where
-  pub advance_full : r.full ≡ true → (u : State) (props : List Float) (a0 : Float) (rounded b : Bool) → AdvancedBy n (step room (readable n) before) before u props a0 rounded b Full
-  advance_full h u props a0 rounded b = Stepping.full (ap (after_starts (readable n) before) (go s))
-    where
-      go : StartsAre (starts room (readable n) before) (marking n.places counts) (timers_of ats owners r.timers) r → starts room (readable n) before ≡ refused Refusal.too_many_timers
-      go (full a e) = e
-      go (done who a e b) = absurd (true≢false (sym h ∙ a))
-
-  pub going : r.full ≡ false → length before.timers ≤ room → (props : List Float) (a0 : Float) (rounded : Bool) → Totalled n counts props a0 → rounded ≡ adds_rounded (readable n) (marking n.places counts) → (dt : Float) (ws : List ℕ)
-      → dt ≡ waiting a0 before.generator → words ws ≡ drawn_for a0 before.generator → (x : Next) → x ≡ next a0 before.clock dt (timers_of ats owners r.timers)
-      → Going room n before counts ats owners r.timers props a0 rounded ws x
-  going h few props a0 rounded all adds dt ws wait draws x comes = go s
+module _ (room : ℕ) (n : NetRecord) (before : State) (counts : List ℕ) (ats : List Float) (owners : List ℕ) (ring : Ring) {any : Bool}
+    (s : Begun (starts room (readable n) before) (marking n.places counts) (timers_of ats owners ring) any) where
+  pub going : length before.timers ≤ room → (props : List Float) (a0 : Float) (rounded : Bool) → Totalled n counts props a0 → rounded ≡ adds_rounded (readable n) (marking n.places counts) → (dt : Float) (ws : List ℕ)
+      → dt ≡ waiting a0 before.generator → words ws ≡ drawn_for a0 before.generator → (x : Next) → x ≡ next a0 before.clock dt (timers_of ats owners ring)
+      → Going room n before counts ats owners ring props a0 rounded ws x
+  going few props a0 rounded all adds dt ws wait draws x comes =
+      record {
+        who = s.who;
+        is = ap (after_starts (readable n) before) s.is
+            ∙ ap given
+            (went (readable n) s.who before.clock m q before.generator ps (total ps) (adds_rounded (readable n) m) (take n.transitions props) a0
+            rounded dt (words ws) x all.each all.all adds wait draws comes);
+        same = as_before s.who s.is;
+      }
     where
       m : Marking
       m = marking n.places counts
 
       q : List Timer
-      q = timers_of ats owners r.timers
+      q = timers_of ats owners ring
 
       ps : List Float
       ps = propensities (readable n) m
@@ -241,17 +241,9 @@ module _ (room : ℕ) (n : NetRecord) (before : State) (counts : List ℕ) (ats 
           ∙ ap (λ (y : List Timer). state before.clock before.counts y (words ws)) (l.0 ∙ sym u.1)
           ∙ ap (λ (y : Generator). state before.clock before.counts before.timers y) (draws ∙ not_drawn a0 before.generator l.1)
 
-      go : StartsAre (starts room (readable n) before) m q r → Going room n before counts ats owners r.timers props a0 rounded ws x
-      go (full a e) = absurd (true≢false (sym a ∙ h))
-      go (done who a e b) =
-          record {
-            who = who;
-            is = ap (after_starts (readable n) before) e
-                ∙ ap given
-                (went (readable n) who before.clock m q before.generator ps (total ps) (adds_rounded (readable n) m) (take n.transitions props) a0
-                rounded dt (words ws) x all.each all.all adds wait draws comes);
-            same = as_before who e;
-          }
+-- where a timer could not start the step is refused
+pub advance_full : (room : ℕ) (n : NetRecord) (before : State) → NoRoom (starts room (readable n) before) → step room (readable n) before ≡ refused Refusal.too_many_timers
+advance_full room n before e = ap (after_starts (readable n) before) e
 
 module _ {room : ℕ} {n : NetRecord} {before : State} {counts : List ℕ} {ats : List Float} {owners : List ℕ} {ring : Ring} {props : List Float} {a0 : Float} {rounded : Bool} {ws : List ℕ}
     {x : Next} (w : Going room n before counts ats owners ring props a0 rounded ws x) where
@@ -281,18 +273,11 @@ pub record Sets (spec : Answer Step) (rounded : Bool) (u : State) (e : Answer Ev
   pub is : spec ≡ given (sets rounded who u e)
 
 module _ {n : NetRecord} {spec : Answer Step} {before u : State} {props : List Float} {a0 : Float} {rounded completes : Bool} where
-  pub if_full : {d : Due} → AdvancedBy n spec before u props a0 rounded completes d → d ≡ Full → spec ≡ refused Refusal.too_many_timers
-  if_full (Stepping.full h) e = h
-  if_full (Stepping.nothing h k) e = never (cc)
-  if_full (Stepping.event js h) e = never (cc)
-
   pub if_nothing : {d : Due} → AdvancedBy n spec before u props a0 rounded completes d → d ≡ Nothing → (spec ≡ given (still rounded)) × (u ≡ before)
-  if_nothing (Stepping.full h) e = never (cc)
   if_nothing (Stepping.nothing h k) e = (h, k)
   if_nothing (Stepping.event js h) e = never (cc)
 
   pub if_event : {d : Due} → AdvancedBy n spec before u props a0 rounded completes d → d ≡ Follows → Sets spec rounded u (event_of n u a0 props completes)
-  if_event (Stepping.full h) e = never (cc)
   if_event (Stepping.nothing h k) e = never (cc)
   if_event (Stepping.event js h) e = record { who = js; is = h }
 

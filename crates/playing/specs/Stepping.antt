@@ -22,7 +22,7 @@ use Rattle.playing.specs.declared.firing.Change.{Change}
 use Rattle.playing.specs.declared.step.Ending.{Ending}
 use Rattle.playing.specs.declared.step.Ending.TheVariants.{GoesOn, Quiet, Reached, Refused}
 use Rattle.playing.specs.declared.step.Due.{Due}
-use Rattle.playing.specs.declared.step.Due.TheVariants.{Nothing, Event as Follows, Full}
+use Rattle.playing.specs.declared.step.Due.TheVariants.{Nothing, Event as Follows}
 
 -- no timer took more than 16 arcs of 1,000,000 do
 abbrev pub Light : List Timer → Type 0
@@ -71,13 +71,16 @@ Topped room n last k s most =
 abbrev pub event_of : NetRecord → State → Float → List Float → Bool → Answer Event
 event_of n u a0 props completes = pick completes (Rule.complete (readable n) u) (Rule.raced (readable n) u a0 (take n.transitions props))
 
--- A step up to the clock reading that it sets: refused by 15, nothing left and the state as before, or an event that follows in the state u;
+-- A step up to the clock reading that it sets: nothing left and the state as before, or an event that follows in the state u;
 -- `rounded` says whether a0 adds a rounded propensity. The starts js leave no trace in the program.
 pub data AdvancedBy (n : NetRecord) (spec : Answer Step) (before u : State) (props : List Float) (a0 : Float) (rounded completes : Bool) : Due → Type 0 where
-  full : spec ≡ refused Refusal.too_many_timers → AdvancedBy n spec before u props a0 rounded completes Full
   nothing : spec ≡ given (still rounded) → u ≡ before → AdvancedBy n spec before u props a0 rounded completes Nothing
   event : (js : List ℕ) → spec ≡ given (sets rounded js u (event_of n u a0 props completes))
       → AdvancedBy n spec before u props a0 rounded completes Follows
+
+-- or refused by 15
+abbrev pub Unstarted : Answer Step → Type 0
+Unstarted spec = spec ≡ refused Refusal.too_many_timers
 
 -- the event that ends a step: it leaves the state u, with so many tokens, or a count would pass 2^53
 pub data EventBy (spec : Answer Event) (u : State) (many : ℕ) : Bool → Type 0 where

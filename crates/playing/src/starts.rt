@@ -1,5 +1,5 @@
 // The starts of delayed transitions, in passes.
-ghost use Rattle.std.specs.Prelude.{◌≡◌, true, false, [], ◌∷◌, ℕ, suc, ◌+◌, ◌^◌, ◌<◌, ◌≤◌, leb, ◌&&◌};
+ghost use Rattle.std.specs.Prelude.{◌≡◌, true, [], ◌∷◌, ℕ, suc, ◌+◌, ◌^◌, ◌<◌, ◌≤◌, leb, ◌&&◌, IfOk};
 ghost use Rattle.net.specs.Net.{timed as delayed};
 ghost use Rattle.net.specs.Readable as Record;
 ghost use Rattle.net.specs.Record.{net_of};
@@ -19,13 +19,12 @@ use kept::tables::Tables;
 use net::LentNet;
 use timers::{Ring, Timer};
 
-// The timers' ring now, whether a timer has started, and whether one could not since there was no room for it; and what the starts have changed, as two words
-// of transitions (engine, specs/Guards).
+// What starts leave: the timers' ring, whether a timer has started, and what the starts have changed, as two words of transitions (engine, specs/Guards). Where a
+// timer could not start, since there was no room for it, the ring is all that is answered, as an Err.
 #[derive(Clone, Copy)]
 pub struct Started {
     pub timers: Ring,
     pub any: bool,
-    pub full: bool,
     pub moved: u64,
     pub crossed: u64,
 }
@@ -43,16 +42,16 @@ fn try_start<'a>(
     ring: Ring,
     t: f64,
     j: usize,
-) -> Started
+) -> Result<Started, Ring>
     requires { let net = net_of net.now in (j < net.transitions) × Stepping.Ready net limit.now counts.old ats.old owners.old ring × Stepping.Roomy room ring
         × Guards.Guards net guards.now }
     ensures is { let net = net_of net.now in Starts.StartsAre
         (Rule.pass room (Record.readable net) t j (Record.transition net j ∷ [])
         (Engine.marking net.places counts.old) (Turning.timers_of ats.old owners.old ring))
-        (Engine.marking net.places counts.new) (Turning.timers_of ats.new owners.new result.timers) result }
-    ensures ready { let net = net_of net.now in Stepping.Ready net limit.now counts.new ats.new owners.new result.timers × Stepping.Roomy room result.timers }
-    ensures quiet { let net = net_of net.now in result.full ≡ false → Guards.Quiet (Record.readable net) (Engine.marking net.places counts.old) (Engine.marking net.places counts.new)
-        result.moved result.crossed }
+        (Engine.marking net.places counts.new) (Turning.timers_of ats.new owners.new) result }
+    ensures ready { let net = net_of net.now in Stepping.Ready net limit.now counts.new ats.new owners.new (Starts.ring_of result) × Stepping.Roomy room (Starts.ring_of result) }
+    ensures quiet { let net = net_of net.now in IfOk result (λ s. Guards.Quiet (Record.readable net) (Engine.marking net.places counts.old) (Engine.marking net.places counts.new)
+        s.moved s.crossed) }
 {
     let d = net.delay[j];
     if 0.0 < d {
@@ -64,23 +63,23 @@ fn try_start<'a>(
                 taken: took.less,
             };
             let put = timers::insert(ats, owners, ring, room, x);
-            let after = put.ring;
-            return Started {
-                timers: after,
-                any: put.taken,
-                full: !put.taken,
+            if !put.taken {
+                return Err(put.ring);
+            }
+            return Ok(Started {
+                timers: put.ring,
+                any: true,
                 moved: took.moved,
                 crossed: took.crossed,
-            };
+            });
         }
     }
-    Started {
+    Ok(Started {
         timers: ring,
         any: false,
-        full: false,
         moved: 0,
         crossed: 0,
-    }
+    })
 }
 
 // The part of a word from bit k on.
@@ -106,16 +105,16 @@ fn pass(
     ring: Ring,
     t: f64,
     asked: u64,
-) -> Started
+) -> Result<Started, Ring>
     requires { let net = net_of net.now in Stepping.Ready net tables.now.limit counts.old ats.old owners.old ring × Stepping.Roomy room ring × Guards.Guards net tables.now.guards
         × Traits.Marks net delayed tables.now.timed × ((j : ℕ) → bit asked j ≡ true → bit tables.now.timed j ≡ true) × Keeping.ShutBut asked (Record.readable net) (Engine.marking net.places counts.old) }
     ensures is { let net = net_of net.now in Starts.StartsAre
         (Rule.pass room (Record.readable net) t 0 (Record.readable net).transitions
         (Engine.marking net.places counts.old) (Turning.timers_of ats.old owners.old ring))
-        (Engine.marking net.places counts.new) (Turning.timers_of ats.new owners.new result.timers) result }
-    ensures ready { let net = net_of net.now in Stepping.Ready net tables.now.limit counts.new ats.new owners.new result.timers × Stepping.Roomy room result.timers }
-    ensures quiet { let net = net_of net.now in result.full ≡ false → Guards.Quiet (Record.readable net) (Engine.marking net.places counts.old) (Engine.marking net.places counts.new)
-        result.moved result.crossed }
+        (Engine.marking net.places counts.new) (Turning.timers_of ats.new owners.new) result }
+    ensures ready { let net = net_of net.now in Stepping.Ready net tables.now.limit counts.new ats.new owners.new (Starts.ring_of result) × Stepping.Roomy room (Starts.ring_of result) }
+    ensures quiet { let net = net_of net.now in IfOk result (λ s. Guards.Quiet (Record.readable net) (Engine.marking net.places counts.old) (Engine.marking net.places counts.new)
+        s.moved s.crossed) }
 {
     let mut k = ring;
     let mut any = false;
@@ -137,25 +136,21 @@ fn pass(
             k,
             t,
             j,
-        );
-        if s.full {
-            return s;
-        }
+        )?;
         k = s.timers;
-        any = any | s.any;
-        moved = moved | s.moved;
-        crossed = crossed | s.crossed;
-        tried = tried | (s.crossed & tables.timed);
+        any |= s.any;
+        moved |= s.moved;
+        crossed |= s.crossed;
+        tried |= s.crossed & tables.timed;
         from = j + 1;
         ahead = from_bit(tried, from);
     }
-    Started {
+    Ok(Started {
         timers: k,
-        any: any,
-        full: false,
-        moved: moved,
-        crossed: crossed,
-    }
+        any,
+        moved,
+        crossed,
+    })
 }
 
 // Passes until none starts. A delayed transition outside the word `before` is not enabled.
@@ -169,55 +164,49 @@ pub fn start_all(
     ring: Ring,
     t: f64,
     before: u64,
-) -> Started
+) -> Result<Started, Ring>
     requires { let net = net_of net.now in Stepping.Ready net tables.now.limit counts.old ats.old owners.old ring × Stepping.Roomy room ring × Guards.Guards net tables.now.guards
         × Traits.Marks net delayed tables.now.timed × Keeping.ShutBut before (Record.readable net) (Engine.marking net.places counts.old) }
     ensures is { let net = net_of net.now in Starts.StartsAre
         (Rule.passes (suc room) room (Record.readable net) t (Engine.marking net.places counts.old) (Turning.timers_of ats.old owners.old ring))
-        (Engine.marking net.places counts.new) (Turning.timers_of ats.new owners.new result.timers) result }
-    ensures ready { let net = net_of net.now in Stepping.Ready net tables.now.limit counts.new ats.new owners.new result.timers × Stepping.Roomy room result.timers }
-    ensures quiet { let net = net_of net.now in result.full ≡ false → Guards.Quiet (Record.readable net) (Engine.marking net.places counts.old) (Engine.marking net.places counts.new)
-        result.moved result.crossed }
+        (Engine.marking net.places counts.new) (Turning.timers_of ats.new owners.new) result }
+    ensures ready { let net = net_of net.now in Stepping.Ready net tables.now.limit counts.new ats.new owners.new (Starts.ring_of result) × Stepping.Roomy room (Starts.ring_of result) }
+    ensures quiet { let net = net_of net.now in IfOk result (λ s. Guards.Quiet (Record.readable net) (Engine.marking net.places counts.old) (Engine.marking net.places counts.new)
+        s.moved s.crossed) }
 {
     let mut asked = before & tables.timed;
     if asked == 0 {
-        return Started {
+        return Ok(Started {
             timers: ring,
             any: false,
-            full: false,
             moved: 0,
             crossed: 0,
-        };
+        });
     }
     let mut k = ring;
     let mut any = false;
     let mut moved: u64 = 0;
     let mut crossed: u64 = 0;
     for _i in 0..room + 1 {
-        let s = pass(net, tables, counts, ats, owners, room, k, t, asked);
-        if s.full {
-            return s;
-        }
+        let s = pass(net, tables, counts, ats, owners, room, k, t, asked)?;
         k = s.timers;
-        moved = moved | s.moved;
-        crossed = crossed | s.crossed;
+        moved |= s.moved;
+        crossed |= s.crossed;
         if !s.any {
-            return Started {
+            return Ok(Started {
                 timers: k,
-                any: any,
-                full: false,
-                moved: moved,
-                crossed: crossed,
-            };
+                any,
+                moved,
+                crossed,
+            });
         }
-        asked = asked | (s.crossed & tables.timed);
+        asked |= s.crossed & tables.timed;
         any = true;
     }
-    Started {
+    Ok(Started {
         timers: k,
-        any: any,
-        full: false,
-        moved: moved,
-        crossed: crossed,
-    }
+        any,
+        moved,
+        crossed,
+    })
 }

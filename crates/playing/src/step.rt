@@ -1,5 +1,5 @@
 // One step of a run: starts, the clock reading that it sets, and the completion or firing that ends it.
-ghost use Rattle.std.specs.Prelude.{◌≡◌, ◌*◌, ◌≤◌, max, length};
+ghost use Rattle.std.specs.Prelude.{◌≡◌, ◌*◌, ◌≤◌, max, length, MatchResult};
 ghost use Rattle.net.specs.Readable as Record;
 ghost use Rattle.net.specs.Record.{net_of};
 ghost use Rattle.net.specs.declared.Net.{Net as NetRecord};
@@ -62,12 +62,11 @@ pub struct Stepped {
     pub ending: Ending,
 }
 
-// What follows the starts of a step: nothing, or an event; Full where a timer could not start.
+// What follows the starts of a step: nothing, or an event.
 #[derive(Clone, Copy)]
 pub enum Due {
     Nothing,
     Event,
-    Full,
 }
 
 // A step up to the clock reading that it sets, whether the event is a completion, and what is kept with whether its total adds a rounded propensity.
@@ -82,7 +81,7 @@ pub struct Advanced {
     pub rng: Xoshiro256,
 }
 
-// The starts, the propensities, and the new clock reading.
+// The starts, the propensities, and the new clock reading. Where a timer could not start, the ring is all that is answered.
 fn advance(
     net: &LentNet,
     tables: &Tables,
@@ -97,32 +96,24 @@ fn advance(
     rng: Xoshiro256,
     kept: Keeping,
     unit: f64,
-) -> Advanced
+) -> Result<Advanced, Ring>
     requires { let net = net_of net.now in Stepping.Ready net tables.now.limit counts.old ats.old owners.old ring × Stepping.Roomy room ring × Keeps.Tables net tables.now.rates tables.now.ends tables.now.guards tables.now.timed tables.now.heavy
         × Keeps.Carried net (Engine.marking net.places counts.old) kept props.old sums.old × (unit ≡ unit_wait (Random.words rng.s)) }
     ensures is { let net = net_of net.now in let before = Stepping.state_of net counts.old ats.old owners.old ring t rng.s in
-        Stepping.AdvancedBy net (Rule.step room (Record.readable net) before) before
-        (Stepping.state_of net counts.new ats.new owners.new result.timers result.clock result.rng.s)
-        props.new result.kept.a0 result.rounded result.completes result.due }
-    ensures ready { let net = net_of net.now in Stepping.Ready net tables.now.limit counts.new ats.new owners.new result.timers
-        × Stepping.Roomy room result.timers
-        × (result.due ≡ Due.Event → Keeps.Carried net (Engine.marking net.places counts.new) result.kept props.new sums.new
-        × (result.kept.moved ≡ 0) × (result.kept.crossed ≡ 0)) }
+        MatchResult result
+        (λ d. Stepping.AdvancedBy net (Rule.step room (Record.readable net) before) before
+        (Stepping.state_of net counts.new ats.new owners.new d.timers d.clock d.rng.s)
+        props.new d.kept.a0 d.rounded d.completes d.due)
+        (λ k. Stepping.Unstarted (Rule.step room (Record.readable net) before)) }
+    ensures ready { let net = net_of net.now in MatchResult result
+        (λ d. Stepping.Ready net tables.now.limit counts.new ats.new owners.new d.timers × Stepping.Roomy room d.timers
+        × (d.due ≡ Due.Event → Keeps.Carried net (Engine.marking net.places counts.new) d.kept props.new sums.new
+        × (d.kept.moved ≡ 0) × (d.kept.crossed ≡ 0)))
+        (λ k. Stepping.Ready net tables.now.limit counts.new ats.new owners.new k × Stepping.Roomy room k) }
 {
     let before = kept.crossed;
-    let s = starts::start_all(net, tables, counts, ats, owners, room, ring, t, before);
+    let s = starts::start_all(net, tables, counts, ats, owners, room, ring, t, before)?;
     let left = s.timers;
-    if s.full {
-        return Advanced {
-            due: Due::Full,
-            completes: false,
-            clock: t,
-            timers: left,
-            kept: kept,
-            rounded: false,
-            rng: rng,
-        };
-    }
     let moved = kept.moved | s.moved;
     let crossed = before | s.crossed;
     let fresh = refresh::refresh(
@@ -135,21 +126,21 @@ fn advance(
         crossed: 0,
         able: fresh.able,
         marks: fresh.marks,
-        a0: a0,
+        a0,
     };
     let w = jump::waiting(a0, unit, rng);
     let dt = w.dt;
     let g = w.rng;
     let x = timers::first(ats, owners, left);
     let what = jump::next_event(a0, t, dt, timers::count(left), x.at);
-    match what {
+    Ok(match what {
         Next::Nothing => Advanced {
             due: Due::Nothing,
             completes: false,
             clock: t,
             timers: left,
             kept: now,
-            rounded: rounded,
+            rounded,
             rng: g,
         },
         Next::Race(wait) => Advanced {
@@ -158,7 +149,7 @@ fn advance(
             clock: t + wait,
             timers: left,
             kept: now,
-            rounded: rounded,
+            rounded,
             rng: g,
         },
         Next::Completion(at) => Advanced {
@@ -167,10 +158,10 @@ fn advance(
             clock: at,
             timers: left,
             kept: now,
-            rounded: rounded,
+            rounded,
             rng: g,
         },
-    }
+    })
 }
 
 // The peak with one more moment, at which there are so many tokens.
@@ -218,25 +209,23 @@ pub fn one_step(
         × (length table.new ≡ length table.old)
         × Cells.Stay net.places (length instants.now) table.old table.new }
 {
-    let d = advance(
+    let d = match advance(
         net, tables, counts, ats, owners, props, sums, room, s.timers, s.clock, s.rng, s.kept,
         s.unit,
-    );
+    ) {
+        Ok(d) => d,
+        Err(timers) => {
+            return Stepped {
+                now: Now { timers, ..s },
+                rounded: false,
+                ending: Ending::Refused(Refusal::TooManyTimers),
+            };
+        }
+    };
     let rounded = d.rounded;
     let clock = d.clock;
     let fresh = d.kept;
     match d.due {
-        Due::Full => Stepped {
-            now: Now {
-                clock,
-                timers: d.timers,
-                rng: d.rng,
-                kept: fresh,
-                ..s
-            },
-            rounded,
-            ending: Ending::Refused(Refusal::TooManyTimers),
-        },
         Due::Nothing => Stepped {
             now: Now {
                 clock,

@@ -1,4 +1,6 @@
 -- What has started stands in front of the part of the pass from a transition on; a turn goes on to the next one that may start, and adds what it starts.
+use Prim.{tt}
+use Rattle.std.proofs.lemmas.Result.{err_from_is_err_and}
 use native.Mathlib.Omega.{arith}
 use mathlib.Core.Path.{◌≡◌, refl, sym, ap, ◌∙◌}
 use mathlib.Core.Bool.{◌&&◌, true≢false}
@@ -65,21 +67,23 @@ so_far c =
 pub overflow_cast-j : goal.overflow_cast-j
 overflow_cast-j c = omega (arith, small (goal.at.overflow_cast-j c).In-loop-ahead)
 
-pub try_start-s-requires : goal.try_start-s-requires
-try_start-s-requires c = let l = c.loop-ahead in (inside (goal.at.try_start-s-requires c).In-loop-ahead, l.invariant.2, l.invariant.3, c.requires.2)
+pub try_start-requires : goal.try_start-requires
+try_start-requires c = let l = c.loop-ahead in (inside (goal.at.try_start-requires c).In-loop-ahead, l.invariant.2, l.invariant.3, c.requires.2)
 
-pub returns-then-s : goal.returns-then-s
-returns-then-s c =
-    let i = (goal.at.returns-then-s c).In-loop-ahead in
+pub returns-in_err-s : goal.returns-in_err-s
+returns-in_err-s c =
+    let i = (goal.at.returns-in_err-s c).In-loop-ahead in
     let l = c.loop-ahead in
     let n = net_of c.args.net.now in
     let j = count_trailing_zeros 64 l.ahead in
-    let e = c.try_start-s.ensures in
+    let e = c.in_err-s.ensures in
+    let p = err_from_is_err_and c.from_residual.result c.from_residual.ensures.1 in
     record {
-      is = turn_full (so_far i) (pass_from c.args.room n c.args.t (j + 1)) _ _ e.is
-          (from_next c.args.room n c.args.t (marking n.places l.counts) (timers_of l.ats l.owners l.k) j (inside i)) c.if-s.true;
-      ready = e.ready;
-      quiet = λ f. absurd (true≢false (sym c.if-s.true ∙ f));
+      is = rw p.1
+          (turn_full (so_far i) e.is (pass_from c.args.room n c.args.t (j + 1))
+          (from_next c.args.room n c.args.t (marking n.places l.counts) (timers_of l.ats l.owners l.k) j (inside i)));
+      ready = rw (p.1, p.2) e.ready;
+      quiet = rw p.1 tt;
     }
 
 pub overflow_add-from : goal.overflow_add-from
@@ -100,11 +104,11 @@ loop-ahead-preserved c =
     let n = net_of c.args.net.now in
     let m = marking n.places l.counts in
     let j = count_trailing_zeros 64 l.ahead in
-    let e = c.try_start-s.ensures in
-    let r = c.try_start-s.result in
-    let q = e.quiet c.if-s.false in (
+    let e = c.in_ok-s.ensures in
+    let r = c.in_ok-s.s in
+    let q = e.quiet in (
       omega (arith, inside i),
-      turned (so_far i) (pass_from c.args.room n c.args.t (j + 1)) e.is (from_next c.args.room n c.args.t m (timers_of l.ats l.owners l.k) j (inside i)) c.if-s.false,
+      turned (so_far i) e.is (pass_from c.args.room n c.args.t (j + 1)) (from_next c.args.room n c.args.t m (timers_of l.ats l.owners l.k) j (inside i)),
       e.ready.0,
       e.ready.1,
       quiet_more (readable n) _ _ _ l.moved l.crossed r.moved r.crossed l.invariant.4 q,
@@ -116,10 +120,10 @@ returns c =
     let l = c.loop-ahead in
     let n = net_of c.args.net.now in
     record {
-      is = so_ended l.invariant.1 [] _ _ l.k l.moved l.crossed
+      is = so_ended l.invariant.1 [] _ _
           (ends n c.args.tables.now.timed c.requires.3 (marking n.places l.counts) l.tried l.from l.ahead l.invariant.5 c.loop-ahead-test.false c.args.room c.args.t
           (timers_of l.ats l.owners l.k))
           refl;
       ready = (l.invariant.2, l.invariant.3);
-      quiet = λ f. l.invariant.4;
+      quiet = l.invariant.4;
     }

@@ -1,4 +1,6 @@
 -- The rule's pass over this one transition, by the same tests: it is delayed, it is enabled, and there is room for a timer.
+use borrow.Author.Rules.{rules}
+use borrow.Author.Tests.{not-true, not-false}
 use native.Mathlib.Omega.{arith}
 use mathlib.Core.Path.{◌≡◌, refl, sym, ap, subst, ◌∙◌}
 use mathlib.Core.Bool.{Bool}
@@ -12,14 +14,14 @@ use Rattle.net.specs.Record.{net_of}
 use Rattle.rules.specs.Timers.{Timer, timer_of, insert}
 use Rattle.engine.specs.Engine.{marking}
 use Rattle.timers.specs.Turning.{timers_of, has_room}
-use Rattle.playing.specs.Starts.{done}
-use Rattle.playing.specs.Stepping.{Light}
+use Rattle.playing.specs.Stepping.{Light, Ready, Roomy}
 use Rattle.playing.proofs.Light.{light_pick, light_insert}
 use Rattle.playing.proofs.Tokens.{start_takes}
 use Rattle.playing.proofs.Rooms.{room_for, one_more_fits}
 use Rattle.engine.proofs.Touching.{quiet_none}
-use Rattle.playing.proofs.Passes.{try_untimed, try_disabled, try_on}
+use Rattle.playing.proofs.Passes.{try_untimed, try_disabled, try_started, try_full}
 use Rattle.playing.proofs.starts.try_start.Goals as goal
+use Rattle.playing.proofs.starts.try_start.Goals.{After-insert-put}
 
 pub enabled-requires : goal.enabled-requires
 enabled-requires c = let r = c.requires.1 in (c.requires.0, r.tidy, r.limits, r.small)
@@ -29,36 +31,72 @@ take-took-requires c =
     let r = c.requires.1 in
     (omega (arith, c.requires.0, r.tidy.transitions), r.tidy.places, r.tidy.arcs, r.tidy.place, r.tidy.weight, r.small)
 
+-- the timer that starts, as the program has it and as the rules have it
+started : (k : After-insert-put) → let s = k.args in
+    let n = net_of s.net.now in
+    let q = timers_of s.ats.now s.owners.now s.ring in
+    let x : Timer = timer_of s.t s.j (transition n s.j) in
+    timers_of k.insert-put.new.ats k.insert-put.new.owners k.insert-put.result.ring ≡ pick (has_room s.room q) (insert x q) q
+started k =
+    let s = k.args in
+    let n = net_of s.net.now in
+    let r = k.requires.1 in
+    let e = k.take-took in
+    let q = timers_of s.ats.now s.owners.now s.ring in
+    let x : Timer = timer_of s.t s.j (transition n s.j) in
+    let took : e.result.less ≡ x.taken =
+    start_takes n r.tidy s.j k.requires.0 (marking n.places s.counts.now) _ e.result.less (sym k.enabled.ensures ∙ k.if-enabled.true) e.ensures.0 e.ensures.3 in
+    let same : ◌≡◌ {A = Timer} (record { at = x.at; who = s.j; taken = e.result.less }) x =
+    ap (λ (y : ℕ). record { at = x.at; who = s.j; taken = y }) took in
+    k.insert-put.ensures.list r.sound ∙ ap (λ (y : Timer). pick (has_room s.room q) (insert y q) q) same
+
+-- whether there is room for it
+free : (k : After-insert-put) → k.insert-put.result.taken ≡ ltb (length (timers_of k.args.ats.now k.args.owners.now k.args.ring)) k.args.room
+free k = k.insert-put.ensures.says ∙ room_for k.requires.2.most (timers_of k.args.ats.now k.args.owners.now k.args.ring)
+
+ready : (k : After-insert-put) → let s = k.args in
+    Ready (net_of s.net.now) s.limit.now k.take-took.new.counts k.insert-put.new.ats k.insert-put.new.owners k.insert-put.result.ring × Roomy s.room k.insert-put.result.ring
+ready k =
+    let s = k.args in
+    let r = k.requires.1 in
+    let e = k.take-took in
+    let i = k.insert-put.ensures in
+    let q = timers_of s.ats.now s.owners.now s.ring in (
+      record {
+        tidy = r.tidy;
+        limits = r.limits;
+        small = e.ensures.1;
+        light = subst Light (sym (i.list r.sound)) (light_pick (has_room s.room q) _ q (light_insert _ q e.ensures.2 r.light) r.light);
+        sound = i.stays r.sound;
+      },
+      one_more_fits (timer_of s.t s.j (transition (net_of s.net.now) s.j)) s.ats.now k.insert-put.new.ats s.owners.now k.insert-put.new.owners k.requires.2 (started k),
+    )
+
+pub returns-then-not-put : goal.returns-then-not-put
+returns-then-not-put c =
+    let s = c.args in
+    let n = net_of s.net.now in
+    let k = (goal.at.returns-then-not-put c).After-insert-put in
+    record {
+      is = try_full s.room (readable n) s.t s.j (transition n s.j) (marking n.places s.counts.now) (timers_of s.ats.now s.owners.now s.ring)
+          c.if-d.true (sym c.enabled.ensures ∙ c.if-enabled.true) (sym (free k) ∙ not-true _ c.if-not-put.true);
+      ready = ready k;
+      quiet = search rules;
+    }
+
 pub returns-then-enabled : goal.returns-then-enabled
 returns-then-enabled c =
     let s = c.args in
-    let r = c.requires.1 in
     let n = net_of s.net.now in
-    let m = marking n.places s.counts.now in
-    let i = c.insert-put.ensures in
-    let k = c.take-took in
-    let on = sym c.enabled.ensures ∙ c.if-enabled.true in
+    let k = (goal.at.returns-then-enabled c).After-insert-put in
     let q = timers_of s.ats.now s.owners.now s.ring in
-    let x : Timer = timer_of s.t s.j (transition n s.j) in
-    let took : k.result.less ≡ x.taken = start_takes n r.tidy s.j c.requires.0 m _ k.result.less on k.ensures.0 k.ensures.3 in
-    let same : ◌≡◌ {A = Timer} (record { at = x.at; who = s.j; taken = k.result.less }) x =
-    ap (λ (y : ℕ). record { at = x.at; who = s.j; taken = y }) took in
-    let list = i.list r.sound ∙ ap (λ (y : Timer). pick (has_room s.room q) (insert y q) q) same in
-    let free : has_room s.room q ≡ ltb (length q) s.room = room_for c.requires.2.most q in
+    let taken = not-false _ c.if-not-put.false in
     record {
-      is = try_on s.room (readable n) s.t s.j (transition n s.j) m q _ _ _ _ _ _ c.if-d.true on (i.says ∙ free) k.ensures.0
-          (λ z. list ∙ ap (λ (b : Bool). pick b (insert x q) q) (sym i.says ∙ z));
-      ready = (
-        record {
-          tidy = r.tidy;
-          limits = r.limits;
-          small = k.ensures.1;
-          light = subst Light (sym (i.list r.sound)) (light_pick (has_room s.room q) _ q (light_insert _ q k.ensures.2 r.light) r.light);
-          sound = i.stays r.sound;
-        },
-        one_more_fits x s.ats.now c.insert-put.new.ats s.owners.now c.insert-put.new.owners c.requires.2 list,
-      );
-      quiet = λ f. (k.ensures.4 r.tidy c.requires.3).0;
+      is = try_started s.room (readable n) s.t s.j (transition n s.j) (marking n.places s.counts.now) q _ _
+          c.if-d.true (sym c.enabled.ensures ∙ c.if-enabled.true) (sym (free k) ∙ taken) c.take-took.ensures.0
+          (started k ∙ ap (λ (b : Bool). pick b (insert (timer_of s.t s.j (transition n s.j)) q) q) (sym c.insert-put.ensures.says ∙ taken));
+      ready = ready k;
+      quiet = (c.take-took.ensures.4 c.requires.1.tidy c.requires.3).0;
     }
 
 pub returns-else-enabled : goal.returns-else-enabled
@@ -67,10 +105,13 @@ returns-else-enabled c =
     let n = net_of s.net.now in
     let m = marking n.places s.counts.now in
     record {
-      is = done [] refl
-          (try_disabled s.room (readable n) s.t s.j (transition n s.j) m (timers_of s.ats.now s.owners.now s.ring) (sym c.enabled.ensures ∙ c.if-enabled.false)) refl;
+      is = record {
+        who = [];
+        is = try_disabled s.room (readable n) s.t s.j (transition n s.j) m (timers_of s.ats.now s.owners.now s.ring) (sym c.enabled.ensures ∙ c.if-enabled.false);
+        none = refl;
+      };
       ready = (c.requires.1, c.requires.2);
-      quiet = λ f. quiet_none (readable n) m;
+      quiet = quiet_none (readable n) m;
     }
 
 pub returns-else-d : goal.returns-else-d
@@ -79,7 +120,11 @@ returns-else-d c =
     let n = net_of s.net.now in
     let m = marking n.places s.counts.now in
     record {
-      is = done [] refl (try_untimed s.room (readable n) s.t s.j (transition n s.j) m (timers_of s.ats.now s.owners.now s.ring) c.if-d.false) refl;
+      is = record {
+        who = [];
+        is = try_untimed s.room (readable n) s.t s.j (transition n s.j) m (timers_of s.ats.now s.owners.now s.ring) c.if-d.false;
+        none = refl;
+      };
       ready = (c.requires.1, c.requires.2);
-      quiet = λ f. quiet_none (readable n) m;
+      quiet = quiet_none (readable n) m;
     }
