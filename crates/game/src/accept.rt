@@ -11,9 +11,8 @@ ghost use Rattle.game.specs.Search as Search;
 ghost use Rattle.game.specs.Play as Play;
 ghost use Rattle.game.specs.Call as Call;
 
-use crate::FaultFound;
-use crate::search;
 use crate::search::Game;
+use crate::{FaultFound, search};
 use engine::slots;
 use net::{LentNet, Net};
 

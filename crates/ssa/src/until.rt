@@ -115,7 +115,15 @@ pub fn resume(
     // Lent anew, for no longer than the slots.
     let fields = *net;
     lent_on(
-        &slots.of(&fields), counts, ats, owners, instants, halts, steps, s, table,
+        &slots.of(&fields),
+        counts,
+        ats,
+        owners,
+        instants,
+        halts,
+        steps,
+        s,
+        table,
     )
 }
 

@@ -14,6 +14,6 @@ returns c =
     let long : length s.takens.now ≡ 256 = search rules in
     λ ats whos.
     ap not (
-      any_from_yields_List heavy _ _ c.any.result c.any.ensures.ran (YieldsList-from_slice (take s.n s.takens.now) cc) (λ x b q k. search (rules, tests))
-      ∙ some_along heavy (λ (x : Timer). x.taken) _ _ (array_read _ (slot ats whos s.takens.now) s.takens.now 0 (λ j. refl) s.n (omega arith) (omega arith))
+    any_from_yields_List heavy _ _ c.any.result c.any.ensures.ran (YieldsList-from_slice (take s.n s.takens.now) cc) (λ x b q k. search (rules, tests))
+    ∙ some_along heavy (λ (x : Timer). x.taken) _ _ (array_read _ (slot ats whos s.takens.now) s.takens.now 0 (λ j. refl) s.n (omega arith) (omega arith))
     )

@@ -26,8 +26,10 @@ returns-then-not-limit_fits c =
 
 pub overflow_mul-net : goal.overflow_mul-net
 overflow_mul-net c =
-    record { fits = cells_fit _ _ (sound (net_of c.args.net.now) (sym c.in_ok-fields_fault.ensures)).places
-        (fitting c.args.instants.now (sym c.instants_fit.ensures ∙ c.if-not-instants_fit.false)).few }
+    record {
+      fits = cells_fit _ _ (sound (net_of c.args.net.now) (sym c.in_ok-fields_fault.ensures)).places
+          (fitting c.args.instants.now (sym c.instants_fit.ensures ∙ c.if-not-instants_fit.false)).few;
+    }
 
 pub returns-then-table-net : goal.returns-then-table-net
 returns-then-table-net c =

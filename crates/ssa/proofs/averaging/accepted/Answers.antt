@@ -20,7 +20,7 @@ lent_ensemble-requires c =
     let q : Request = record { samples = a.samples; realizations = a.realizations; seed = a.seed; horizon = a.horizon } in
     let Asked : NetRecord → Type 0
     = λ n. Tidy n × ((p : ℕ) → p < n.places → get_or n.initial p 0 ≤ 2 ^ 53) × (request_fault q ≡ none)
-        × (n.places * a.samples ≤ length a.mean.now) × (n.places * a.samples ≤ length a.deviation.now) × (n.places * a.samples ≤ length a.path.now) in
+    × (n.places * a.samples ≤ length a.mean.now) × (n.places * a.samples ≤ length a.deviation.now) × (n.places * a.samples ≤ length a.path.now) in
     subst Asked (sym c.lent.ensures) (
       e.1,
       first_small r a.net (sound a.net c.requires.0) e.2 e.3,

@@ -26,7 +26,7 @@ returns-in_err-test_net c =
 pub returns-in_err-request_fault : goal.returns-in_err-request_fault
 returns-in_err-request_fault c =
     let a = c.args in
-    let p = err_from_is_err_and c.from_residual.result c.from_residual.ensures.1 in
+    let p = err_from_is_err_and c.from_residual-in_err-request_fault.result c.from_residual-in_err-request_fault.ensures.1 in
     rw (p.1, p.2) (sym (fault_by a.net (record { samples = a.samples; realizations = a.realizations; seed = a.seed; horizon = a.horizon })
     (record { mean = a.mean.now; deviation = a.deviation.now; path = a.path.now }) (sym c.in_ok-test_net.ensures) (sym c.in_err-request_fault.ensures) refl))
 

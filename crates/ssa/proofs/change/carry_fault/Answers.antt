@@ -44,7 +44,7 @@ returns-in_err-fields_fault-2 c =
     let new = net_of a.net.now in
     let s = standing_of a.old.now.places a.path.now in
     let xs = a.instants.now in
-    let p = err_from_is_err_and c.from_residual.result c.from_residual.ensures.1 in
+    let p = err_from_is_err_and c.from_residual-in_err-fields_fault-2.result c.from_residual-in_err-fields_fault-2.ensures.1 in
     rw (p.1, p.2) (sym (fault_by a.old.now.places old new (pairs_of a.pairs.now) s xs a.table.now (sym c.in_ok-fields_fault.ensures) (sym c.in_err-fields_fault-2.ensures) refl refl))
 
 pub state_fault-requires : goal.state_fault-requires
@@ -57,7 +57,7 @@ returns-in_err-state_fault c =
     let new = net_of a.net.now in
     let s = standing_of a.old.now.places a.path.now in
     let xs = a.instants.now in
-    let p = err_from_is_err_and c.from_residual.result c.from_residual.ensures.1 in
+    let p = err_from_is_err_and c.from_residual-in_err-state_fault.result c.from_residual-in_err-state_fault.ensures.1 in
     rw (p.1, p.2) (sym (fault_by a.old.now.places old new (pairs_of a.pairs.now) s xs a.table.now (sym c.in_ok-fields_fault.ensures) (sym c.in_ok-fields_fault-2.ensures) (sym c.in_err-state_fault.ensures) refl))
 
 pub list_fault-requires : goal.list_fault-requires

@@ -88,13 +88,12 @@ returns-then-table-places c =
     by_table (short a.places h xs t) (strange a.places h xs t) (path a.places h xs t) plain timely noted limited (ap not (lt-leb _ _ c.if-table-places.true))
 
 pub cells_fit-requires : goal.cells_fit-requires
-cells_fit-requires c =
-    (
-      leb-true _ _ (both _ _ (sym c.records_fit.ensures ∙ c.if-not-records_fit.false)).0,
-      c.requires,
-      (fitting c.args.instants.now (sym c.instants_fit.ensures ∙ c.if-not-instants_fit.false)).few,
-      c.if-table-places.false,
-    )
+cells_fit-requires c = (
+  leb-true _ _ (both _ _ (sym c.records_fit.ensures ∙ c.if-not-records_fit.false)).0,
+  c.requires,
+  (fitting c.args.instants.now (sym c.instants_fit.ensures ∙ c.if-not-instants_fit.false)).few,
+  c.if-table-places.false,
+)
 
 pub returns-then-not-cells_fit : goal.returns-then-not-cells_fit
 returns-then-not-cells_fit c =
