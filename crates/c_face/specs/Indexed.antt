@@ -1,15 +1,15 @@
 -- What a call for a net's index leaves with a caller that reads numbers. Definitions only.
-use Rattle.std.specs.Prelude.{ℕ, ◌≡◌, List}
+use Rattle.std.specs.Prelude.{ℕ, ◌≡◌, List, Unit, Result, Ok, Err}
 use Rattle.std.proofs.Math.Option.{Option, none, some}
 use Rattle.net.specs.Net.{Net}
-use Rattle.net.specs.declared.Verdict.{Verdict}
-use Rattle.net.specs.declared.Verdict.TheVariants.{Accepted, Refused}
+use Rattle.refusals.specs.declared.Refusal.{Refusal}
+use Rattle.refusals.specs.Number as Number
 use Rattle.index.specs.Table.{Lists}
 
 -- a verdict as a number: the refusal's own, or 0
-abbrev pub number_of : Verdict → ℕ
-number_of Accepted = 0
-number_of (Refused c) = c
+abbrev pub number_of : Result Unit Refusal → ℕ
+number_of (Ok v) = 0
+number_of (Err c) = Number.number_of c
 
 -- By the net's fault, and the masks before and after the call: 0 and the net's index where it has none, else its number and the masks as they were.
 abbrev pub Left : Option ℕ → Net → List ℕ → List ℕ → ℕ → Type 0

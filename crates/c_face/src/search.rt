@@ -6,7 +6,7 @@ ghost use Rattle.game.specs.Play.{first_of};
 ghost use Rattle.c_face.specs.Searched.{answer_number, fired_first, told_of};
 
 use game::{FaultFound, First};
-use net::Net;
+use net::LentNet;
 use refusals::Refusal;
 
 // The number of an answer: 100 for no, 101 for already there, 102 for a pass, 103 for a transition.

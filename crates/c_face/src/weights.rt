@@ -4,7 +4,7 @@ ghost use Rattle.net.specs.Record.{labelled};
 ghost use Rattle.balance.specs.Call.{called, call_of};
 ghost use Rattle.c_face.specs.Weighed.{told_of};
 
-use net::Net;
+use net::LentNet;
 use refusals::Refusal;
 
 // The refusal's number, or 100 for balanced and 101 for unbalanced; and the transition.

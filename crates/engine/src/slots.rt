@@ -9,7 +9,7 @@ ghost use Rattle.engine.specs.Engine as Engine;
 ghost use Rattle.engine.specs.Limits as Limits;
 ghost use Rattle.engine.specs.Arcs as Arcs;
 
-use net::{LentNet, Net};
+use net::LentNet;
 
 // The group of a slot, by its kind: puts are behind. A number, as in `Arcs.group` and `Arcs.of_group`, which the contracts here name.
 fn group(kind: u64) -> u64
@@ -101,22 +101,6 @@ impl Slots {
             weight: &self.weight,
             ..*net
         }
-    }
-}
-
-// The same net with its slots in order. Labels stay.
-pub fn tidied(net: Net) -> Net
-    requires { Record.fault net ≡ none }
-    ensures { (Record.readable result ≡ Record.readable net) × Engine.Tidy result × (result.places ≡ net.places) × (result.initial ≡ net.initial) }
-{
-    let mut slots = Slots::blank();
-    slots.fill(&net.lent());
-    Net {
-        arcs: slots.arcs,
-        kind: slots.kind,
-        place: slots.place,
-        weight: slots.weight,
-        ..net
     }
 }
 

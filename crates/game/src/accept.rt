@@ -13,8 +13,8 @@ ghost use Rattle.game.specs.Call as Call;
 
 use crate::search::Game;
 use crate::{FaultFound, search};
-use engine::slots;
-use net::{LentNet, Net};
+use engine::slots::{self, Slots};
+use net::LentNet;
 
 // The bounds of document 02, order 13.
 const MOST_OF_A_SIDE: usize = 8;
@@ -85,10 +85,13 @@ fn lent_game(net: &LentNet, sides: &[u64], wanted: usize, count: u64, turns: u64
 }
 
 // The game of a call that no test turns down.
-pub fn accepted_game(net: Net, sides: &[u64], wanted: usize, count: u64, turns: u64) -> FaultFound
-    requires { (Record.fault net ≡ none) × Play.Sided net.transitions sides.now × (wanted < net.places) × (turns ≤ 8) }
-    ensures { Play.fault_of result ≡ Search.fault_move turns (Play.game_of (Record.readable net) sides.now wanted count) (Moves.initial_counts (Record.readable net)) }
+pub fn accepted_game(net: &LentNet, sides: &[u64], wanted: usize, count: u64, turns: u64) -> FaultFound
+    requires { let net = net_of net.now in (Record.fault net ≡ none) × Play.Sided net.transitions sides.now × (wanted < net.places) × (turns ≤ 8) }
+    ensures { let net = net_of net.now in Play.fault_of result ≡ Search.fault_move turns (Play.game_of (Record.readable net) sides.now wanted count) (Moves.initial_counts (Record.readable net)) }
 {
-    let n = slots::tidied(net);
-    lent_game(&n.lent(), sides, wanted, count, turns)
+    let mut slots = Slots::blank();
+    slots.fill(net);
+    // Lent anew, for no longer than the slots.
+    let fields = *net;
+    lent_game(&slots.of(&fields), sides, wanted, count, turns)
 }

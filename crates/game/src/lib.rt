@@ -8,7 +8,7 @@ ghost use Rattle.std.specs.Prelude.{◌≡◌};
 ghost use Rattle.game.specs.Call as Call;
 
 use engine::slots;
-use net::Net;
+use net::LentNet;
 use refusals::Refusal;
 
 // The first move by which the fault side wins.
@@ -29,18 +29,12 @@ pub struct FaultFound {
 // Can the fault side bring the place to exactly the count, within so many turns, however recovery plays? sides[j] is 0 where transition j is the fault
 // side's and 1 where it is recovery's. The answer is how it wins, by the lowest first transition, or that it does not, with the positions examined; or
 // the number by which a net, a delay, a list of sides, a turn number or a place is turned down.
-pub fn game(
-    net: Net,
-    sides: &[u64],
-    place: usize,
-    count: u64,
-    turns: u64,
-) -> Result<FaultFound, Refusal>
-    ensures is { Call.call_of result ≡ Call.called net sides.now place count turns }
-    ensures exactly { Call.Exact net sides.now place count turns (Call.call_of result) }
+pub fn game(net: &LentNet, sides: &[u64], place: usize, count: u64, turns: u64) -> Result<FaultFound, Refusal>
+    ensures is { Call.call_of result ≡ Call.called (net_of net.now) sides.now place count turns }
+    ensures exactly { Call.Exact (net_of net.now) sides.now place count turns (Call.call_of result) }
 {
     net::test_net(net)?;
-    if slots::any_timed(net.transitions, &net.delay) {
+    if slots::any_timed(net.transitions, net.delay) {
         return Err(Refusal::DelayedTransition);
     }
     if !accept::sides_fit(sides, net.transitions) {

@@ -130,7 +130,7 @@ pub fn transition_fault(
 }
 
 // The first of 2 to 7, 17 and 18 that applies to the net whose fields are lent: place by place, then 2 where there is no place, then transition by transition.
-pub fn fields_fault(net: &LentNet) -> Result<(), Refusal>
+pub fn test_net(net: &LentNet) -> Result<(), Refusal>
     ensures { Readable.meaning result ≡ Readable.fault (net_of net.now) }
 {
     places::places_fault(net)?;
@@ -138,13 +138,6 @@ pub fn fields_fault(net: &LentNet) -> Result<(), Refusal>
         return Err(Refusal::BadSize);
     }
     transitions::transitions_fault(net)
-}
-
-// The first of 2 to 7, 17 and 18 that applies to a net.
-pub fn test_net(net: Net) -> Result<(), Refusal>
-    ensures { Readable.meaning result ≡ Readable.fault net }
-{
-    fields_fault(&net.lent())
 }
 
 // An empty net: no place, no transition, 0 in every slot.

@@ -35,7 +35,7 @@ fn run(net: Net, asked: RunLine, out: &mut [u8]) -> usize
     let samples = asked.samples;
     let realizations = asked.realizations;
     let answer = ssa::ensemble(
-        net,
+        &net.lent(),
         samples,
         realizations,
         asked.seed,

@@ -7,23 +7,16 @@ ghost use Rattle.std.specs.Prelude.{◌≡◌};
 ghost use Rattle.net.specs.Record.{net_of};
 ghost use Rattle.reason.specs.Call as Call;
 
-use net::{LentNet, Net};
+use net::LentNet;
 use refusals::Refusal;
-
-// The call over a net whose fields are lent.
-fn lent_reason(net: &LentNet, out: &mut [u8]) -> Result<usize, Refusal>
-    ensures { (out.new, Call.told result) ≡ Call.called (net_of net.now) out.old }
-{
-    net::fields_fault(net)?;
-    let g = gates::gates_of(net);
-    writing::write_reason(out, g, net)
-}
 
 // Writes into a lent buffer why the diffusion has no answer for a net, labels standing for place numbers, and answers the text's length; a net that is not
 // gated has an empty text. A net that does not fit is turned down, then by 19 a buffer shorter than the text, with no byte written; bytes behind the text
 // stay.
-pub fn reason(net: Net, out: &mut [u8]) -> Result<usize, Refusal>
-    ensures { (out.new, Call.told result) ≡ Call.called net out.old }
+pub fn reason(net: &LentNet, out: &mut [u8]) -> Result<usize, Refusal>
+    ensures { (out.new, Call.told result) ≡ Call.called (net_of net.now) out.old }
 {
-    lent_reason(&net.lent(), out)
+    net::test_net(net)?;
+    let g = gates::gates_of(net);
+    writing::write_reason(out, g, net)
 }

@@ -18,7 +18,7 @@ ghost use Rattle.sde.specs.Call as Call;
 
 use averages::request;
 use gates::Gates;
-use net::{LentNet, Net};
+use net::LentNet;
 use refusals::Refusal;
 
 // Whether there are deviations; or what gates the net; or the refusal that turned the call down; or the one that stopped a path, and the path's number.
@@ -45,7 +45,7 @@ fn call_fault(
         (Tests.or_else (Request.request_fault (record { samples = samples; realizations = realizations; seed = seed; horizon = horizon }))
         (Request.tables_fault (net.places * samples) mean deviation path)) }
 {
-    net::fields_fault(net)?;
+    net::test_net(net)?;
     request::request_fault(samples, realizations, seed, horizon)?;
     let cells = net.places * (samples as usize);
     request::tables_fault(cells, mean, deviation, path)
@@ -55,7 +55,7 @@ fn call_fault(
 // p * samples + i of each table. The last path stays in the path table. A net, a request or a table that does not fit is turned down, and a net that a
 // continuous run cannot express is gated, with nothing touched. Where one normal draw rejects 128 pairs the answer's cells of all three tables are +0.
 pub fn diffuse(
-    net: Net,
+    net: &LentNet,
     samples: u64,
     realizations: u64,
     seed: u64,
@@ -65,12 +65,11 @@ pub fn diffuse(
     path: &mut [f64],
 ) -> DiffusionAnswer
     ensures { Call.call_of result mean.new deviation.new path.new
-        ≡ Call.called net (record { samples = samples; realizations = realizations; seed = seed; horizon = horizon })
+        ≡ Call.called (net_of net.now) (record { samples = samples; realizations = realizations; seed = seed; horizon = horizon })
         (record { mean = mean.old; deviation = deviation.old; path = path.old }) }
 {
-    let lent = net.lent();
     if let Err(c) = call_fault(
-        &lent,
+        net,
         samples,
         realizations,
         seed,
@@ -82,7 +81,7 @@ pub fn diffuse(
         return DiffusionAnswer::TurnedDown(c);
     }
     paths::accepted(
-        &lent,
+        net,
         samples,
         realizations,
         seed,

@@ -67,7 +67,7 @@ pub fn limit_fits(limit: u64) -> bool
 pub fn call_fault(net: &LentNet, instants: &[f64], limit: u64, table: &[f64]) -> Result<(), Refusal>
     ensures { Record.meaning result ≡ Path.call_fault (net_of net.now) instants.now limit table.now }
 {
-    net::fields_fault(net)?;
+    net::test_net(net)?;
     if !instants_fit(instants) {
         return Err(Refusal::BadInstants);
     }

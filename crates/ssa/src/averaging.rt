@@ -18,9 +18,9 @@ ghost use Rattle.ssa.specs.Summing as Summing;
 
 use crate::{EnsembleAnswer, members};
 use averages::{moments, request};
-use engine::slots;
+use engine::slots::{self, Slots};
 use kept::tables::Tables;
-use net::{LentNet, Net};
+use net::LentNet;
 use playing::{shown, tables};
 use refusals::Refusal;
 
@@ -129,7 +129,7 @@ fn lent_ensemble(
 
 // The first test that an ensemble's call meets: those of its net, of its request, and of its tables.
 pub fn call_fault(
-    net: Net,
+    net: &LentNet,
     samples: u64,
     realizations: u64,
     seed: u64,
@@ -138,7 +138,7 @@ pub fn call_fault(
     deviation: &[f64],
     path: &[f64],
 ) -> Result<(), Refusal>
-    ensures { Record.meaning result ≡ Calls.call_fault net (record { samples = samples; realizations = realizations; seed = seed; horizon = horizon })
+    ensures { Record.meaning result ≡ Calls.call_fault (net_of net.now) (record { samples = samples; realizations = realizations; seed = seed; horizon = horizon })
         (record { mean = mean.now; deviation = deviation.now; path = path.now }) }
 {
     net::test_net(net)?;
@@ -149,7 +149,7 @@ pub fn call_fault(
 
 // The ensemble of a call that no test turns down.
 pub fn accepted(
-    net: Net,
+    net: &LentNet,
     samples: u64,
     realizations: u64,
     seed: u64,
@@ -158,15 +158,18 @@ pub fn accepted(
     deviation: &mut [f64],
     path: &mut [f64],
 ) -> EnsembleAnswer
-    requires { (Record.fault net ≡ none) × (Request.request_fault (record { samples = samples; realizations = realizations; seed = seed; horizon = horizon }) ≡ none)
+    requires { let net = net_of net.now in (Record.fault net ≡ none) × (Request.request_fault (record { samples = samples; realizations = realizations; seed = seed; horizon = horizon }) ≡ none)
         × (net.places * samples ≤ length mean.old) × (net.places * samples ≤ length deviation.old) × (net.places * samples ≤ length path.old) }
-    ensures { Ensemble.call_of result mean.new deviation.new path.new ≡ Ensemble.tabulated net.places samples
+    ensures { let net = net_of net.now in Ensemble.call_of result mean.new deviation.new path.new ≡ Ensemble.tabulated net.places samples
         (record { mean = mean.old; deviation = deviation.old; path = path.old })
         (Ensemble.members_from (Record.readable net) (record { samples = samples; realizations = realizations; seed = seed; horizon = horizon }) 0 realizations) }
 {
-    let n = slots::tidied(net);
+    let mut slots = Slots::blank();
+    slots.fill(net);
+    // Lent anew, for no longer than the slots.
+    let fields = *net;
     lent_ensemble(
-        &n.lent(),
+        &slots.of(&fields),
         samples,
         realizations,
         seed,

@@ -126,8 +126,8 @@ pub fn carry_fault(
     ensures { Record.meaning result ≡ Spec.carrying_fault old.now.places (net_of old.now) (net_of net.now) (pairs_of pairs.now)
         (Spec.standing_of old.now.places path.now) instants.now table.now }
 {
-    net::fields_fault(old)?;
-    net::fields_fault(net)?;
+    net::test_net(old)?;
+    net::test_net(net)?;
     state_fault(old.places, path, instants, table)?;
     list_fault(old, net, pairs, &path.timers)
 }

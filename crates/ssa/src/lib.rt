@@ -16,7 +16,7 @@ ghost use Rattle.carried.specs.Pairs.{pairs_of};
 ghost use Rattle.ssa.specs.Halted as Halting;
 ghost use Rattle.ssa.specs.Path as Path;
 
-use net::{LentNet, Net};
+use net::LentNet;
 pub use playing::PathEnd;
 use refusals::Refusal;
 use rng::Xoshiro256;
@@ -69,8 +69,8 @@ pub enum EnsembleAnswer {
 // A path of the net whose fields are lent, from the generator's state: place p at instant i is cell p * n + i of the table, n instants. The end, the steps,
 // how many instants are settled, the peak, how many steps add a rounded propensity and the generator after it are the answer. A net, instants, a limit or a
 // table that does not fit is turned down with nothing touched; a run in which a count would pass 2^53 or a 257th timer would start leaves +0 in the answer's
-// cells. A caller that holds the fields already is spared the copy that `path` takes.
-pub fn fields_path(
+// cells.
+pub fn path(
     net: &LentNet,
     generator: Xoshiro256,
     instants: &[f64],
@@ -85,23 +85,10 @@ pub fn fields_path(
     }
 }
 
-// The same of a net that is given whole.
-pub fn path(
-    net: Net,
-    generator: Xoshiro256,
-    instants: &[f64],
-    limit: u64,
-    table: &mut [f64],
-) -> PathAnswer
-    ensures { Path.call_of result table.new ≡ Path.called net (Random.words generator.s) instants.now limit table.old }
-{
-    fields_path(&net.lent(), generator, instants, limit, table)
-}
-
 // A path of the net whose fields are lent that names a number of steps: once it has done that many and another would follow, it is halted, with the cells of the
 // instants that it has not recorded left as they were. The end, how many instants are settled and where the path stands are the answer; of a path that is turned
 // down the number, 0, and the state of a path that has not begun. What is turned down, and what is then touched, is as of `path`.
-pub fn fields_path_until(
+pub fn path_until(
     net: &LentNet,
     generator: Xoshiro256,
     instants: &[f64],
@@ -117,25 +104,11 @@ pub fn fields_path_until(
     }
 }
 
-// The same of a net that is given whole.
-pub fn path_until(
-    net: Net,
-    generator: Xoshiro256,
-    instants: &[f64],
-    limit: u64,
-    named: u64,
-    table: &mut [f64],
-) -> Onward
-    ensures { Halting.call_of net.places result table.new ≡ Halting.naming net (Random.words generator.s) instants.now limit named table.old }
-{
-    fields_path_until(&net.lent(), generator, instants, limit, named, table)
-}
-
 // A path that was halted over the old net, carried to the new one by a renaming list, two words a pair, and played on there, for at most so many steps of this
 // call's own. The answer is as of `path_until`. A net, a state, instants, a limit, a table, a recorded cell or a list that does not fit is turned down with the
 // state given back and nothing touched; a run in which a count would pass 2^53 or a 257th timer would start gives the state back as it was carried and leaves
 // +0 in every cell of the answer.
-pub fn fields_carry(
+pub fn carry(
     old: &LentNet,
     net: &LentNet,
     pairs: &[u64],
@@ -153,36 +126,12 @@ pub fn fields_carry(
     }
 }
 
-// The same of nets that are given whole.
-pub fn carry(
-    old: Net,
-    new: Net,
-    pairs: &[u64],
-    path: Halted,
-    instants: &[f64],
-    named: u64,
-    table: &mut [f64],
-) -> Onward
-    ensures { Halting.call_of old.places result table.new ≡ Halting.carrying old new (pairs_of pairs.now) (Halting.standing_of old.places path)
-        instants.now named table.old }
-{
-    fields_carry(
-        &old.lent(),
-        &new.lent(),
-        pairs,
-        path,
-        instants,
-        named,
-        table,
-    )
-}
-
 // Paths from consecutive seeds over a grid of instants: their means and deviations go to the first cells of those tables, place p at instant i in cell
 // p * samples + i, and the last path to the path table. How many paths were spent is the answer, and whether there are deviations. A net, samples,
 // realizations, a horizon or a table that does not fit is turned down with nothing touched; a path that is refused leaves +0 in the answer's cells of
 // all three tables, and its number is given.
 pub fn ensemble(
-    net: Net,
+    net: &LentNet,
     samples: u64,
     realizations: u64,
     seed: u64,
@@ -192,7 +141,7 @@ pub fn ensemble(
     path: &mut [f64],
 ) -> EnsembleAnswer
     ensures { Ensemble.call_of result mean.new deviation.new path.new
-        ≡ Ensemble.called net (record { samples = samples; realizations = realizations; seed = seed; horizon = horizon })
+        ≡ Ensemble.called (net_of net.now) (record { samples = samples; realizations = realizations; seed = seed; horizon = horizon })
         (record { mean = mean.old; deviation = deviation.old; path = path.old }) }
 {
     match averaging::call_fault(

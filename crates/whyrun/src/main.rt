@@ -20,7 +20,7 @@ fn show_refused(rt: &HostRuntime, number: u64, line: u64) {
 
 fn show_reason(rt: &HostRuntime, net: net::Net) {
     let mut out = [0u8; 2080];
-    match reason::reason(net, &mut out) {
+    match reason::reason(&net.lent(), &mut out) {
         Ok(n) => {
             show(rt, &out, n);
             show(rt, b"\n", 1);

@@ -22,9 +22,3 @@ returns-in-Gated c =
     ap₂ (λ (m d : ℕ). 100 ∷ 0 ∷ g.reads ∷ g.inhibitors ∷ g.nonkinetic ∷ m ∷ d ∷ [])
     (sym (mask_whole g.bounded (omega arith))) (c.from-in-Gated.ensures ∙ flag g.delayed)
     ∙ ap (λ (z : DiffusionAnswer). told_of (outcome_of z)) (sym c.in-Gated.is)
-
-pub returns-in-TurnedDown : goal.returns-in-TurnedDown
-returns-in-TurnedDown c = ap (λ (z : DiffusionAnswer). told_of (outcome_of z)) (sym c.in-TurnedDown.is)
-
-pub returns-in-Stopped : goal.returns-in-Stopped
-returns-in-Stopped c = ap (λ (z : DiffusionAnswer). told_of (outcome_of z)) (sym c.in-Stopped.is)

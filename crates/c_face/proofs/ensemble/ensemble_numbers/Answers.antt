@@ -12,9 +12,3 @@ pub returns-in-Averaged : goal.returns-in-Averaged
 returns-in-Averaged c =
     ap (λ (d : ℕ). 0 ∷ c.in-Averaged.spent ∷ d ∷ []) (c.from.ensures ∙ flag c.in-Averaged.deviates)
     ∙ ap (λ (z : EnsembleAnswer). told_of (outcome_of z)) (sym c.in-Averaged.is)
-
-pub returns-in-TurnedDown : goal.returns-in-TurnedDown
-returns-in-TurnedDown c = ap (λ (z : EnsembleAnswer). told_of (outcome_of z)) (sym c.in-TurnedDown.is)
-
-pub returns-in-Stopped : goal.returns-in-Stopped
-returns-in-Stopped c = ap (λ (z : EnsembleAnswer). told_of (outcome_of z)) (sym c.in-Stopped.is)

@@ -3,6 +3,8 @@ use Prim.Native.Nat.{ℕ}
 use mathlib.Core.Path.{◌≡◌, refl, ap}
 use mathlib.Core.List.{List, [], ◌∷◌}
 use lib.Ieee.{Float}
+use Rattle.refusals.specs.declared.Refusal.{Refusal}
+use Rattle.refusals.specs.Number.{number_of}
 use Rattle.rules.specs.Step.{given}
 use Rattle.rules.specs.Run.{End, quiet, spent, reached, halted}
 use Rattle.playing.specs.declared.PathEnd.{PathEnd}
@@ -23,7 +25,7 @@ end_given Reached h = (reached, refl)
 end_given Halted h = (halted, refl)
 end_given (Refused k) h = absurd h
 
-unrefused : (e : PathEnd) → ((k : ℕ) → e ≡ Refused k → ⊥) → NotRefused e
+unrefused : (e : PathEnd) → ((k : Refusal) → e ≡ Refused k → ⊥) → NotRefused e
 unrefused Quiet h = tt
 unrefused Spent h = tt
 unrefused Reached h = tt
@@ -31,8 +33,9 @@ unrefused Halted h = tt
 unrefused (Refused k) h = absurd (h k refl)
 
 module _ (places : ℕ) (r : Onward) (k : ℕ) (ws : List ℕ) (ts : List Float) where
-  left_refused : r.end ≡ Refused k → (table : List Float) → Left (call_of places r table) (k ∷ 0 ∷ 0 ∷ 0 ∷ 0 ∷ []) ws ts ws ts table
-  left_refused e table = record { numbers = rw e; path = rw e (refl, refl); cells = refl }
+  left_refused : (c : Refusal) → r.end ≡ Refused c → k ≡ number_of c → (table : List Float) →
+      Left (call_of places r table) (k ∷ 0 ∷ 0 ∷ 0 ∷ 0 ∷ []) ws ts ws ts table
+  left_refused c e h table = record { numbers = rw e (ap (λ (j : ℕ). j ∷ 0 ∷ 0 ∷ 0 ∷ 0 ∷ []) h); path = rw e (refl, refl); cells = refl }
 
   left_given : (ws' : List ℕ) (ts' : List Float) → NotRefused r.end → k ≡ end_number (end_of r.end) → Written (standing_of places r.state) ws' ts'
       → (table : List Float) → Left (call_of places r table) (k ∷ r.state.steps ∷ r.settled ∷ r.state.peak ∷ r.state.rounded ∷ []) ws ts ws' ts' table
@@ -47,7 +50,7 @@ module _ (places : ℕ) (r : Onward) (k : ℕ) (ws : List ℕ) (ts : List Float)
 pub returns-in-Refused : goal.returns-in-Refused
 returns-in-Refused c =
     let s = c.args in
-    left_refused s.places s.r c.in-Refused.c s.halted.now s.times.now c.in-Refused.is
+    left_refused s.places s.r c.number.result s.halted.now s.times.now c.in-Refused.c c.in-Refused.is c.number.ensures
 
 pub returns : goal.returns
 returns c =

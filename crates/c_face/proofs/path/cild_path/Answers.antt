@@ -1,4 +1,4 @@
--- `c_face::path::cild_path` meets its contract: what `fields_path` ensures of the fields and words lent, read off field by field. Assumes nothing.
+-- `c_face::path::cild_path` meets its contract: what `path` ensures of the fields and words lent, read off field by field. Assumes nothing.
 use Prim.Native.Nat.{ℕ}
 use mathlib.Core.Path.{◌≡◌, ap, ◌∙◌}
 use mathlib.Core.List.{List, [], ◌∷◌}
@@ -17,5 +17,5 @@ left r table n s l e h k =
 
 pub returns : goal.returns
 returns c =
-    let e = rw c.from_state.ensures at c.fields_path-r.ensures in
-    left c.fields_path-r.result _ _ _ _ e c.end_number.ensures c.state.ensures
+    let e = rw c.from_state.ensures at c.path-r.ensures in
+    left c.path-r.result _ _ _ _ e c.end_number.ensures c.state.ensures

@@ -1,15 +1,12 @@
--- `c_face::soak_load::cild_soak` meets its contract: what `soak` ensures of the buffer lent, read off part by part. Assumes nothing.
+-- What `soak` ensures of the buffer lent, read off part by part.
 use Prim.Native.Nat.{ℕ}
-use mathlib.Core.Path.{◌≡◌, ap, ◌∙◌}
-use mathlib.Core.List.{List}
+use mathlib.Core.Path.{ap, ◌∙◌}
+use Rattle.std.specs.Prelude.{Result}
 use Rattle.text.specs.Text.{Bytes}
-use Rattle.soak.specs.declared.Answer.{Answer}
-use Rattle.c_face.specs.Soaked.{told_of, Left}
+use Rattle.c_face.specs.Soaked.{told_of}
 use Rattle.c_face.proofs.soak_load.cild_soak.Goals as goal
 
--- what an answer says is what its call leaves
-left : (out : Bytes) (r : Answer) (told : List ℕ) (s : Bytes × Answer) → (out, r) ≡ s → told ≡ told_of r → Left s told out
-left out r told s e h = (h ∙ ap (λ (x : Bytes × Answer). told_of x.1) e, ap (λ (x : Bytes × Answer). x.0) e)
-
 pub returns : goal.returns
-returns c = left _ c.soak-answer.result _ _ c.soak-answer.ensures c.soak_numbers.ensures
+returns c =
+    let e = c.soak-answer.ensures in
+    (c.soak_numbers.ensures ∙ ap (λ (x : Bytes × Result ℕ ℕ). told_of x.1) e, ap (λ (x : Bytes × Result ℕ ℕ). x.0) e)

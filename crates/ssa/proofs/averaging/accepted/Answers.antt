@@ -1,42 +1,39 @@
--- The tidied net reads as the net, and has its places and initial counts. Assumes nothing.
-use Rattle.std.proofs.Common.{◌≡◌, ℕ, ◌*◌, ◌^◌, ◌<◌, ◌≤◌, length, get_or, sym, subst}
+-- The net with its slots in order reads as the net. Assumes nothing.
+use Rattle.std.proofs.Common.{◌≡◌, ℕ, ◌*◌, ◌^◌, ◌<◌, ◌≤◌, length, get_or, refl, sym, subst}
 use Rattle.std.proofs.Math.Option.{none}
 use Rattle.net.specs.declared.Net.{Net as NetRecord}
 use Rattle.net.specs.Readable.{readable}
+use Rattle.net.specs.Record.{net_of}
 use Rattle.net.proofs.Sound.{sound}
 use Rattle.averages.specs.Request.{Request, request_fault}
 use Rattle.averages.specs.Tables.{Tables}
 use Rattle.engine.specs.Engine.{Tidy}
 use Rattle.ssa.specs.Ensemble.{call_of, tabulated, members_from}
-use Rattle.ssa.proofs.Accepted.{first_small, same_room}
 use Rattle.ssa.proofs.Requested.{same_ensemble}
 use Rattle.ssa.proofs.averaging.accepted.Goals as goal
 
 pub lent_ensemble-requires : goal.lent_ensemble-requires
 lent_ensemble-requires c =
     let a = c.args in
-    let r = c.tidied-n.result in
-    let e = c.tidied-n.ensures in
     let q : Request = record { samples = a.samples; realizations = a.realizations; seed = a.seed; horizon = a.horizon } in
     let Asked : NetRecord → Type 0
     = λ n. Tidy n × ((p : ℕ) → p < n.places → get_or n.initial p 0 ≤ 2 ^ 53) × (request_fault q ≡ none)
-    × (n.places * a.samples ≤ length a.mean.now) × (n.places * a.samples ≤ length a.deviation.now) × (n.places * a.samples ≤ length a.path.now) in
-    subst Asked (sym c.lent.ensures) (
-      e.1,
-      first_small r a.net (sound a.net c.requires.0) e.2 e.3,
+        × (n.places * a.samples ≤ length a.mean.now) × (n.places * a.samples ≤ length a.deviation.now) × (n.places * a.samples ≤ length a.path.now) in
+    subst Asked (sym c.of.ensures) (
+      c.fill.ensures.tidy,
+      (sound (net_of a.net.now) c.requires.0).initial,
       c.requires.1,
-      same_room _ _ e.2 c.requires.2,
-      same_room _ _ e.2 c.requires.3,
-      same_room _ _ e.2 c.requires.4,
+      c.requires.2,
+      c.requires.3,
+      c.requires.4,
     )
 
 pub returns : goal.returns
 returns c =
     let a = c.args in
-    let e = c.tidied-n.ensures in
     let l = c.lent_ensemble in
     let q : Request = record { samples = a.samples; realizations = a.realizations; seed = a.seed; horizon = a.horizon } in
     let t : Tables = record { mean = a.mean.now; deviation = a.deviation.now; path = a.path.now } in
     let Said : NetRecord → Type 0
     = λ n. call_of l.result l.new.mean l.new.deviation l.new.path ≡ tabulated n.places a.samples t (members_from (readable n) q 0 a.realizations) in
-    same_ensemble c.tidied-n.result a.net q t e.2 e.0 (subst Said c.lent.ensures l.ensures)
+    same_ensemble _ (net_of a.net.now) q t refl c.fill.ensures.reads (subst Said c.of.ensures l.ensures)

@@ -27,28 +27,28 @@ module _ (places : ℕ) (old new : NetRecord) (ps : List Pair) (s : Standing) (x
       → carrying_fault places old new ps s xs table ≡ or_else a (or_else b (or_else f l))
   fault_by x y z v = λ i. or_else (x i) (or_else (y i) (or_else (z i) (v i)))
 
-pub returns-in_err-fields_fault : goal.returns-in_err-fields_fault
-returns-in_err-fields_fault c =
+pub returns-in_err-test_net : goal.returns-in_err-test_net
+returns-in_err-test_net c =
     let a = c.args in
     let old = net_of a.old.now in
     let new = net_of a.net.now in
     let s = standing_of a.old.now.places a.path.now in
     let xs = a.instants.now in
     let p = err_from_is_err_and c.from_residual.result c.from_residual.ensures.1 in
-    rw (p.1, p.2) (sym (fault_by a.old.now.places old new (pairs_of a.pairs.now) s xs a.table.now (sym c.in_err-fields_fault.ensures) refl refl refl))
+    rw (p.1, p.2) (sym (fault_by a.old.now.places old new (pairs_of a.pairs.now) s xs a.table.now (sym c.in_err-test_net.ensures) refl refl refl))
 
-pub returns-in_err-fields_fault-2 : goal.returns-in_err-fields_fault-2
-returns-in_err-fields_fault-2 c =
+pub returns-in_err-test_net-2 : goal.returns-in_err-test_net-2
+returns-in_err-test_net-2 c =
     let a = c.args in
     let old = net_of a.old.now in
     let new = net_of a.net.now in
     let s = standing_of a.old.now.places a.path.now in
     let xs = a.instants.now in
-    let p = err_from_is_err_and c.from_residual-in_err-fields_fault-2.result c.from_residual-in_err-fields_fault-2.ensures.1 in
-    rw (p.1, p.2) (sym (fault_by a.old.now.places old new (pairs_of a.pairs.now) s xs a.table.now (sym c.in_ok-fields_fault.ensures) (sym c.in_err-fields_fault-2.ensures) refl refl))
+    let p = err_from_is_err_and c.from_residual-in_err-test_net-2.result c.from_residual-in_err-test_net-2.ensures.1 in
+    rw (p.1, p.2) (sym (fault_by a.old.now.places old new (pairs_of a.pairs.now) s xs a.table.now (sym c.in_ok-test_net.ensures) (sym c.in_err-test_net-2.ensures) refl refl))
 
 pub state_fault-requires : goal.state_fault-requires
-state_fault-requires c = (sound (net_of c.args.old.now) (sym c.in_ok-fields_fault.ensures)).places
+state_fault-requires c = (sound (net_of c.args.old.now) (sym c.in_ok-test_net.ensures)).places
 
 pub returns-in_err-state_fault : goal.returns-in_err-state_fault
 returns-in_err-state_fault c =
@@ -58,13 +58,13 @@ returns-in_err-state_fault c =
     let s = standing_of a.old.now.places a.path.now in
     let xs = a.instants.now in
     let p = err_from_is_err_and c.from_residual-in_err-state_fault.result c.from_residual-in_err-state_fault.ensures.1 in
-    rw (p.1, p.2) (sym (fault_by a.old.now.places old new (pairs_of a.pairs.now) s xs a.table.now (sym c.in_ok-fields_fault.ensures) (sym c.in_ok-fields_fault-2.ensures) (sym c.in_err-state_fault.ensures) refl))
+    rw (p.1, p.2) (sym (fault_by a.old.now.places old new (pairs_of a.pairs.now) s xs a.table.now (sym c.in_ok-test_net.ensures) (sym c.in_ok-test_net-2.ensures) (sym c.in_err-state_fault.ensures) refl))
 
 pub list_fault-requires : goal.list_fault-requires
 list_fault-requires c =
     let a = c.args in (
-      sym c.in_ok-fields_fault-2.ensures,
-      (sound (net_of a.old.now) (sym c.in_ok-fields_fault.ensures)).transitions,
+      sym c.in_ok-test_net-2.ensures,
+      (sound (net_of a.old.now) (sym c.in_ok-test_net.ensures)).transitions,
       (carries a.old.now.places a.path.now a.instants.now a.table.now (sym c.in_ok-state_fault.ensures)).few,
     )
 
@@ -75,5 +75,5 @@ returns c =
     let new = net_of a.net.now in
     let s = standing_of a.old.now.places a.path.now in
     let xs = a.instants.now in
-    sym (fault_by a.old.now.places old new (pairs_of a.pairs.now) s xs a.table.now (sym c.in_ok-fields_fault.ensures) (sym c.in_ok-fields_fault-2.ensures) (sym c.in_ok-state_fault.ensures)
+    sym (fault_by a.old.now.places old new (pairs_of a.pairs.now) s xs a.table.now (sym c.in_ok-test_net.ensures) (sym c.in_ok-test_net-2.ensures) (sym c.in_ok-state_fault.ensures)
     (sym (c.list_fault.ensures (carried_from a.old.now.places s xs a.table.now) refl)))

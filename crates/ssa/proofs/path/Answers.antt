@@ -3,7 +3,7 @@ use Rattle.std.proofs.Common.{sym, ◌∙◌}
 use Rattle.net.specs.Record.{net_of}
 use Rattle.rng.specs.State.{words}
 use Rattle.ssa.proofs.Accepted.{passed, called_by}
-use Rattle.ssa.proofs.fields_path.Goals as goal
+use Rattle.ssa.proofs.path.Goals as goal
 
 pub accepted_path-requires : goal.accepted_path-requires
 accepted_path-requires c =

@@ -3,7 +3,7 @@ use mathlib.Core.Path.{sym}
 use Rattle.std.proofs.lemmas.Result.{err_from_is_err_and}
 use Rattle.net.specs.Record.{net_of}
 use Rattle.net.proofs.Faults.{by_place, by_none, by_moves}
-use Rattle.net.proofs.fields_fault.Goals as goal
+use Rattle.net.proofs.test_net.Goals as goal
 
 pub returns-in_err-places_fault : goal.returns-in_err-places_fault
 returns-in_err-places_fault c =

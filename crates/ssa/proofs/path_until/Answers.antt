@@ -3,7 +3,7 @@ use Rattle.std.proofs.Common.{sym, ◌∙◌}
 use Rattle.net.specs.Record.{net_of}
 use Rattle.rng.specs.State.{words}
 use Rattle.ssa.proofs.Accepted.{passed, naming_by}
-use Rattle.ssa.proofs.fields_path_until.Goals as goal
+use Rattle.ssa.proofs.path_until.Goals as goal
 
 pub accepted_until-requires : goal.accepted_until-requires
 accepted_until-requires c =

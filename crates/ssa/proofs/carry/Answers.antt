@@ -8,7 +8,7 @@ use Rattle.net.proofs.Sound.{sound}
 use Rattle.carried.specs.Pairs.{pairs_of}
 use Rattle.ssa.specs.Halted.{standing_of, carried_from, Passes}
 use Rattle.ssa.proofs.Continued.{carrying_by, passing_all, same_places, answers_same}
-use Rattle.ssa.proofs.fields_carry.Goals as goal
+use Rattle.ssa.proofs.carry.Goals as goal
 
 pub accepted_carry-requires : goal.accepted_carry-requires
 accepted_carry-requires c =
