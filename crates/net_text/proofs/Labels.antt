@@ -11,13 +11,12 @@ use lib.Dec.{eqb, leb}
 use lib.ListN.{length, get_or, take, drop, set, length-drop, take-append-drop}
 use lib.Seq.{get_or-set_same, get_or-set_other, length-take-le, take-append-le, drop-append-le, take_at, drop_at}
 use borrow.Author.Tests.{le-leb, lt-leb, leb-true, eqb-true}
-use Rattle.std.proofs.Common.{◌≢◌}
+use Rattle.std.proofs.Common.{◌≢◌, Option}
 use Rattle.net.specs.Net.{pick, numbered}
 use Rattle.net.specs.Tests.{first_of}
 use Rattle.net.specs.Labels.{label_byte, every, label_tests, label_at, labels_from, label_fault}
 use Rattle.text.specs.Text.{Bytes, bytes}
 use Rattle.text.specs.Buffer.{placed, written}
-use Rattle.text.specs.declared.Written.{Written}
 use Rattle.text.proofs.Places.{fitted}
 use Rattle.net_text.specs.Forms.{Met, wrong, met, say, exactly, up_to_last, label_form}
 use Rattle.net_text.proofs.Forms.{behind_wrong}
@@ -148,8 +147,8 @@ label_long earlier l h = rw (lt-leb (length l) 16 h, middle (leb 1 (length l)) (
     middle false b = refl
 
 -- the writer had room
-pub label_put : (label : List ℕ) (p : ℕ) (l : Bytes) (out : List ℕ) (r : Written) → length label ≡ 512 → p < 32 → length l ≤ 16
+pub label_put : (label : List ℕ) (p : ℕ) (l : Bytes) (out : List ℕ) (r : Option ℕ) → length label ≡ 512 → p < 32 → length l ≤ 16
     → (out, r) ≡ written label (16 * p) l → out ≡ placed label (16 * p) l
 label_put label p l out r room small short e =
-    ap (λ (s : Bytes × Written). s.0)
+    ap (λ (s : Bytes × Option ℕ). s.0)
     (e ∙ sym (fitted label (16 * p) (length l) l (placed label (16 * p) l) refl (omega arith) refl))
