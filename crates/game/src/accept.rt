@@ -85,7 +85,13 @@ fn lent_game(net: &LentNet, sides: &[u64], wanted: usize, count: u64, turns: u64
 }
 
 // The game of a call that no test turns down.
-pub fn accepted_game(net: &LentNet, sides: &[u64], wanted: usize, count: u64, turns: u64) -> FaultFound
+pub fn accepted_game(
+    net: &LentNet,
+    sides: &[u64],
+    wanted: usize,
+    count: u64,
+    turns: u64,
+) -> FaultFound
     requires { let net = net_of net.now in (Record.fault net ≡ none) × Play.Sided net.transitions sides.now × (wanted < net.places) × (turns ≤ 8) }
     ensures { let net = net_of net.now in Play.fault_of result ≡ Search.fault_move turns (Play.game_of (Record.readable net) sides.now wanted count) (Moves.initial_counts (Record.readable net)) }
 {

@@ -29,7 +29,13 @@ pub struct FaultFound {
 // Can the fault side bring the place to exactly the count, within so many turns, however recovery plays? sides[j] is 0 where transition j is the fault
 // side's and 1 where it is recovery's. The answer is how it wins, by the lowest first transition, or that it does not, with the positions examined; or
 // the number by which a net, a delay, a list of sides, a turn number or a place is turned down.
-pub fn game(net: &LentNet, sides: &[u64], place: usize, count: u64, turns: u64) -> Result<FaultFound, Refusal>
+pub fn game(
+    net: &LentNet,
+    sides: &[u64],
+    place: usize,
+    count: u64,
+    turns: u64,
+) -> Result<FaultFound, Refusal>
     ensures is { Call.call_of result ≡ Call.called (net_of net.now) sides.now place count turns }
     ensures exactly { Call.Exact (net_of net.now) sides.now place count turns (Call.call_of result) }
 {

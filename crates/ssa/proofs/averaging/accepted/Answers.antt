@@ -18,7 +18,7 @@ lent_ensemble-requires c =
     let q : Request = record { samples = a.samples; realizations = a.realizations; seed = a.seed; horizon = a.horizon } in
     let Asked : NetRecord → Type 0
     = λ n. Tidy n × ((p : ℕ) → p < n.places → get_or n.initial p 0 ≤ 2 ^ 53) × (request_fault q ≡ none)
-        × (n.places * a.samples ≤ length a.mean.now) × (n.places * a.samples ≤ length a.deviation.now) × (n.places * a.samples ≤ length a.path.now) in
+    × (n.places * a.samples ≤ length a.mean.now) × (n.places * a.samples ≤ length a.deviation.now) × (n.places * a.samples ≤ length a.path.now) in
     subst Asked (sym c.of.ensures) (
       c.fill.ensures.tidy,
       (sound (net_of a.net.now) c.requires.0).initial,
