@@ -2,5 +2,5 @@
 use Rattle.portable_log.proofs.Laws.{no_nan}
 use Rattle.replay_io.proofs.put_float.Goals as goal
 
-pub float_to_bits-x : goal.float_to_bits-x
-float_to_bits-x g c = no_nan c.args.x c.if-x.false
+pub float_to_bits-bits : goal.float_to_bits-bits
+float_to_bits-bits g c = no_nan c.args.x c.if-x.false
