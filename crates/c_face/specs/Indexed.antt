@@ -1,5 +1,5 @@
 -- What a call for a net's index leaves with a caller that reads numbers. Definitions only.
-use Rattle.std.specs.Prelude.{ℕ, ◌≡◌, List, Unit, Result, Ok, Err}
+use Rattle.std.specs.Prelude.{ℕ, ◌≡◌, List, Result, Ok, Err}
 use Rattle.std.proofs.Math.Option.{Option, none, some}
 use Rattle.net.specs.Net.{Net}
 use Rattle.refusals.specs.declared.Refusal.{Refusal}

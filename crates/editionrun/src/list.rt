@@ -34,7 +34,7 @@ fn read_pairs(list: &[u8], words: &mut [u64; 130]) -> Option<usize> {
 
 // How many words the list has as the argument has it, if it is one.
 pub fn list_of(list: &[u8], words: &mut [u64; 130]) -> Option<usize> {
-    if list == b"-" {
+    if list == b"-".as_slice() {
         return Some(0);
     }
     read_pairs(list, words)

@@ -29,6 +29,7 @@ use std::env::Env;
 const MOST_STEPS: u64 = 1_000_000;
 
 // After how many steps the path is halted; and where it is to be carried, the renaming list. The new net's text is empty where it is not.
+#[derive(Drop)]
 struct Asked<'a> {
     steps: u64,
     pairs: Option<&'a [u64]>,

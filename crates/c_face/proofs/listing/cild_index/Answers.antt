@@ -4,7 +4,7 @@ use mathlib.Core.Path.{◌≡◌, sym, subst}
 use mathlib.Core.List.{List}
 use mathlib.Core.Option.{Option}
 use Rattle.net.specs.Net.{Net}
-use Rattle.std.specs.Prelude.{Unit, Result, Ok, Err}
+use Rattle.std.specs.Prelude.{Result, Ok, Err}
 use Rattle.refusals.specs.declared.Refusal.{Refusal}
 use Rattle.index.specs.Table.{Answered}
 use Rattle.c_face.specs.Indexed.{number_of, Left}

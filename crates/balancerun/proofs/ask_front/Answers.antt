@@ -1,7 +1,0 @@
--- `ask_front` is safe: past the test the part has the t bytes that are asked for. Assumes nothing.
-use mathlib.Core.Path.{sym}
-use lib.Seq.{length-take-le}
-use Rattle.balancerun.proofs.ask_front.Goals as goal
-
-pub slice_bounds-ask-end : goal.slice_bounds-ask-end
-slice_bounds-ask-end c = sym (length-take-le _ _ c.if-t-text.true)

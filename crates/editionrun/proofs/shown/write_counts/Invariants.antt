@@ -1,9 +1,0 @@
--- `shown::write_counts` is safe and ends: p stays at 32 or below. Assumes nothing.
-use Rattle.std.proofs.Common.{◌-◌, ◌≤◌}
-use Rattle.editionrun.proofs.shown.write_counts.Given as goal
-
-abbrev pub invariant-loop-p : goal.invariant-loop-p
-invariant-loop-p l = l.p ≤ 32
-
-abbrev pub decreases-loop-p : goal.decreases-loop-p
-decreases-loop-p l = 32 - l.p

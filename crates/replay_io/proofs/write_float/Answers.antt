@@ -1,6 +1,0 @@
--- `replay_io::write_float` is safe and ends: what does not differ from itself is no NaN, so its bits can be read. Assumes nothing.
-use Rattle.portable_log.proofs.Laws.{no_nan}
-use Rattle.replay_io.proofs.write_float.Goals as goal
-
-pub float_to_bits-x : goal.float_to_bits-x
-float_to_bits-x g c = no_nan c.args.x c.if-x.false
