@@ -73,9 +73,6 @@ module _ (places : ℕ) (k p w : List ℕ) (e : ℕ) (before whole : Marking) wh
             gives = λ t. absurd (false≢true t);
           }
 
-  pub taking_all : (counts : List ℕ) (less a : ℕ) → Taking counts less a → e ≤ a → marking places counts ≡ whole
-  taking_all counts less a f h = sym (ap (taking_of (marking places counts)) (slots_end k p w a e h)) ∙ f.left
-
   pub putting_all : (counts : List ℕ) (more a : ℕ) → Putting counts more a → e ≤ a → PutBy true whole (marking places counts)
   putting_all counts more a f h =
       let done = sym (ap (putting_of (marking places counts)) (slots_end k p w a e h)) ∙ f.left in

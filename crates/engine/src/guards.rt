@@ -1,4 +1,5 @@
 // The table by which a change of a count passes most transitions over (specs/Guards), as the functions that move tokens read it.
+// It stays one array of 160 words: `Guards.Guards` and `Guards.crossing`, by which all who hand it on are proved, speak of one list.
 ghost use Rattle.std.specs.Prelude.{◌≡◌, ◌&&◌, ◌||◌, ℕ, ◌+◌, ◌<◌, eqb, leb, ltb, get_or};
 ghost use Rattle.words.specs.Bits.{bit};
 ghost use Rattle.engine.specs.Guards as Guards;

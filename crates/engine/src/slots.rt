@@ -11,7 +11,7 @@ ghost use Rattle.engine.specs.Arcs as Arcs;
 
 use net::{LentNet, Net};
 
-// The group of a slot, by its kind: puts are behind.
+// The group of a slot, by its kind: puts are behind. A number, as in `Arcs.group` and `Arcs.of_group`, which the contracts here name.
 fn group(kind: u64) -> u64
     ensures { result ≡ Arcs.group kind }
 {

@@ -10,9 +10,6 @@ use mathlib.Core.Path.{◌≡◌, ap}
 use Prim.Native.Nat.{◌-◌, ◌<◌}
 use Rattle.engine.proofs.slots.change_at.Goals as goal
 
-pub loop-a-init : goal.loop-a-init
-loop-a-init c = (omega arith, omega arith, omega arith, omega arith, omega arith)
-
 pub overflow_add-put : goal.overflow_add-put
 overflow_add-put c =
     let l = c in

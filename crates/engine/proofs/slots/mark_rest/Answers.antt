@@ -4,11 +4,8 @@ use mathlib.Core.Path.{◌≡◌, subst}
 use Prim.Native.Nat.{ℕ, ◌+◌, ◌-◌, ◌<◌}
 use lib.ListN.{length}
 use Rattle.engine.specs.Limits.{Rest}
-use Rattle.engine.proofs.Limits.{rest_none, rest_more}
+use Rattle.engine.proofs.Limits.{rest_more}
 use Rattle.engine.proofs.slots.mark_rest.Goals as goal
-
-pub loop-a-init : goal.loop-a-init
-loop-a-init c = (c.requires.0, omega arith, rest_none _ _)
 
 pub returns-then-limit-a-ne-NO_LIMIT : goal.returns-then-limit-a-ne-NO_LIMIT
 returns-then-limit-a-ne-NO_LIMIT c =

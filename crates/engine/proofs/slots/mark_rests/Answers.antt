@@ -1,13 +1,9 @@
 -- The table says of every slot its limit, or that a test may end there; from transition j on it is as it was. Assumes nothing.
 use native.Mathlib.Omega.{arith}
-use mathlib.Core.Path.{refl, ◌∙◌}
+use mathlib.Core.Path.{◌∙◌}
 use mathlib.Core.Logic.{inr}
-use Rattle.engine.specs.Limits.{its}
 use Rattle.engine.proofs.Limits.{says_more}
 use Rattle.engine.proofs.slots.mark_rests.Goals as goal
-
-pub loop-j-init : goal.loop-j-init
-loop-j-init c = (c.requires.2, λ a h. refl, λ a. its refl)
 
 pub mark_rest-requires : goal.mark_rest-requires
 mark_rest-requires c =
@@ -24,6 +20,3 @@ loop-j-preserved c =
       λ a h. m.2.outside a (inr (omega (arith, s.requires.1 l.loop-j.j))) ∙ l.loop-j.invariant.1 a (omega arith),
       says_more s.args.arcs.now s.args.limit.now l.loop-j.limit _ l.loop-j.j c.mark_rest.result s.requires.1 m.0 m.2 l.loop-j.invariant.1 l.loop-j.invariant.2,
     )
-
-pub returns : goal.returns
-returns c = c.loop-j.invariant.2

@@ -6,18 +6,6 @@ use Rattle.index.proofs.Placed.{slots_fit, places_fit}
 use Rattle.index.proofs.Guarding.{guarding_more, guarding_next}
 use Rattle.index.proofs.guards.guard_one.Goals as goal
 
-pub overflow_mul-from : goal.overflow_mul-from
-overflow_mul-from c = omega (arith, c.requires.1.transitions)
-
-pub offset_bounds-net-j : goal.offset_bounds-net-j
-offset_bounds-net-j c = omega (arith, c.requires.1.transitions)
-
-pub bounds-net-j : goal.bounds-net-j
-bounds-net-j c = omega (arith, c.requires.1.transitions)
-
-pub overflow_add-end : goal.overflow_add-end
-overflow_add-end c = omega (arith, slots_fit (net_of c.args.net.now) c.requires.1 c.args.j c.requires.0)
-
 pub loop-a-init : goal.loop-a-init
 loop-a-init c = (c.requires.3, slots_fit (net_of c.args.net.now) c.requires.1 c.args.j c.requires.0)
 

@@ -12,20 +12,11 @@ returns-then-k-ne-PUT c =
     let s = c.args in
     lists_arc s.net.now.capacity.now (span s.net.now.kind.now s.net.now.place.now s.net.now.weight.now s.from s.end) _ _ c.if-k-ne-PUT.true
 
-pub offset_bounds-net-p : goal.offset_bounds-net-p
-offset_bounds-net-p c = let s = c in omega (arith, s.requires.2 s.args.a)
-
-pub bounds-net-p : goal.bounds-net-p
-bounds-net-p c = let s = c in s.requires.2 s.args.a
-
 pub returns-then-q-eq0 : goal.returns-then-q-eq0
 returns-then-q-eq0 c =
     let s = c.args in
     let free : get_or s.net.now.capacity.now (get_or s.net.now.place.now s.a 0) 0 ≡ 0 = omega (arith, c.if-q-eq0.true) in
     lists_free s.net.now.capacity.now (span s.net.now.kind.now s.net.now.place.now s.net.now.weight.now s.from s.end) _ _ c.if-k-ne-PUT.false free
-
-pub change_at-c-requires : goal.change_at-c-requires
-change_at-c-requires c = let p = c.requires in (p.1, λ b _ _. p.3 b)
 
 pub returns : goal.returns
 returns c =
