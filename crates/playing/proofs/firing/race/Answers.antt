@@ -35,23 +35,37 @@ fire-requires c =
     (omega (arith, c.if-j-net.true, t.transitions), t.places, t.arcs, t.place, t.weight, c.requires.0.small, t.order _ c.if-j-net.true)
 
 pub overflow_add-result : goal.overflow_add-result
-overflow_add-result c = omega (arith, c.requires.3, tokens_few c.args.clock c.args.rng.s c.requires.0, c.in-Some.ensures.told.1)
+overflow_add-result c = omega (arith, c.requires.3, tokens_few c.args.clock c.args.rng.s c.requires.0, c.in-Some-fire.ensures.told.1)
 
 pub overflow_sub-result : goal.overflow_sub-result
-overflow_sub-result c = omega (arith, c.requires.3, c.in-Some.ensures.told.0)
+overflow_sub-result c = omega (arith, c.requires.3, c.in-Some-fire.ensures.told.0)
 
-pub returns-in-Some : goal.returns-in-Some
-returns-in-Some c =
+pub returns-in-Some-fire : goal.returns-in-Some-fire
+returns-in-Some-fire c =
     let a = c.args in
     let n = net_of a.net.now in
     let d = c.uniform-d in
-    let p = c.in-Some.ensures in
+    let p = c.in-Some-fire.ensures in
     record {
-      is = race_at n a.counts.now a.ats.now a.owners.now a.ring a.clock a.a0 a.rng.s d.result.rng.s (take n.transitions a.props.now) d.result.value (some c.in-Chosen.j)
-          d.ensures.0 d.ensures.1 (sym (ap choice_of c.in-Chosen.is) ∙ c.choose_by_sums-chosen.ensures) c.in-Chosen.j refl c.if-j-net.true c.fire.new.counts _ true p.moves
+      is = race_at n a.counts.now a.ats.now a.owners.now a.ring a.clock a.a0 a.rng.s d.result.rng.s (take n.transitions a.props.now) d.result.value (some c.in-Some.j)
+          d.ensures.0 d.ensures.1 (sym (ap choice_of c.in-Some.is) ∙ c.choose_by_sums-chosen.ensures) c.in-Some.j refl c.if-j-net.true c.fire.new.counts _ true p.moves
           (λ z. omega (arith, c.requires.3, p.told.0));
-      ready = ready (goal.at.returns-in-Some c).Start c.fire.new.counts p.small;
+      ready = ready (goal.at.returns-in-Some-fire c).Start c.fire.new.counts p.small;
       quiet = (p.told.2 c.requires.0.tidy c.requires.4).0;
+    }
+
+pub returns-in-None-fire : goal.returns-in-None-fire
+returns-in-None-fire c =
+    let a = c.args in
+    let n = net_of a.net.now in
+    let d = c.uniform-d in
+    let p = c.in-None-fire.ensures in
+    record {
+      is = race_at n a.counts.now a.ats.now a.owners.now a.ring a.clock a.a0 a.rng.s d.result.rng.s (take n.transitions a.props.now) d.result.value (some c.in-Some.j)
+          d.ensures.0 d.ensures.1 (sym (ap choice_of c.in-Some.is) ∙ c.choose_by_sums-chosen.ensures) c.in-Some.j refl c.if-j-net.true c.fire.new.counts _ false p.moves
+          (λ z. absurd (false≢true z));
+      ready = ready (goal.at.returns-in-None-fire c).Start c.fire.new.counts p.small;
+      quiet = search rules;
     }
 
 pub returns-in-None : goal.returns-in-None
@@ -59,24 +73,10 @@ returns-in-None c =
     let a = c.args in
     let n = net_of a.net.now in
     let d = c.uniform-d in
-    let p = c.in-None.ensures in
-    record {
-      is = race_at n a.counts.now a.ats.now a.owners.now a.ring a.clock a.a0 a.rng.s d.result.rng.s (take n.transitions a.props.now) d.result.value (some c.in-Chosen.j)
-          d.ensures.0 d.ensures.1 (sym (ap choice_of c.in-Chosen.is) ∙ c.choose_by_sums-chosen.ensures) c.in-Chosen.j refl c.if-j-net.true c.fire.new.counts _ false p.moves
-          (λ z. absurd (false≢true z));
-      ready = ready (goal.at.returns-in-None c).Start c.fire.new.counts p.small;
-      quiet = search rules;
-    }
-
-pub returns-in-Nobody : goal.returns-in-Nobody
-returns-in-Nobody c =
-    let a = c.args in
-    let n = net_of a.net.now in
-    let d = c.uniform-d in
     record {
       is = race_none n a.counts.now a.ats.now a.owners.now a.ring a.clock a.a0 a.rng.s d.result.rng.s (take n.transitions a.props.now) d.result.value none
-          d.ensures.0 d.ensures.1 (sym (ap choice_of c.in-Nobody.is) ∙ c.choose_by_sums-chosen.ensures) _ refl (omega (arith, c.requires.3));
-      ready = ready (goal.at.returns-in-Nobody c).Start a.counts.now c.requires.0.small;
+          d.ensures.0 d.ensures.1 (sym (ap choice_of c.in-None.is) ∙ c.choose_by_sums-chosen.ensures) _ refl (omega (arith, c.requires.3));
+      ready = ready (goal.at.returns-in-None c).Start a.counts.now c.requires.0.small;
       quiet = quiet_none (readable n) (marking n.places a.counts.now);
     }
 
@@ -86,8 +86,8 @@ returns-else-j-net c =
     let n = net_of a.net.now in
     let d = c.uniform-d in
     record {
-      is = race_past n a.counts.now a.ats.now a.owners.now a.ring a.clock a.a0 a.rng.s d.result.rng.s (take n.transitions a.props.now) d.result.value (some c.in-Chosen.j)
-          d.ensures.0 d.ensures.1 (sym (ap choice_of c.in-Chosen.is) ∙ c.choose_by_sums-chosen.ensures) c.in-Chosen.j refl _ c.if-j-net.false c.requires.0.small (omega (arith, c.requires.3));
+      is = race_past n a.counts.now a.ats.now a.owners.now a.ring a.clock a.a0 a.rng.s d.result.rng.s (take n.transitions a.props.now) d.result.value (some c.in-Some.j)
+          d.ensures.0 d.ensures.1 (sym (ap choice_of c.in-Some.is) ∙ c.choose_by_sums-chosen.ensures) c.in-Some.j refl _ c.if-j-net.false c.requires.0.small (omega (arith, c.requires.3));
       ready = ready (goal.at.returns-else-j-net c).Start a.counts.now c.requires.0.small;
       quiet = quiet_none (readable n) (marking n.places a.counts.now);
     }
