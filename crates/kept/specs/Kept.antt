@@ -2,10 +2,11 @@
 -- transitions or a table by transition. Document 02, order 5: "the kept propensities equal a full working at each step". Of a transition
 -- in the word `crossed` it is not known whether it is enabled, and of one in `moved` not what its ways multiply to. The plain working is in the crate rules (Propensity, Exact); nothing here
 -- adds to it.
-use Rattle.std.specs.Prelude.{ℕ, ◌+◌, ◌-◌, ◌*◌, ◌≤◌, ◌<◌, ◌≡◌, Bool, true, false, ◌&&◌, List, eqb, leb, length, get_or, Float}
+use Rattle.std.specs.Prelude.{ℕ, ◌+◌, ◌-◌, ◌*◌, ◌≤◌, ◌<◌, ◌≡◌, Bool, true, false, ◌&&◌, List, eqb, leb, length, get_or, replicate, Float}
 use Rattle.std.specs.Float.{nan}
 use Rattle.words.specs.Bits.{bit}
 use Rattle.net.specs.declared.Net.{Net as NetRecord}
+use Rattle.kept.specs.declared.tables.Tables.{Tables}
 use Rattle.net.specs.Net.{Net, Marking, zero64, rate_of, timed}
 use Rattle.net.specs.Readable.{readable}
 use Rattle.rules.specs.Enabled.{enabled}
@@ -36,6 +37,10 @@ abbrev pub AllShut : Net → Marking → Type 0
 AllShut n m = (j : ℕ) → j < length n.transitions → timed (transition n j) ≡ true → enabled n m (transition n j) ≡ false
 
 -- ---- made once a call
+
+-- tables that nothing has filled
+abbrev pub blank : Tables
+blank = record { limit = replicate 1024 0; rates = replicate 64 zero64; ends = replicate 64 0; guards = replicate 160 0; timed = 0; heavy = 0 }
 
 -- the rate of each transition: 0 where it runs by a timer, and 1 where none is given
 abbrev pub Rates : NetRecord → List Float → Type 0

@@ -21,7 +21,9 @@ pub struct Tables {
 }
 
 // Tables that nothing has filled.
-pub fn empty() -> Tables {
+pub fn empty() -> Tables
+    ensures { result ≡ Kept.blank }
+{
     Tables {
         limit: [0; 1024],
         rates: [0.0; 64],
@@ -48,7 +50,7 @@ fn end_of(kind: &[u64; 1024], from: usize, end: usize) -> usize
     ensures { (result ≤ end) × ((a : ℕ) → result ≤ a → from ≤ a → a < end → get_or kind.now a 0 ≡ 0 → ⊥) }
 {
     for a in (from..end).rev() {
-        if kind[a] == 0 {
+        if kind[a] == net::KINETIC_TAKE {
             return a + 1;
         }
     }
@@ -66,7 +68,7 @@ fn single(kind: &[u64; 1024], weight: &[u64; 1024], a: usize) -> bool
     requires { a < 1024 }
     ensures { result ≡ Kept.single kind.now weight.now a }
 {
-    kind[a] == 0 && weight[a] <= 1
+    kind[a] == net::KINETIC_TAKE && weight[a] <= 1
 }
 
 // What the table has for a transition whose slots begin at `from`, and whose kinetic takes end at `end`.

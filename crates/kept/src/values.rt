@@ -45,8 +45,8 @@ fn times_two(x: f64, place: &[usize; 1024], counts: &[u64; 32], a: usize) -> f64
 {
     let p = place[a];
     let q = place[a + 1];
-    let y = marking::times(x, 0, ONE_TOKEN, counts[p]);
-    marking::times(y, 0, ONE_TOKEN, counts[q])
+    let y = marking::times(x, net::KINETIC_TAKE, ONE_TOKEN, counts[p]);
+    marking::times(y, net::KINETIC_TAKE, ONE_TOKEN, counts[q])
 }
 
 // The same, where the table says that they are the counts of one place or two without a walk.
@@ -62,7 +62,7 @@ fn value(net: &LentNet, tables: &Tables, counts: &[u64; 32], j: usize) -> f64
             return times_two(x, net.place, counts, 16 * j);
         }
         let p = end - tables::ALONE;
-        return marking::times(x, 0, ONE_TOKEN, counts[p]);
+        return marking::times(x, net::KINETIC_TAKE, ONE_TOKEN, counts[p]);
     }
     walked(net, tables, counts, j, end)
 }
