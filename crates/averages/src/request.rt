@@ -18,22 +18,14 @@ pub fn request_fault(
 ) -> Result<(), Refusal>
     ensures { Readable.meaning result ≡ Spec.request_fault (record { samples = samples; realizations = realizations; seed = seed; horizon = horizon }) }
 {
-    if samples < 2 {
+    if !(2..=1024).contains(&samples) {
         return Err(Refusal::BadSamples);
     }
-    if 1024 < samples {
-        return Err(Refusal::BadSamples);
-    }
-    if realizations < 1 {
+    if !(1..=65_535).contains(&realizations) {
         return Err(Refusal::BadRealizations);
     }
-    if 65_535 < realizations {
-        return Err(Refusal::BadRealizations);
-    }
-    if 0.0 < horizon {
-        if horizon <= MOST_HORIZON {
-            return Ok(());
-        }
+    if 0.0 < horizon && horizon <= MOST_HORIZON {
+        return Ok(());
     }
     Err(Refusal::BadHorizon)
 }

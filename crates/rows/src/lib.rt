@@ -18,16 +18,10 @@ pub enum Table {
 fn fault_of(place: usize, places: usize, samples: usize, cells: usize) -> Result<(), Refusal>
     ensures { Readable.meaning result ≡ Row.fault_of place places samples cells }
 {
-    if places <= place {
+    if places <= place || 32 < places {
         return Err(Refusal::NoSuchPlace);
     }
-    if 32 < places {
-        return Err(Refusal::NoSuchPlace);
-    }
-    if samples < 2 {
-        return Err(Refusal::BadSamples);
-    }
-    if 1024 < samples {
+    if !(2..=1024).contains(&samples) {
         return Err(Refusal::BadSamples);
     }
     if cells < places * samples {
