@@ -10,27 +10,27 @@ use Rattle.averages.proofs.Passes.{passing}
 use Rattle.sde.proofs.Tested.{cells_fit}
 use Rattle.sde.proofs.call_fault.Goals as goal
 
-pub returns-in_err-fields_fault : goal.returns-in_err-fields_fault
-returns-in_err-fields_fault c =
+pub returns-in_err-test_net : goal.returns-in_err-test_net
+returns-in_err-test_net c =
     let g = c.args in
     let q : Request = record { samples = g.samples; realizations = g.realizations; seed = g.seed; horizon = g.horizon } in
     let p = err_from_is_err_and c.from_residual.result c.from_residual.ensures.1 in
-    rw (p.1, p.2) (λ i. or_else (c.in_err-fields_fault.ensures i) (or_else (request_fault q) (tables_fault (g.net.now.places * g.samples) g.mean g.deviation g.path)))
+    rw (p.1, p.2) (λ i. or_else (c.in_err-test_net.ensures i) (or_else (request_fault q) (tables_fault (g.net.now.places * g.samples) g.mean g.deviation g.path)))
 
 pub returns-in_err-request_fault : goal.returns-in_err-request_fault
 returns-in_err-request_fault c =
     let g = c.args in
     let p = err_from_is_err_and c.from_residual-in_err-request_fault.result c.from_residual-in_err-request_fault.ensures.1 in
-    rw (p.1, p.2) (λ i. or_else (c.in_ok-fields_fault.ensures i) (or_else (c.in_err-request_fault.ensures i) (tables_fault (g.net.now.places * g.samples) g.mean g.deviation g.path)))
+    rw (p.1, p.2) (λ i. or_else (c.in_ok-test_net.ensures i) (or_else (c.in_err-request_fault.ensures i) (tables_fault (g.net.now.places * g.samples) g.mean g.deviation g.path)))
 
 pub overflow_mul-cells : goal.overflow_mul-cells
 overflow_mul-cells c =
     let g = c.args in
     let q : Request = record { samples = g.samples; realizations = g.realizations; seed = g.seed; horizon = g.horizon } in
-    record { fits = cells_fit _ _ (sound (net_of g.net.now) (sym c.in_ok-fields_fault.ensures)).places (passing q (sym c.in_ok-request_fault.ensures)).few }
+    record { fits = cells_fit _ _ (sound (net_of g.net.now) (sym c.in_ok-test_net.ensures)).places (passing q (sym c.in_ok-request_fault.ensures)).few }
 
 pub returns : goal.returns
 returns c =
     let g = c.args in
     c.tables_fault.ensures
-    ∙ (λ i. or_else (c.in_ok-fields_fault.ensures i) (or_else (c.in_ok-request_fault.ensures i) (tables_fault (g.net.now.places * g.samples) g.mean g.deviation g.path)))
+    ∙ (λ i. or_else (c.in_ok-test_net.ensures i) (or_else (c.in_ok-request_fault.ensures i) (tables_fault (g.net.now.places * g.samples) g.mean g.deviation g.path)))
