@@ -38,7 +38,8 @@ pub fn number_of(digits: &[u8]) -> Option<u64>
     Some(value)
 }
 
-// The number that an argument is, if it is one of at most 20 digits.
+// The number that an argument is, if it is one of at most 20 digits. No contract can say which arguments a program is given, here and in the next one;
+// what a word means as a number, number_of says.
 pub fn number_argument(rt: &HostRuntime, i: usize) -> Option<u64> {
     let mut digits = [0u8; 20];
     let n = rt.arg(i, &mut digits).unwrap_or(0);

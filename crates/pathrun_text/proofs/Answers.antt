@@ -5,14 +5,15 @@ use mathlib.Core.Bool.{Bool, cond}
 use mathlib.Core.Option.{none}
 use lib.ListN.{length}
 use borrow.Author.Tests.{le-leb, lt-leb}
+use Rattle.std.specs.Prelude.{Result, Ok, Err}
+use Rattle.refusals.specs.Number.{number_of}
 use Rattle.net.specs.Readable.{readable, labels, fault}
 use Rattle.text.specs.Text.{Bytes}
 use Rattle.text.specs.Buffer.{placed}
-use Rattle.net_text.specs.Answered.{NetRead}
-use Rattle.net_text.specs.Position.{run_of, answer, AcceptedBy}
-use Rattle.net_text.specs.declared.Judged.{Judged}
-use Rattle.net_text.specs.declared.Judged.TheVariants.{Given, Refused}
+use Rattle.net_text.specs.Answered.{NetRead, meaning, AcceptedBy}
+use Rattle.net_text.specs.Position.{run_of}
 use Rattle.net_text.specs.declared.NetText.{NetText}
+use Rattle.net_text.specs.declared.TurnedDown.{TurnedDown}
 use Rattle.result_text.specs.Lines.{refused_line}
 use Rattle.pathrun_text.specs.Pathrun.{request, ran, answered, output, longest, printed_into}
 use Rattle.pathrun_text.specs.Printing.{in_front}
@@ -24,16 +25,17 @@ module _ (out w : Bytes) where
   pub too_short : length out < longest → ◌≡◌ {A = Bytes × ℕ} (out, 0) (printed_into out w)
   too_short h = ap (λ (b : Bool). cond b (placed out 0 w, length w) (out, 0)) (sym (lt-leb _ _ h))
 
-module _ (text : Bytes) (r : NetText) (is : NetRead text r) where
-  prints : (j : Judged) → r.judged ≡ j → answered (answer j r.net (run_of r.run)) ≡ output text
+module _ (text : Bytes) (r : Result NetText TurnedDown) (is : NetRead text r) where
+  prints : (q : Result NetText TurnedDown) → r ≡ q → answered (meaning q) ≡ output text
   unfolding output
-  prints j e = ap (λ (k : Judged). answered (answer k r.net (run_of r.run))) (sym e) ∙ ap answered is.is
+  prints q e = ap (λ (p : Result NetText TurnedDown). answered (meaning p)) (sym e) ∙ ap answered is.is
 
-  pub on_refused : (c line : ℕ) → r.judged ≡ Refused c line → refused_line c line ≡ output text
-  on_refused c line e = prints (Refused c line) e
+  -- m is the refusal's number as the program computes it
+  pub on_refused : (d : TurnedDown) → r ≡ Err d → {m : ℕ} → m ≡ number_of d.refusal → refused_line m d.line ≡ output text
+  on_refused d e is_number = ap (λ (k : ℕ). refused_line k d.line) is_number ∙ prints (Err d) e
 
-  pub on_given : r.judged ≡ Given → ran (readable r.net) (labels r.net) (request (run_of r.run)) ≡ output text
-  on_given e = prints Given e
+  pub on_given : (g : NetText) → r ≡ Ok g → ran (readable g.net) (labels g.net) (request (run_of g.run)) ≡ output text
+  on_given g e = prints (Ok g) e
 
-  pub given_accepted : r.judged ≡ Given → fault r.net ≡ none
-  given_accepted e = subst (λ (j : Judged). AcceptedBy j r.net) e is.passes
+  pub given_accepted : (g : NetText) → r ≡ Ok g → fault g.net ≡ none
+  given_accepted g e = subst AcceptedBy e is.passes

@@ -11,6 +11,8 @@ use lib.ListN.{length, length-replicate}
 use lib.Ieee.{Float, binary64, of_bits}
 use borrow.Author.Tests.{leb-true}
 use Rattle.refusals.specs as Refusal
+use Rattle.refusals.specs.Number.{number_of}
+use Rattle.refusals.specs.declared.Refusal.{Refusal as RefusalEnum}
 use Rattle.net.specs.Net.{pick, zero64}
 use Rattle.net.specs.Tests.{or_else}
 use Rattle.net.specs.Readable.{readable, labels, fault}
@@ -101,12 +103,14 @@ module _ (n : NetRecord) (asked : RunRecord) (answer : EnsembleAnswer) (mean dev
       ∙ ap (λ (call : Call). shown n.places (labels n) q call.outcome call.tables) (is ∙ called_is n q accepted)
       ∙ ap (λ (k : ℕ). shown k (labels n) q (ensemble_of (readable n) q).outcome (ensemble_of (readable n) q).tables) (places_are n q accepted)
 
-  -- what the cases leave in front of a buffer is what the definition prints
-  pub turned_down : (c : ℕ) → answer ≡ TurnedDown c → (out : Bytes) {s : Bytes × ℕ} → s ≡ in_front out (refused_line c 0) → s ≡ in_front out (ran (readable n) (labels n) q)
-  turned_down c e out h = h ∙ ap (in_front out) (prints (TurnedDown c) e)
+  -- what the cases leave in front of a buffer is what the definition prints; m is the refusal's number as the program computes it
+  pub turned_down : (c : RefusalEnum) → answer ≡ TurnedDown c → (out : Bytes) {m : ℕ} → m ≡ number_of c → {s : Bytes × ℕ} → s ≡ in_front out (refused_line m 0)
+      → s ≡ in_front out (ran (readable n) (labels n) q)
+  turned_down c e out {m} is_number h = h ∙ ap (λ (k : ℕ). in_front out (refused_line k 0)) is_number ∙ ap (in_front out) (prints (TurnedDown c) e)
 
-  pub stopped_run : (c k : ℕ) → answer ≡ Stopped c k → (out : Bytes) {s : Bytes × ℕ} → s ≡ in_front out (refused_line c 0) → s ≡ in_front out (ran (readable n) (labels n) q)
-  stopped_run c k e out h = h ∙ ap (in_front out) (prints (Stopped c k) e)
+  pub stopped_run : (c : RefusalEnum) (k : ℕ) → answer ≡ Stopped c k → (out : Bytes) {m : ℕ} → m ≡ number_of c → {s : Bytes × ℕ} → s ≡ in_front out (refused_line m 0)
+      → s ≡ in_front out (ran (readable n) (labels n) q)
+  stopped_run c k e out {m} is_number h = h ∙ ap (λ (j : ℕ). in_front out (refused_line j 0)) is_number ∙ ap (in_front out) (prints (Stopped c k) e)
 
   module _ (k : ℕ) (b : Bool) (e : answer ≡ Averaged k b) where
     pub averaged_run : (out : Bytes) {s : Bytes × ℕ}

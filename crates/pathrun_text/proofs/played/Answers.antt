@@ -12,20 +12,20 @@ returns-then-out-lt-LONGEST c =
 
 pub run-requires : goal.run-requires
 run-requires c =
-    (c.if-out-lt-LONGEST.false, given_accepted c.args.text.now c.read_net-read.result c.read_net-read.ensures c.in-Given.is)
+    (c.if-out-lt-LONGEST.false, given_accepted c.args.text.now c.read_net.result c.read_net.ensures _ c.in-Ok.is)
 
-pub returns-in-Refused : goal.returns-in-Refused
-returns-in-Refused c =
+pub returns-in-Err : goal.returns-in-Err
+returns-in-Err c =
     let a = c.args in
-    let read = c.read_net-read in
+    let read = c.read_net in
     c.refused.ensures
-    ∙ ap (in_front a.out.now) (on_refused a.text.now read.result read.ensures _ _ c.in-Refused.is)
+    ∙ ap (in_front a.out.now) (on_refused a.text.now read.result read.ensures _ c.in-Err.is c.number.ensures)
     ∙ long_enough a.out.now (output a.text.now) c.if-out-lt-LONGEST.false
 
-pub returns-in-Given : goal.returns-in-Given
-returns-in-Given c =
+pub returns-in-Ok : goal.returns-in-Ok
+returns-in-Ok c =
     let a = c.args in
-    let read = c.read_net-read in
+    let read = c.read_net in
     c.run.ensures
-    ∙ ap (in_front a.out.now) (on_given a.text.now read.result read.ensures c.in-Given.is)
+    ∙ ap (in_front a.out.now) (on_given a.text.now read.result read.ensures _ c.in-Ok.is)
     ∙ long_enough a.out.now (output a.text.now) c.if-out-lt-LONGEST.false

@@ -27,7 +27,7 @@ returns-in-TurnedDown c =
     let e = c.ensemble-answer in
     let call : call_of e.result e.new.mean e.new.deviation e.new.path ≡ called a.net (request (run_of a.asked)) tables =
     as_lent a.net a.asked c.float_of.ensures c.table-mean.ensures c.table-deviation.ensures c.table-path.ensures e.ensures in
-    turned_down a.net a.asked e.result e.new.mean e.new.deviation e.new.path c.requires.1 call _ c.in-TurnedDown.is a.out.now c.refused.ensures
+    turned_down a.net a.asked e.result e.new.mean e.new.deviation e.new.path c.requires.1 call _ c.in-TurnedDown.is a.out.now c.number.ensures c.refused.ensures
 
 pub returns-in-Stopped : goal.returns-in-Stopped
 returns-in-Stopped c =
@@ -35,7 +35,7 @@ returns-in-Stopped c =
     let e = c.ensemble-answer in
     let call : call_of e.result e.new.mean e.new.deviation e.new.path ≡ called a.net (request (run_of a.asked)) tables =
     as_lent a.net a.asked c.float_of.ensures c.table-mean.ensures c.table-deviation.ensures c.table-path.ensures e.ensures in
-    stopped_run a.net a.asked e.result e.new.mean e.new.deviation e.new.path c.requires.1 call _ _ c.in-Stopped.is a.out.now c.refused-in-Stopped.ensures
+    stopped_run a.net a.asked e.result e.new.mean e.new.deviation e.new.path c.requires.1 call _ _ c.in-Stopped.is a.out.now c.number-in-Stopped.ensures c.refused-in-Stopped.ensures
 
 pub returns-in-Averaged : goal.returns-in-Averaged
 returns-in-Averaged c =
