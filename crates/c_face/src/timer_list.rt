@@ -41,10 +41,13 @@ pub extern "C" fn cild_timer_insert(
         ordered: *ordered,
     };
     let x = Timer { at, who, taken };
-    let r = timers::insert(ats, owners, ring, room, x);
-    let after = r.ring;
-    leave(after, start, len, ordered);
-    r.taken
+    match timers::insert(ats, owners, ring, room, x) {
+        Some(after) => {
+            leave(after, start, len, ordered);
+            true
+        }
+        None => false,
+    }
 }
 
 // The ring without its first timer.

@@ -91,31 +91,35 @@ fn real_product(x: f64, w: u64) -> f64
     result
 }
 
-// The largest m, up to 2^53, at which no product of w steps passes 2^53, so that the float is exact; 0 where w is above 16. A `match`: an array would be
-// written to the stack at each call.
+// For each w the largest m, up to 2^53, at which no product of w steps passes 2^53, so that the float is exact.
+static UNROUNDED: [u64; 17] = [
+    9007199254740992,
+    9007199254740992,
+    UNROUNDED_2,
+    262145,
+    15248,
+    2932,
+    1015,
+    489,
+    290,
+    196,
+    146,
+    116,
+    97,
+    84,
+    75,
+    69,
+    64,
+];
+
+// That m; 0 where w is above 16.
 pub fn unrounded(w: u64) -> u64
     ensures { result ≡ get_or Theorems.unrounded w 0 }
 {
-    match w {
-        0 => 9007199254740992,
-        1 => 9007199254740992,
-        2 => UNROUNDED_2,
-        3 => 262145,
-        4 => 15248,
-        5 => 2932,
-        6 => 1015,
-        7 => 489,
-        8 => 290,
-        9 => 196,
-        10 => 146,
-        11 => 116,
-        12 => 97,
-        13 => 84,
-        14 => 75,
-        15 => 69,
-        16 => 64,
-        _ => 0,
+    if 16 < w {
+        return 0;
     }
+    UNROUNDED[w as usize]
 }
 
 // Does x, the product of w factors, equal the binomial coefficient? It does where no step can have rounded; elsewhere whole numbers decide.

@@ -63,11 +63,11 @@ fn try_start<'a>(
                 taken: took.less,
             };
             let put = timers::insert(ats, owners, ring, room, x);
-            if !put.taken {
-                return Err(put.ring);
-            }
+            let Some(after) = put else {
+                return Err(ring);
+            };
             return Ok(Started {
-                timers: put.ring,
+                timers: after,
                 any: true,
                 moved: took.moved,
                 crossed: took.crossed,

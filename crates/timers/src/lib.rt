@@ -7,7 +7,8 @@ mod opening;
 pub mod queue;
 mod slots;
 
-ghost use Rattle.std.specs.Prelude.{◌≡◌, get_or};
+ghost use Rattle.std.specs.Prelude.{◌≡◌, get_or, is_some};
+ghost use Rattle.std.specs.Option.{unwrap_or};
 ghost use Rattle.std.specs.Float.Ieee as Ieee;
 ghost use Rattle.net.specs.Net.{pick};
 ghost use Rattle.rules.specs.Timers as Timers;
@@ -29,13 +30,6 @@ pub struct Ring {
     pub start: usize,
     pub len: usize,
     pub ordered: u64,
-}
-
-// Whether a timer was taken, and the ring after that. No `Option`: `InsertedIn` hands on the ring after a refusal too.
-#[derive(Clone, Copy)]
-pub struct Inserted {
-    pub taken: bool,
-    pub ring: Ring,
 }
 
 // How many timers run.
@@ -66,34 +60,31 @@ fn still_ordered(ordered: u64, at: f64) -> u64
     0
 }
 
-// A new timer goes in front of the first one that completes later, so behind its equals. It is refused, and nothing is touched, if 256 run already, or as
-// many as there is room for.
+// A new timer goes in front of the first one that completes later, so behind its equals; the ring after that. It is refused, and nothing is touched, if 256 run
+// already, or as many as there is room for: then the ring stays.
 pub fn insert(
     ats: &mut [f64; 256],
     owners: &mut [u64; 512],
     ring: Ring,
     room: usize,
     x: Timer,
-) -> Inserted
+) -> Option<Ring>
     ensures { Turning.InsertedIn room (Turning.timer_of x) ats.old owners.old ring
-        ats.new owners.new result.ring result.taken }
+        ats.new owners.new (unwrap_or result ring) (is_some result) }
 {
     let n = count(ring);
     if slots::capped(room) <= n {
-        return Inserted { taken: false, ring };
+        return None;
     }
     let start = ring.start;
     let at = x.at;
     let i = opening::open_place(ats, owners, ring.ordered == 1, start, n, at);
     slots::write(ats, owners, slots::slot(start, i), x);
-    Inserted {
-        taken: true,
-        ring: Ring {
-            start,
-            len: n + 1,
-            ordered: still_ordered(ring.ordered, at),
-        },
-    }
+    Some(Ring {
+        start,
+        len: n + 1,
+        ordered: still_ordered(ring.ordered, at),
+    })
 }
 
 // What is read where no timer runs: an infinite completion time.

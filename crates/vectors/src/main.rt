@@ -40,7 +40,7 @@ fn four(rt: &impl Print, seed: u64) -> io::Result<u64> {
     for n in rng::splitmix64(seed) {
         decimal_line(rt, n)?;
     }
-    Ok(std::num::wrapping_add_u64(seed, words::wrapping_mul(4, 0x9E37_79B9_7F4A_7C15)))
+    Ok(seed.wrapping_add(words::wrapping_mul(4, 0x9E37_79B9_7F4A_7C15)))
 }
 
 fn seeds(rt: &impl Print) -> io::Result<()> {

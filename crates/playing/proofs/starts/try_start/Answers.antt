@@ -1,6 +1,4 @@
 -- The rule's pass over this one transition, by the same tests: it is delayed, it is enabled, and there is room for a timer.
-use borrow.Author.Rules.{rules}
-use borrow.Author.Tests.{not-true, not-false}
 use native.Mathlib.Omega.{arith}
 use mathlib.Core.Path.{◌≡◌, refl, sym, ap, subst, ◌∙◌}
 use mathlib.Core.Bool.{Bool}
@@ -8,18 +6,21 @@ use mathlib.Core.List.{[]}
 use Prim.Native.Nat.{ℕ}
 use lib.Dec.{ltb}
 use lib.ListN.{length}
+use Rattle.std.specs.Prelude.{is_some, true, Option}
+use Rattle.std.specs.Option.{unwrap_or}
 use Rattle.net.specs.Net.{pick}
 use Rattle.net.specs.Readable.{readable, transition}
 use Rattle.net.specs.Record.{net_of}
 use Rattle.rules.specs.Timers.{Timer, timer_of, insert}
 use Rattle.engine.specs.Engine.{marking}
+use Rattle.timers.specs.declared.Ring.{Ring}
 use Rattle.timers.specs.Turning.{timers_of, has_room}
 use Rattle.playing.specs.Stepping.{Light, Ready, Roomy}
 use Rattle.playing.proofs.Light.{light_pick, light_insert}
 use Rattle.playing.proofs.Tokens.{start_takes}
 use Rattle.playing.proofs.Rooms.{room_for, one_more_fits}
 use Rattle.engine.proofs.Touching.{quiet_none}
-use Rattle.playing.proofs.Passes.{try_untimed, try_disabled, try_started, try_full}
+use Rattle.playing.proofs.Passes.{try_untimed, try_disabled, try_started}
 use Rattle.playing.proofs.starts.try_start.Goals as goal
 use Rattle.playing.proofs.starts.try_start.Goals.{After-insert-put}
 
@@ -36,7 +37,7 @@ started : (k : After-insert-put) → let s = k.args in
     let n = net_of s.net.now in
     let q = timers_of s.ats.now s.owners.now s.ring in
     let x : Timer = timer_of s.t s.j (transition n s.j) in
-    timers_of k.insert-put.new.ats k.insert-put.new.owners k.insert-put.result.ring ≡ pick (has_room s.room q) (insert x q) q
+    timers_of k.insert-put.new.ats k.insert-put.new.owners (unwrap_or k.insert-put.result k.args.ring) ≡ pick (has_room s.room q) (insert x q) q
 started k =
     let s = k.args in
     let n = net_of s.net.now in
@@ -51,11 +52,11 @@ started k =
     k.insert-put.ensures.list r.sound ∙ ap (λ (y : Timer). pick (has_room s.room q) (insert y q) q) same
 
 -- whether there is room for it
-free : (k : After-insert-put) → k.insert-put.result.taken ≡ ltb (length (timers_of k.args.ats.now k.args.owners.now k.args.ring)) k.args.room
+free : (k : After-insert-put) → is_some k.insert-put.result ≡ ltb (length (timers_of k.args.ats.now k.args.owners.now k.args.ring)) k.args.room
 free k = k.insert-put.ensures.says ∙ room_for k.requires.2.most (timers_of k.args.ats.now k.args.owners.now k.args.ring)
 
 ready : (k : After-insert-put) → let s = k.args in
-    Ready (net_of s.net.now) s.limit.now k.take-took.new.counts k.insert-put.new.ats k.insert-put.new.owners k.insert-put.result.ring × Roomy s.room k.insert-put.result.ring
+    Ready (net_of s.net.now) s.limit.now k.take-took.new.counts k.insert-put.new.ats k.insert-put.new.owners (unwrap_or k.insert-put.result k.args.ring) × Roomy s.room (unwrap_or k.insert-put.result k.args.ring)
 ready k =
     let s = k.args in
     let r = k.requires.1 in
@@ -72,30 +73,22 @@ ready k =
       one_more_fits (timer_of s.t s.j (transition (net_of s.net.now) s.j)) s.ats.now k.insert-put.new.ats s.owners.now k.insert-put.new.owners k.requires.2 (started k),
     )
 
-pub returns-then-not-put : goal.returns-then-not-put
-returns-then-not-put c =
-    let s = c.args in
-    let n = net_of s.net.now in
-    let k = (goal.at.returns-then-not-put c).After-insert-put in
-    record {
-      is = try_full s.room (readable n) s.t s.j (transition n s.j) (marking n.places s.counts.now) (timers_of s.ats.now s.owners.now s.ring)
-          c.if-d.true (sym c.enabled.ensures ∙ c.if-enabled.true) (sym (free k) ∙ not-true _ c.if-not-put.true);
-      ready = ready k;
-      quiet = search rules;
-    }
-
 pub returns-then-enabled : goal.returns-then-enabled
 returns-then-enabled c =
     let s = c.args in
     let n = net_of s.net.now in
     let k = (goal.at.returns-then-enabled c).After-insert-put in
     let q = timers_of s.ats.now s.owners.now s.ring in
-    let taken = not-false _ c.if-not-put.false in
+    let a = k.insert-put.new.ats in
+    let o = k.insert-put.new.owners in
+    let taken : is_some k.insert-put.result ≡ true = ap (λ (p : Option Ring). is_some p) c.in-Some.is in
+    let left : unwrap_or k.insert-put.result s.ring ≡ c.in-Some.after = ap (λ (p : Option Ring). unwrap_or p s.ring) c.in-Some.is in
     record {
       is = try_started s.room (readable n) s.t s.j (transition n s.j) (marking n.places s.counts.now) q _ _
           c.if-d.true (sym c.enabled.ensures ∙ c.if-enabled.true) (sym (free k) ∙ taken) c.take-took.ensures.0
-          (started k ∙ ap (λ (b : Bool). pick b (insert (timer_of s.t s.j (transition n s.j)) q) q) (sym c.insert-put.ensures.says ∙ taken));
-      ready = ready k;
+          (sym (ap (λ (r : Ring). timers_of a o r) left) ∙ started k
+          ∙ ap (λ (b : Bool). pick b (insert (timer_of s.t s.j (transition n s.j)) q) q) (sym c.insert-put.ensures.says ∙ taken));
+      ready = subst (λ (r : Ring). Ready n s.limit.now k.take-took.new.counts a o r × Roomy s.room r) left (ready k);
       quiet = (c.take-took.ensures.4 c.requires.1.tidy c.requires.3).0;
     }
 
