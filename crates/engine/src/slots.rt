@@ -124,7 +124,7 @@ pub fn tidied(net: Net) -> Net
 pub fn amount(w: u64) -> u64
     ensures { result ≡ Reader.amount w }
 {
-    if w == 0 { 1 } else { w }
+    w.max(1)
 }
 
 // No count reaches it.

@@ -1,5 +1,5 @@
 // One step of a run: starts, the clock reading that it sets, and the completion or firing that ends it.
-ghost use Rattle.std.specs.Prelude.{◌≡◌, ◌*◌, ◌≤◌, max, length, MatchResult};
+ghost use Rattle.std.specs.Prelude.{◌≡◌, ◌*◌, ◌≤◌, length, MatchResult};
 ghost use Rattle.net.specs.Readable as Record;
 ghost use Rattle.net.specs.Record.{net_of};
 ghost use Rattle.net.specs.declared.Net.{Net as NetRecord};
@@ -164,16 +164,6 @@ fn advance(
     })
 }
 
-// The peak with one more moment, at which there are so many tokens.
-fn higher(peak: u64, tokens: u64) -> u64
-    ensures { result ≡ max peak tokens }
-{
-    if peak < tokens {
-        return tokens;
-    }
-    peak
-}
-
 // One step.
 pub fn one_step(
     net: &LentNet,
@@ -277,7 +267,7 @@ pub fn one_step(
                         timers: e.timers,
                         next,
                         tokens: x.tokens,
-                        peak: higher(s.peak, x.tokens),
+                        peak: s.peak.max(x.tokens),
                         rng: e.rng,
                         kept: Keeping {
                             moved: x.moved,
