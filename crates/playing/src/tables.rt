@@ -1,6 +1,6 @@
 // The tables that a call makes once from its net: the limits of its slots, what a propensity is worked from, and the index of document 02's order 5.
 ghost use Rattle.std.specs.Prelude.{◌≡◌, length};
-ghost use Rattle.net.specs.Record.{lent, net_of};
+ghost use Rattle.net.specs.Record.{net_of};
 ghost use Rattle.net.specs.declared.Net.{Net as NetRecord};
 ghost use Rattle.engine.specs.Engine as Engine;
 ghost use Rattle.engine.specs.Limits as Limits;
