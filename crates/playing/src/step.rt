@@ -62,7 +62,8 @@ pub struct Stepped {
     pub ending: Ending,
 }
 
-// What follows the starts of a step: nothing, or an event.
+// What follows the starts of a step: nothing, or an event. Whether the event is a completion stands beside it (`completes`), since specs/Stepping, AdvancedBy, takes the
+// two apart; one Option<bool> or a jump::Next for both has not been tried.
 #[derive(Clone, Copy)]
 pub enum Due {
     Nothing,
