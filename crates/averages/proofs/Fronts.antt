@@ -1,6 +1,6 @@
 -- A loop over the first cells of a table, one store a turn: the table after c turns is the work done on its first c cells, and a turn more is one cell
 -- more. A loop that ends with the table, or with the other table, has done all that was asked. Assumes nothing.
-use Rattle.std.proofs.Common.{◌≡◌, ℕ, zero, suc, ◌+◌, ◌<◌, ◌≤◌, min, List, [], ◌∷◌, length, get_or, set, sym, refl, ap, ◌∙◌, le_of_suc-le-suc, not-suc-le-zero, add-one, arith}
+use Rattle.std.proofs.Common.{◌≡◌, ℕ, zero, suc, ◌+◌, ◌<◌, ◌≤◌, min, List, [], ◌∷◌, ◌++◌, length, get_or, set, replicate, drop, sym, refl, ap, ◌∙◌, le_of_suc-le-suc, not-suc-le-zero, add-one, arith}
 use lib.Ieee.{Float, nan}
 use Rattle.averages.specs.Front.{on_front, with_front, by_number}
 
@@ -35,6 +35,12 @@ on_end f (suc n) zero xs h e = absurd (not-suc-le-zero h)
 on_end f (suc n) (suc k) [] h e = refl
 on_end f (suc n) (suc k) (x ∷ xs) h e =
     ap (λ (l : List Float). f x ∷ l) (on_end f n k xs (le_of_suc-le-suc h) (λ l. le_of_suc-le-suc (e (omega arith))))
+
+-- one value for all, as a fill leaves them
+pub on_front_one : (z : Float) (k : ℕ) (xs : List Float) → k ≤ length xs → on_front (λ (x : Float). z) k xs ≡ replicate k z ++ drop k xs
+on_front_one z zero xs h = refl
+on_front_one z (suc k) [] h = absurd (not-suc-le-zero h)
+on_front_one z (suc k) (x ∷ xs) h = ap (λ (l : List Float). z ∷ l) (on_front_one z k xs (le_of_suc-le-suc h))
 
 -- ---- by f and another table
 

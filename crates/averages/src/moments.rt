@@ -9,9 +9,7 @@ pub fn clear(cells: usize, table: &mut [f64])
     ensures { table.new ≡ Front.on_front (λ (x : Float). zero64) cells table.old }
 {
     let n = cells.min(table.len());
-    for c in 0..n {
-        table[c] = 0.0;
-    }
+    table[..n].fill(0.0);
 }
 
 // Adds the path's cells to the sums.

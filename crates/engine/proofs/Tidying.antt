@@ -19,7 +19,7 @@ use Rattle.net.specs.Net.{Arc, Take, Transition, Net, pick}
 use Rattle.net.specs.declared.Net.{Net as NetRecord}
 use Rattle.net.specs.Readable.{Slot, slot_at, slots, slots_of, takes_of, arcs_of, is_put, is_read, is_block, transition, transition_of, transitions_from, places_from, readable, fault}
 use Rattle.net.specs.Sound.{Sound}
-use Rattle.net.specs.Record.{lent, labelled}
+use Rattle.net.specs.Record.{labelled}
 use Rattle.net.proofs.Sound.{sound}
 use Rattle.rules.specs.Demand3.{takes_once}
 use Rattle.rules.proofs.TakesOnce.{takes_once_lem}
@@ -352,10 +352,3 @@ module _ (n : NetRecord) (arcs kind place weight : List ℕ) (j : ℕ) (d : Done
 
   pub all_tidied : n.transitions ≤ j → fault n ≡ no_fault → Tidied n made
   all_tidied h f = record { reads = made_reads h; tidy = made_tidy h f }
-
--- ---- the same net without its labels
-
-pub tidy_unlabelled : (n : NetRecord) → Tidy n
-    → Tidy (lent n.places n.transitions n.initial n.capacity n.rate n.delay n.arcs n.kind n.place n.weight)
-tidy_unlabelled n t =
-    record { places = t.places; transitions = t.transitions; arcs = t.arcs; place = t.place; weight = t.weight; capacity = t.capacity; once = t.once; order = t.order }

@@ -87,11 +87,7 @@ fn taken_from(count: u64, kind: u64, weight: u64) -> u64
     ensures { result ≡ min count (Reader.pick (leb kind 1) (Reader.amount weight) 0) }
 {
     if kind <= net::TAKE {
-        let a = slots::amount(weight);
-        if count < a {
-            return count;
-        }
-        return a;
+        return count.min(slots::amount(weight));
     }
     0
 }

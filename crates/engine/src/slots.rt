@@ -108,7 +108,7 @@ impl Slots {
 pub fn amount(w: u64) -> u64
     ensures { result ≡ Reader.amount w }
 {
-    if w == 0 { 1 } else { w }
+    w.max(1)
 }
 
 // No count reaches it.

@@ -35,24 +35,14 @@ fn crossed(x: u64) -> bool
 fn lower(least: u64, x: u64, on: bool) -> u64
     ensures { (result ≤ least) × (on ≡ true → result ≤ x) }
 {
-    if on {
-        if x < least {
-            return x;
-        }
-    }
-    least
+    if on { least.min(x) } else { least }
 }
 
 // The larger of two, if so; else the first.
 fn higher(most: u64, x: u64, on: bool) -> u64
     ensures { (most ≤ result) × (on ≡ true → x ≤ result) }
 {
-    if on {
-        if most < x {
-            return x;
-        }
-    }
-    most
+    if on { most.max(x) } else { most }
 }
 
 // Tells the table of a slot of transition j, of that kind and limit, at place p.

@@ -17,7 +17,6 @@ use Rattle.net.specs.Net.{Place, Arc, Transition, pick}
 use Rattle.net.specs.Tests.{first_of, any, empty, place_tests, too_many, no_such_place, outside, rate_fits, delay_fits, taken_twice, delayed_for_nothing, kinetic_total, arcs, or_else, fault_from}
 use Rattle.net.specs.Labels.{label_fits, label_at, labels_from, label_fault}
 use Rattle.net.specs.Readable.{Slot, slot_at, slots, slots_of, strange, transition, places_from, place_fault, places_fault, move_fault, moves_fault, fault}
-use Rattle.net.specs.Record.{lent}
 use Rattle.net.specs.Sound.{Sound, Labelled}
 use Rattle.net.proofs.Slots.{not_first, not_second, any_arcs, length_arcs, length_slots}
 
@@ -269,25 +268,3 @@ module _ (n : NetRecord) (e : fault n ≡ none) where
             ∙ no_label_lem (same (mark p)) n.label n.lengths 0 p
             (fails (used p) 18 none (others (not (label_fits (mark p))) 17 (pick (used p) (some 18) none) (labels p h))) q g;
       }
-
--- ---- the same net without its labels
-
-pub unlabelled : (n : NetRecord) → Sound n
-    → Sound (lent n.places n.transitions n.initial n.capacity n.rate n.delay n.arcs n.kind n.place n.weight)
-unlabelled n s =
-    record {
-      place_one = s.place_one;
-      places = s.places;
-      transitions = s.transitions;
-      initial = s.initial;
-      capacity = s.capacity;
-      arcs = s.arcs;
-      rate = s.rate;
-      delay = s.delay;
-      kind = s.kind;
-      place = s.place;
-      weight = s.weight;
-      once = s.once;
-      delayed = s.delayed;
-      kinetic = s.kinetic;
-    }

@@ -1,5 +1,5 @@
 -- The program's net record, made of its fields.
-use Rattle.std.specs.Prelude.{ℕ, List, [], replicate, Float}
+use Rattle.std.specs.Prelude.{ℕ, List, replicate, Float}
 use Rattle.net.specs.declared.Net.{Net as NetRecord}
 use Rattle.net.specs.declared.lent.LentNet.{LentNet}
 use Rattle.net.specs.Net.{zero64}
@@ -27,11 +27,6 @@ abbrev pub net_of : LentNet → NetRecord
 net_of n =
     labelled n.places n.transitions n.initial.now n.capacity.now n.label.now n.lengths.now n.rate.now n.delay.now n.arcs.now n.kind.now n.place.now
     n.weight.now
-
--- the record of a function that is lent every field but the labels, which no rule of a run sees
-abbrev pub lent : ℕ → ℕ → List ℕ → List ℕ → List Float → List Float → List ℕ → List ℕ → List ℕ → List ℕ → NetRecord
-lent places transitions initial capacity rate delay arcs kind place weight =
-    labelled places transitions initial capacity [] [] rate delay arcs kind place weight
 
 -- no place, no transition, and 0 or +0 in every slot
 abbrev pub blank : NetRecord

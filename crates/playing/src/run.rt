@@ -133,7 +133,8 @@ fn take_steps(
     let mut rounded: u64 = 0;
     let mut end = PathEnd::Reached;
     let mut going = true;
-    // The one way out is the test: the answer is made once, behind the loop, so that the loop can keep its state in registers.
+    // The flag stays for speed: with an answer at each end, tried and measured, a step on the smallest net had 12 instructions more (now 2), and the landing that
+    // had them took 1.08 of the time before, where 1.02 is allowed (docs/DECISIONS, "The loop of a path has one way out"; docs/LANDINGS). One answer, behind the loop.
     while going {
         let clock = at.clock;
         if clock < last {

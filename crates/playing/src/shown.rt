@@ -5,6 +5,7 @@ ghost use Rattle.engine.specs.Engine as Engine;
 ghost use Rattle.playing.specs.Cells as Cells;
 
 use crate::PathEnd;
+use averages::moments;
 
 // The number of the first instant from next on that the clock has not reached.
 fn reached(instants: &[f64], clock: f64, next: usize) -> usize
@@ -44,7 +45,7 @@ pub fn clear(table: &mut [f64], cells: usize)
     requires { cells ≤ length table.old }
     ensures { table.new ≡ Cells.cleared cells table.old }
 {
-    table[..cells].fill(0.0);
+    moments::clear(cells, table);
 }
 
 // Shows the counts at every instant that the clock has reached and that has not been shown, and answers how many have been.

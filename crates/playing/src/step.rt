@@ -1,5 +1,5 @@
 // One step of a run: starts, the clock reading that it sets, and the completion or firing that ends it.
-ghost use Rattle.std.specs.Prelude.{◌≡◌, ◌*◌, ◌≤◌, max, length, MatchResult};
+ghost use Rattle.std.specs.Prelude.{◌≡◌, ◌*◌, ◌≤◌, length, MatchResult};
 ghost use Rattle.net.specs.Readable as Record;
 ghost use Rattle.net.specs.Record.{net_of};
 ghost use Rattle.net.specs.declared.Net.{Net as NetRecord};
@@ -62,7 +62,8 @@ pub struct Stepped {
     pub ending: Ending,
 }
 
-// What follows the starts of a step: nothing, or an event.
+// What follows the starts of a step: nothing, or an event. Whether the event is a completion stands beside it (`completes`), since specs/Stepping, AdvancedBy, takes the
+// two apart; one Option<bool> or a jump::Next for both has not been tried.
 #[derive(Clone, Copy)]
 pub enum Due {
     Nothing,
@@ -162,16 +163,6 @@ fn advance(
             rng: g,
         },
     })
-}
-
-// The peak with one more moment, at which there are so many tokens.
-fn higher(peak: u64, tokens: u64) -> u64
-    ensures { result ≡ max peak tokens }
-{
-    if peak < tokens {
-        return tokens;
-    }
-    peak
 }
 
 // One step.
@@ -277,7 +268,7 @@ pub fn one_step(
                         timers: e.timers,
                         next,
                         tokens: x.tokens,
-                        peak: higher(s.peak, x.tokens),
+                        peak: s.peak.max(x.tokens),
                         rng: e.rng,
                         kept: Keeping {
                             moved: x.moved,

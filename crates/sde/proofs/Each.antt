@@ -10,6 +10,8 @@ use lib.ListN.{length, get_or, set, take, length-set}
 use lib.Seq.{get_or-set_same, get_or-set_other, get_or-take, length-take-le, ext_get_or}
 use lib.Ieee.{Float, nan}
 use borrow.Author.Tests.{eqb-true, eqb-false}
+use Rattle.averages.specs.Front.{on_front}
+use Rattle.averages.proofs.Fronts.{on_front_length}
 use Rattle.sde.specs.Diffusion.{each_from}
 use Rattle.sde.specs.Arrays.{Mapped}
 use Rattle.engine.proofs.Arcs.{on_bool}
@@ -46,6 +48,20 @@ each_one z p [] [] e = refl
 each_one z p [] (y ∷ ys) e = absurd (omega arith)
 each_one z p (x ∷ xs) [] e = absurd (omega arith)
 each_one z p (x ∷ xs) (y ∷ ys) e = ap (λ (l : List Float). z ∷ l) (each_one z (suc p) xs ys (omega arith))
+
+-- one value in the first places of an array
+front_each : (z : Float) (p k : ℕ) (xs : List Float) → take k (on_front (λ (x : Float). z) k xs) ≡ each_from (λ (q : ℕ) (v : Float). z) p (take k xs)
+front_each z p zero xs = refl
+front_each z p (suc k) [] = refl
+front_each z p (suc k) (x ∷ xs) = ap (λ (l : List Float). z ∷ l) (front_each z (suc p) k xs)
+
+pub front_mapped : (z : Float) (places : ℕ) (before after : List Float) → length before ≡ 32 → after ≡ on_front (λ (x : Float). z) places before
+    → Mapped places (λ (p : ℕ) (v : Float). z) before after
+front_mapped z places before after l e =
+    record {
+      long = ap length e ∙ on_front_length (λ (x : Float). z) places before ∙ l;
+      each = ap (take places) e ∙ front_each z 0 places before;
+    }
 
 -- ---- the loop
 

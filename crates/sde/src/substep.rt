@@ -2,7 +2,6 @@
 ghost use Rattle.std.specs.Prelude.{◌≡◌, ◌*◌, ◌+◌, ◌<◌, ◌≤◌, length, get_or};
 ghost use Rattle.std.specs.Float.{binary64, nan};
 ghost use Rattle.std.specs.Float.Ieee.{add};
-ghost use Rattle.net.specs.Net as Reader;
 ghost use Rattle.net.specs.Readable as Record;
 ghost use Rattle.net.specs.Record.{net_of};
 ghost use Rattle.sde.specs.Diffusion as Diffusion;
@@ -10,6 +9,7 @@ ghost use Rattle.sde.specs.Arrays as Arrays;
 
 use crate::propensity;
 use crate::run::Run;
+use averages::moments;
 use normals::GaussianSampler;
 use refusals::Refusal;
 
@@ -69,16 +69,6 @@ fn push_all(run: &Run, state: &mut State) -> Result<(), Refusal>
     Ok(())
 }
 
-// Sets the drift to +0.
-fn clear(places: usize, drift: &mut [f64; 32])
-    requires { places ≤ 32 }
-    ensures { Arrays.Mapped places (λ p v. Reader.zero64) drift.old drift.new }
-{
-    for p in 0..places {
-        drift[p] = 0.0;
-    }
-}
-
 // "Negative states set to 0."
 fn above_zero(v: f64) -> f64
     ensures { result ≡ Diffusion.above_zero v }
@@ -101,7 +91,7 @@ fn substep(run: &Run, state: &mut State) -> Result<(), Refusal>
     ensures { let net = net_of run.now.net in Arrays.answered result (Arrays.state_of net.places state.new)
         ≡ Diffusion.substep (Record.readable net) run.now.dt (Arrays.state_of net.places state.old) }
 {
-    clear(run.net.places, &mut state.drift);
+    moments::clear(run.net.places, &mut state.drift);
     push_all(run, state)?;
     add_drift(run.net.places, &state.drift, &mut state.x);
     Ok(())

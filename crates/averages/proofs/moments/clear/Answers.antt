@@ -1,18 +1,15 @@
--- The invariant: the first c cells are +0, and the others stay (Fronts). Assumes nothing.
-use Rattle.std.proofs.Common.{◌∙◌, arith, length-set}
+-- A fill of the first n cells, which are all that are asked or all that there are (Fronts). Assumes nothing.
+use Rattle.std.proofs.Common.{◌≡◌, ◌∙◌, ap, sym, List, ◌++◌, replicate, drop, arith, length-take-le}
 use lib.Ieee.{Float}
 use Rattle.net.specs.Net.{zero64}
-use Rattle.averages.proofs.Fronts.{on_more, on_end}
+use Rattle.averages.proofs.Fronts.{on_end, on_front_one}
 use Rattle.averages.proofs.moments.clear.Goals as goal
-
-pub loop-c-preserved : goal.loop-c-preserved
-loop-c-preserved c =
-    let a = c.args in (
-      length-set c.loop-c.table c.loop-c.c _ ∙ c.loop-c.invariant.0,
-      on_more (λ (x : Float). zero64) c.loop-c.c a.table.now c.loop-c.invariant.1 (omega arith),
-    )
 
 pub returns : goal.returns
 returns c =
-    let a = c.args in
-    c.loop-c.invariant.1 ∙ on_end (λ (x : Float). zero64) c.loop-c.c a.cells a.table.now (omega arith) (λ h. omega arith)
+    let t = c.args.table.now in
+    let n = c.min-n.result in
+    let long = length-take-le n t (omega arith) in
+    let filled : c.fill.new.self ≡ replicate n zero64 = c.fill.ensures.after (λ y e. e) ∙ ap (λ k. replicate k zero64) long in
+    ap (λ (l : List Float). l ++ drop n t) filled ∙ sym (on_front_one zero64 n t (omega arith))
+    ∙ on_end (λ (x : Float). zero64) n c.args.cells t (omega arith) (λ h. omega arith)

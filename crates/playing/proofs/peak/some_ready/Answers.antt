@@ -32,9 +32,9 @@ loop-j-preserved c =
     let n = net_of c.args.net.now in
     let j = c.loop-j.j in
     elim c.else-net-j.branch [
-      else-net-j-via-then-net-j+else-enabled w ↦ any_go (on s) n j n.transitions c.loop-j.invariant c.loop-j-test.true
+      | else-net-j-via-then-net-j+else-enabled w ↦ any_go (on s) n j n.transitions c.loop-j.invariant c.loop-j-test.true
           (λ i. w.if-net-j.true i && (sym w.enabled.ensures ∙ w.if-enabled.false) i)
-    | else-net-j-via-else-net-j w ↦ any_go (on s) n j n.transitions c.loop-j.invariant c.loop-j-test.true
+      | else-net-j-via-else-net-j w ↦ any_go (on s) n j n.transitions c.loop-j.invariant c.loop-j-test.true
           (λ i. w.if-net-j.false i && enabled (readable n) (marking n.places c.args.counts.now) (transition n j))
     ]
 

@@ -60,8 +60,8 @@ loop-p-preserved c =
     let e = cell_in l.loop-p.p s.i s.places s.n (omega arith) (omega arith) in
     let h = l.requires.4.small l.loop-p.p in
     subst⁻¹ (λ (v : Float). Column s.n s.i (l.loop-p.p + 1) s.counts.now s.table.now (set l.loop-p.table (l.loop-p.p * s.n + s.i) v))
-          (ap (of_int binary64) (to_z_pos w64 (omega (arith, h))))
-          (column_more s.n s.i l.loop-p.p s.counts.now s.table.now l.loop-p.table (omega arith) (omega (arith, e, l.loop-p.invariant.long)) l.loop-p.invariant)
+    (ap (of_int binary64) (to_z_pos w64 (omega (arith, h))))
+    (column_more s.n s.i l.loop-p.p s.counts.now s.table.now l.loop-p.table (omega arith) (omega (arith, e, l.loop-p.invariant.long)) l.loop-p.invariant)
 
 pub returns : goal.returns
 returns c =

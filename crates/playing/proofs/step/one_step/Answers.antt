@@ -94,7 +94,7 @@ returns-in-Some c =
     let waits = c.unit_wait-unit.ensures
     ∙ ap unit_wait (c.after_event.ensures ∙ sym (drawn_after (net d) (reads d) r.kept.a0 c.advance.new.props r.completes _ _ _ is refl)) in
     record {
-      is = step_on {spec = rule d} {rounded = r.rounded} {u = reads d} {e = event-of d} (follows d c.in-Event.is) c.if-last-clock.false shown c.higher.ensures is refl;
+      is = step_on {spec = rule d} {rounded = r.rounded} {u = reads d} {e = event-of d} (follows d c.in-Event.is) c.if-last-clock.false shown c.max.ensures is refl;
       ready = (
         e.ready.0,
         fits_still v.1 e.ready.1,
