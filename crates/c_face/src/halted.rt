@@ -8,9 +8,9 @@ ghost use Rattle.ssa.specs.Halted as Halting;
 ghost use Rattle.c_face.specs.Halted as Told;
 
 use crate::{halted_words, path};
+use net::LentNet;
 use rng::Xoshiro256;
 use ssa::{Halted, Onward, PathEnd};
-use net::LentNet;
 
 // The path that words and times hold.
 fn path_in<'a>(halted: &'a [u64; 816], times: &'a [f64; 257]) -> Halted
@@ -118,7 +118,14 @@ pub extern "C" fn cild_path_until<'a>(
         place,
         weight,
     };
-    let r = ssa::path_until(&net, Xoshiro256::from_state(*state), instants, limit, named, table);
+    let r = ssa::path_until(
+        &net,
+        Xoshiro256::from_state(*state),
+        instants,
+        limit,
+        named,
+        table,
+    );
     let s = r.state;
     let generator = s.generator;
     *state = generator.state();

@@ -5,9 +5,9 @@ ghost use Rattle.rng.specs.State.{words};
 ghost use Rattle.ssa.specs.Path as Path;
 ghost use Rattle.c_face.specs.Played as Played;
 
+use net::LentNet;
 use rng::Xoshiro256;
 use ssa::PathEnd;
-use net::LentNet;
 
 // The number of an end: the refusal's own, or 100 for quiet, 101 for spent, 102 for reached, 103 for halted.
 pub fn end_number(end: PathEnd) -> u64

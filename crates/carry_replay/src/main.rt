@@ -65,14 +65,7 @@ fn play(rt: &impl Print, input: &mut impl Read, places: usize) -> io::Result<()>
     read_instants(input, n, &mut grid);
     let instants = &grid[..n.min(2048)];
     let mut table = [7.0f64; 2048];
-    let halted = ssa::path_until(
-        &old.lent(),
-        generator,
-        instants,
-        limit,
-        named,
-        &mut table,
-    );
+    let halted = ssa::path_until(&old.lent(), generator, instants, limit, named, &mut table);
     write_answer(rt, &halted)?;
     write_cells(rt, shown(places, n), &table)?;
     write(rt, b"\n")?;

@@ -90,14 +90,7 @@ fn halt(rt: &HostRuntime, net: &Net, seed: u64, instants: &[f64], asked: &Asked)
 }
 
 // The grid of the run line, of at most 1,024 samples.
-fn halt_on_grid(
-    rt: &HostRuntime,
-    net: &Net,
-    samples: u64,
-    seed: u64,
-    horizon: f64,
-    asked: &Asked,
-)
+fn halt_on_grid(rt: &HostRuntime, net: &Net, samples: u64, seed: u64, horizon: f64, asked: &Asked)
     requires { samples ≤ 1_024 }
 {
     let mut grid = [0.0f64; 1024];
@@ -174,10 +167,11 @@ fn carry_on(rt: &HostRuntime, steps: u64) {
         return;
     };
     let mut words = [0u64; 130];
-    match (list::list_of(&list[..n], &mut words), number_argument(rt, 3)) {
-        (Some(k), Some(bytes)) if k <= 130 => {
-            read_and_play(rt, bytes, steps, Some(&words[..k]))
-        }
+    match (
+        list::list_of(&list[..n], &mut words),
+        number_argument(rt, 3),
+    ) {
+        (Some(k), Some(bytes)) if k <= 130 => { read_and_play(rt, bytes, steps, Some(&words[..k])) }
         _ => usage(rt),
     }
 }

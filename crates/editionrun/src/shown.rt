@@ -18,7 +18,10 @@ fn write_float(rt: &HostRuntime, x: f64) {
 
 fn write_told(rt: &HostRuntime, head: &str, r: &Onward) {
     let s = &r.state;
-    let _ = println!(rt; "({head} {} {} {} {})", s.steps, r.settled, s.peak, s.rounded);
+    let _ = println!(rt;
+        "({head} {} {} {} {})",
+        s.steps, r.settled, s.peak, s.rounded
+    );
 }
 
 // The line of a path.

@@ -71,7 +71,10 @@ fn answer(rt: &impl Print, letter: u8, a: u64, b: u64, state: &mut [u64; 4]) -> 
         b'f' => parts_line(rt, float_of(a)),
         b'l' => float_line(rt, portable_log::plog(float_of(a))),
         b'q' => float_line(rt, root::sqrt(float_of(a))),
-        b'c' => ways_line(rt, combinations::combinations(signed(a), signed(b)).map(|c| c.value)),
+        b'c' => ways_line(
+            rt,
+            combinations::combinations(signed(a), signed(b)).map(|c| c.value),
+        ),
         b'd' => ways_line(rt, combinations::combinations_real(float_of(a), signed(b))),
         _ => rt.write_all(b"\n"),
     }

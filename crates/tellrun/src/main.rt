@@ -18,7 +18,10 @@ const MOST_STEPS: u64 = 1_000_000;
 
 // The line of a path that was not turned down. That it cannot be written goes unsaid.
 fn write_path(rt: &HostRuntime, end: &str, r: PathAnswer) {
-    let _ = println!(rt; "(path {end} {} {} {} {})", r.steps, r.settled, r.peak, r.rounded);
+    let _ = println!(rt;
+        "(path {end} {} {} {} {})",
+        r.steps, r.settled, r.peak, r.rounded
+    );
 }
 
 fn write_answer(rt: &HostRuntime, r: PathAnswer) {

@@ -86,14 +86,7 @@ fn logarithms(rt: &impl Print) -> io::Result<()> {
 
 fn more_logarithms(rt: &impl Print) -> io::Result<()> {
     print(rt, b"plog of NaN, infinity, -infinity, -1, 0, -0\n")?;
-    for x in [
-        0.0 / 0.0,
-        1.0 / 0.0,
-        -1.0 / 0.0,
-        -1.0,
-        0.0,
-        -0.0,
-    ] {
+    for x in [0.0 / 0.0, 1.0 / 0.0, -1.0 / 0.0, -1.0, 0.0, -0.0] {
         log(rt, x)?;
     }
     Ok(())
@@ -110,15 +103,7 @@ fn fractions(rt: &impl Print) -> io::Result<()> {
         rt,
         b"frexp of 1, 2^-1074, 0, -0, infinity, -3, NaN: fraction, and exponent as a float\n",
     )?;
-    for x in [
-        1.0,
-        5e-324,
-        0.0,
-        -0.0,
-        1.0 / 0.0,
-        -3.0,
-        0.0 / 0.0,
-    ] {
+    for x in [1.0, 5e-324, 0.0, -0.0, 1.0 / 0.0, -3.0, 0.0 / 0.0] {
         parts(rt, x)?;
     }
     Ok(())
@@ -147,15 +132,7 @@ fn roots(rt: &impl Print) -> io::Result<()> {
         rt,
         b"roots of 0, -0, infinity, -infinity, -1, -2^-1074, NaN\n",
     )?;
-    for x in [
-        0.0,
-        -0.0,
-        1.0 / 0.0,
-        -1.0 / 0.0,
-        -1.0,
-        -5e-324,
-        0.0 / 0.0,
-    ] {
+    for x in [0.0, -0.0, 1.0 / 0.0, -1.0 / 0.0, -1.0, -5e-324, 0.0 / 0.0] {
         root_of(rt, x)?;
     }
     Ok(())
@@ -235,14 +212,7 @@ fn rotations(rt: &impl Print) -> io::Result<()> {
         rt,
         b"rotations of 8000000000000001 by 0, 1, 63, 64, 65, 2^32 - 1\n",
     )?;
-    for k in [
-        0,
-        1,
-        63,
-        64,
-        65,
-        0xFFFF_FFFF,
-    ] {
+    for k in [0, 1, 63, 64, 65, 0xFFFF_FFFF] {
         hex_line(rt, words::rotate_left(0x8000_0000_0000_0001, k))?;
     }
     Ok(())

@@ -29,11 +29,11 @@ loop-i-preserved c =
     let at = ap (time_in s.clock q) (add-one l.i) in
     elim c.if-i-n.branch [
       | then-i-n w ↦
-        let x = timer_at_lem s.ats.now whos takens s.n l.i (omega arith) w.if-i-n.true in
-        rw w.times-is (holds_more nan m (omega arith) (sym (at ∙ ap (λ (t : Timer). t.at) x)))
+          let x = timer_at_lem s.ats.now whos takens s.n l.i (omega arith) w.if-i-n.true in
+          rw w.times-is (holds_more nan m (omega arith) (sym (at ∙ ap (λ (t : Timer). t.at) x)))
       | else-i-n w ↦
-        let x = timer_past s.ats.now whos takens s.n l.i w.if-i-n.false in
-        rw w.times-is (holds_more nan m (omega arith) (sym (at ∙ ap (λ (t : Timer). t.at) x)))
+          let x = timer_past s.ats.now whos takens s.n l.i w.if-i-n.false in
+          rw w.times-is (holds_more nan m (omega arith) (sym (at ∙ ap (λ (t : Timer). t.at) x)))
     ]
 
 pub returns : goal.returns
