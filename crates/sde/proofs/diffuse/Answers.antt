@@ -1,11 +1,9 @@
--- Turned down by its tests, or run; the net that is lent is the net (proofs/Tested, by_tests). Assumes nothing.
-use Rattle.std.proofs.Common.{ap, ◌∙◌}
-use Rattle.net.specs.declared.Net.{Net as NetRecord}
+-- Turned down by its tests, or run (proofs/Tested, by_tests). Assumes nothing.
+use Rattle.std.proofs.Common.{◌∙◌}
 use Rattle.net.specs.Record.{net_of}
 use Rattle.net.proofs.Sound.{sound}
 use Rattle.averages.specs.Request.{Request}
 use Rattle.averages.specs.Tables.{Tables}
-use Rattle.sde.specs.Call.{called}
 use Rattle.sde.proofs.Tested.{by_tests, accepting}
 use Rattle.sde.proofs.diffuse.Goals as goal
 
@@ -14,12 +12,12 @@ returns-in-Err c =
     let g = c.args in
     let q : Request = record { samples = g.samples; realizations = g.realizations; seed = g.seed; horizon = g.horizon } in
     let t : Tables = record { mean = g.mean.now; deviation = g.deviation.now; path = g.path.now } in
-    by_tests (net_of c.lent-lent.result) q t c.in-Err.ensures ∙ ap (λ (n : NetRecord). called n q t) c.lent-lent.ensures
+    by_tests (net_of g.net.now) q t c.in-Err.ensures
 
 pub accepted-requires : goal.accepted-requires
 accepted-requires c =
     let g = c.args in
-    let n = net_of c.lent-lent.result in
+    let n = net_of g.net.now in
     let q : Request = record { samples = g.samples; realizations = g.realizations; seed = g.seed; horizon = g.horizon } in
     let k = accepting n q _ _ _ c.in_default.ensures in
     (sound n k.no_fault, k.passes.two, k.passes.few, k.passes.one, k.passes.repeated, k.fits.in_mean, k.fits.in_deviation, k.fits.in_path)
@@ -29,4 +27,4 @@ returns c =
     let g = c.args in
     let q : Request = record { samples = g.samples; realizations = g.realizations; seed = g.seed; horizon = g.horizon } in
     let t : Tables = record { mean = g.mean.now; deviation = g.deviation.now; path = g.path.now } in
-    c.accepted.ensures ∙ by_tests (net_of c.lent-lent.result) q t c.in_default.ensures ∙ ap (λ (n : NetRecord). called n q t) c.lent-lent.ensures
+    c.accepted.ensures ∙ by_tests (net_of g.net.now) q t c.in_default.ensures
