@@ -1,5 +1,5 @@
 -- What the answer ensures, read as a flag and numbers; m and w are passed on as they came.
-use mathlib.Core.Path.{◌≡◌, sym, ap, ◌∙◌}
+use mathlib.Core.Path.{sym, ap, ◌∙◌}
 use mir.Facts.{to_z-of_z}
 use Rattle.combinations.specs.Combinations.{meaning}
 use Rattle.c_face.specs.Told.{is_value, or_zero, one_if_exact}

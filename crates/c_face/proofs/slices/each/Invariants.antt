@@ -1,6 +1,6 @@
 -- The elements before the index are mapped, and those from it on are as they were.
 use mathlib.Core.Path.{◌≡◌}
-use mathlib.Core.List.{List, ◌++◌, map}
+use mathlib.Core.List.{◌++◌, map}
 use Prim.Native.Nat.{ℕ, ◌<◌}
 use lib.ListN.{length, get_or, take, drop}
 use Rattle.c_face.proofs.slices.each.Given as goal
