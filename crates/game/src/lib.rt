@@ -5,6 +5,7 @@ mod accept;
 mod search;
 
 ghost use Rattle.std.specs.Prelude.{◌≡◌};
+ghost use Rattle.net.specs.Record.{net_of};
 ghost use Rattle.game.specs.Call as Call;
 
 use engine::slots;

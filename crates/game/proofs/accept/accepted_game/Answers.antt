@@ -4,10 +4,8 @@ use Rattle.net.specs.declared.Net.{Net as NetRecord}
 use Rattle.net.specs.Readable.{readable}
 use Rattle.net.specs.Record.{net_of}
 use Rattle.net.proofs.Sound.{sound}
-use Rattle.rules.specs.Moves.{initial_counts}
 use Rattle.engine.specs.Engine.{Tidy}
-use Rattle.game.specs.Play.{Sided, game_of, fault_of}
-use Rattle.game.specs.Search.{fault_move}
+use Rattle.game.specs.Play.{Sided}
 use Rattle.game.proofs.Asked.{same_game}
 use Rattle.game.proofs.accept.accepted_game.Goals as goal
 
@@ -27,6 +25,6 @@ lent_game-requires c =
 pub returns : goal.returns
 returns c =
     let a = c.args in
-    let Said : NetRecord → Type 0
-    = λ n. fault_of c.lent_game.result ≡ fault_move a.turns (game_of (readable n) a.sides.now a.wanted a.count) (initial_counts (readable n)) in
-    same_game _ (net_of a.net.now) c.fill.ensures.reads a.turns a.sides.now a.wanted a.count (subst Said c.of.ensures c.lent_game.ensures)
+    let Same : NetRecord → Type 0 = λ n. readable n ≡ readable (net_of a.net.now) in
+    same_game (net_of c.of.result) (net_of a.net.now) (subst Same (sym c.of.ensures) c.fill.ensures.reads) a.turns a.sides.now a.wanted a.count
+    c.lent_game.ensures

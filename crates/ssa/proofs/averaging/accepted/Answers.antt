@@ -8,7 +8,6 @@ use Rattle.net.proofs.Sound.{sound}
 use Rattle.averages.specs.Request.{Request, request_fault}
 use Rattle.averages.specs.Tables.{Tables}
 use Rattle.engine.specs.Engine.{Tidy}
-use Rattle.ssa.specs.Ensemble.{call_of, tabulated, members_from}
 use Rattle.ssa.proofs.Requested.{same_ensemble}
 use Rattle.ssa.proofs.averaging.accepted.Goals as goal
 
@@ -31,9 +30,8 @@ lent_ensemble-requires c =
 pub returns : goal.returns
 returns c =
     let a = c.args in
-    let l = c.lent_ensemble in
     let q : Request = record { samples = a.samples; realizations = a.realizations; seed = a.seed; horizon = a.horizon } in
     let t : Tables = record { mean = a.mean.now; deviation = a.deviation.now; path = a.path.now } in
-    let Said : NetRecord → Type 0
-    = λ n. call_of l.result l.new.mean l.new.deviation l.new.path ≡ tabulated n.places a.samples t (members_from (readable n) q 0 a.realizations) in
-    same_ensemble _ (net_of a.net.now) q t refl c.fill.ensures.reads (subst Said c.of.ensures l.ensures)
+    let Same : NetRecord → Type 0 = λ n. (n.places ≡ a.net.now.places) × (readable n ≡ readable (net_of a.net.now)) in
+    let s : Same (net_of c.of.result) = subst Same (sym c.of.ensures) (refl, c.fill.ensures.reads) in
+    same_ensemble (net_of c.of.result) (net_of a.net.now) q t s.0 s.1 c.lent_ensemble.ensures
