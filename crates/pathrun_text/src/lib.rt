@@ -34,8 +34,9 @@ fn run(net: Net, asked: RunLine, out: &mut [u8]) -> usize
     let mut path = table();
     let samples = asked.samples;
     let realizations = asked.realizations;
+    let lent = net.lent();
     let answer = ssa::ensemble(
-        &net.lent(),
+        &lent,
         samples,
         realizations,
         asked.seed,
@@ -50,7 +51,7 @@ fn run(net: Net, asked: RunLine, out: &mut [u8]) -> usize
         EnsembleAnswer::Averaged(_, _) => {
             lines::result(
                 out,
-                &net.lent(),
+                &lent,
                 samples as usize,
                 realizations,
                 &mean,
