@@ -30,9 +30,8 @@ lent_ensemble-requires c =
 pub returns : goal.returns
 returns c =
     let a = c.args in
-    let l = c.lent_ensemble in
     let q : Request = record { samples = a.samples; realizations = a.realizations; seed = a.seed; horizon = a.horizon } in
     let t : Tables = record { mean = a.mean.now; deviation = a.deviation.now; path = a.path.now } in
     let Same : NetRecord → Type 0 = λ n. (n.places ≡ a.net.now.places) × (readable n ≡ readable (net_of a.net.now)) in
-    let s = subst Same (sym c.of.ensures) (refl, c.fill.ensures.reads) in
-    same_ensemble (net_of c.of.result) (net_of a.net.now) q t s.0 s.1 l.ensures
+    let s : Same (net_of c.of.result) = subst Same (sym c.of.ensures) (refl, c.fill.ensures.reads) in
+    same_ensemble (net_of c.of.result) (net_of a.net.now) q t s.0 s.1 c.lent_ensemble.ensures
