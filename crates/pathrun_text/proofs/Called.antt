@@ -85,12 +85,11 @@ outcome_none (some c) t call e = let z : ◌≡◌ {A = ℕ} 0 1 = cc in absurd 
 
 -- ---- the answer
 
--- the net as it is lent, the horizon by its bits, and the tables as they are made
-pub as_lent : (n : NetRecord) (asked : RunRecord) {lent : NetRecord} {horizon : Float} {m d p : List Float} {call : Call} → lent ≡ n
-    → horizon ≡ of_bits binary64 asked.horizon → m ≡ table → d ≡ table → p ≡ table
-    → call ≡ called lent (record { samples = asked.samples; realizations = asked.realizations; seed = asked.seed; horizon = horizon }) (record { mean = m; deviation = d; path = p })
+-- the horizon by its bits, and the tables as they are made
+pub as_lent : (n : NetRecord) (asked : RunRecord) {horizon : Float} {m d p : List Float} {call : Call} → horizon ≡ of_bits binary64 asked.horizon → m ≡ table → d ≡ table → p ≡ table
+    → call ≡ called n (record { samples = asked.samples; realizations = asked.realizations; seed = asked.seed; horizon = horizon }) (record { mean = m; deviation = d; path = p })
     → call ≡ called n (request (run_of asked)) tables
-as_lent n asked el eh em ed ep is = rw (el, eh, em, ed, ep) at is
+as_lent n asked eh em ed ep is = rw (eh, em, ed, ep) at is
 
 module _ (n : NetRecord) (asked : RunRecord) (answer : EnsembleAnswer) (mean deviation path : List Float) (accepted : fault n ≡ none)
     (is : call_of answer mean deviation path ≡ called n (request (run_of asked)) tables) where
