@@ -52,10 +52,9 @@ pub fn is_given(rt: &HostRuntime, i: usize) -> bool {
     !matches!(rt.arg(i, &mut room), Err(FillError::NotPresent))
 }
 
-// Where what begins at `from` ends in a list: at this mark, or with the list.
+// Where what begins at `from` ends in a list: at this mark, or with the list, as what begins behind it does.
 pub fn end_of(list: &[u8], from: usize, mark: u8) -> usize
-    requires { from ≤ length list.now }
-    ensures { (from ≤ result) × (result ≤ length list.now) }
+    ensures { (from ≤ length list.now → from ≤ result) × (result ≤ length list.now) }
 {
     for i in from..list.len() {
         if list[i] == mark {
