@@ -1,5 +1,5 @@
 // Numbers as a program is given them in its arguments. specs/Digits says what one is.
-ghost use Rattle.std.specs.Prelude.{◌≡◌, ℕ, ◌+◌, ◌-◌, ◌*◌, ◌≤◌, length};
+ghost use Rattle.std.specs.Prelude.{◌≡◌, ◌≢◌, ℕ, ◌+◌, ◌-◌, ◌*◌, ◌<◌, ◌≤◌, length, slice_index};
 ghost use Rattle.net_io.specs.Digits as Spec;
 
 use std::env::{Env, FillError};
@@ -54,7 +54,9 @@ pub fn is_given(rt: &HostRuntime, i: usize) -> bool {
 
 // Where what begins at `from` ends in a list: at this mark, or with the list, as what begins behind it does.
 pub fn end_of(list: &[u8], from: usize, mark: u8) -> usize
-    ensures { (from ≤ length list.now → from ≤ result) × (result ≤ length list.now) }
+    ensures within { (from ≤ length list.now → from ≤ result) × (result ≤ length list.now) }
+    ensures before { (k : ℕ) → from ≤ k → k < result → slice_index list.now k ≢ mark }
+    ensures found { result < length list.now → slice_index list.now result ≡ mark }
 {
     for i in from..list.len() {
         if list[i] == mark {
