@@ -34,20 +34,6 @@ const L: [u64; 7] = [
     0x3FC2_F112_DF3E_5244,
 ];
 
-const L1: f64 = f64::from_bits(L[0]);
-
-const L2: f64 = f64::from_bits(L[1]);
-
-const L3: f64 = f64::from_bits(L[2]);
-
-const L4: f64 = f64::from_bits(L[3]);
-
-const L5: f64 = f64::from_bits(L[4]);
-
-const L6: f64 = f64::from_bits(L[5]);
-
-const L7: f64 = f64::from_bits(L[6]);
-
 // frac * 2^exp
 #[derive(Clone, Copy)]
 pub struct Parts {
@@ -111,13 +97,20 @@ pub fn frexp(x: f64) -> Parts
 fn combine(f1: f64, ki: i32) -> f64
     ensures { result ≡ Spec.combine f1 ki }
 {
+    let l1 = f64::from_bits(L[0]);
+    let l2 = f64::from_bits(L[1]);
+    let l3 = f64::from_bits(L[2]);
+    let l4 = f64::from_bits(L[3]);
+    let l5 = f64::from_bits(L[4]);
+    let l6 = f64::from_bits(L[5]);
+    let l7 = f64::from_bits(L[6]);
     let f = f1 - 1.0;
     let k = ki as f64;
     let s = f / (2.0 + f);
     let s2 = s * s;
     let s4 = s2 * s2;
-    let t1 = s2 * (L1 + s4 * (L3 + s4 * (L5 + s4 * L7)));
-    let t2 = s4 * (L2 + s4 * (L4 + s4 * L6));
+    let t1 = s2 * (l1 + s4 * (l3 + s4 * (l5 + s4 * l7)));
+    let t2 = s4 * (l2 + s4 * (l4 + s4 * l6));
     let r = t1 + t2;
     let hfsq = 0.5 * f * f;
     k * LN2_HI - (hfsq - (s * (hfsq + r) + k * LN2_LO) - f)
