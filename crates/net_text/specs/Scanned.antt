@@ -1,7 +1,7 @@
 -- What the scanner's own answers stand for. The rules of a text are in Forms and Reading; nothing here adds to them.
 -- The scanner holds 64 bits, and a decimal may have any length: it keeps the value where it fits and else the largest number of 64 bits,
 -- with a mark that the decimal is badly written (Reading, badly).
-use Rattle.std.specs.Prelude.{ℕ, ◌+◌, ◌-◌, ◌^◌, ◌<◌, ◌≤◌, min, ◌≡◌, Bool, ◌||◌, List, map, eqb, ltb, length, get_or, set, Option, Some, None}
+use Rattle.std.specs.Prelude.{ℕ, ◌+◌, ◌-◌, ◌^◌, ◌<◌, ◌≤◌, min, ◌≡◌, Bool, ◌||◌, List, map, eqb, leb, ltb, length, get_or, set, Option, Some, None}
 use Rattle.std.specs.Borrow.{Bor}
 use Rattle.net.specs.Net.{pick}
 use Rattle.net.specs.Tests.{any}
@@ -35,10 +35,10 @@ passed (Some left) = met tt left.now
 abbrev pub held : ℕ → ℕ
 held v = min v (2 ^ 64 - 1)
 
--- the value v, of any size, is kept as this number of 64 bits, or it is over 64 bits
-abbrev pub Kept : ℕ → Option ℕ → Type 0
-Kept v None = 2 ^ 64 ≤ v
-Kept v (Some value) = (value ≡ v) × (v < 2 ^ 64)
+-- the value v, of any size, is kept as this number of 64 bits with this mark
+pub record Kept (v value : ℕ) (over : Bool) : Type 0 where
+  pub number : value ≡ held v
+  pub mark : over ≡ leb (2 ^ 64) v
 
 -- a decimal as 64 bits hold it
 abbrev pub seen : Decimal → Number

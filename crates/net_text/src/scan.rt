@@ -1,5 +1,5 @@
 // The parts of a line, each read from the front of what is left of it. A part answers what it says and what is then left, or None where it does not stand there.
-ghost use Rattle.std.specs.Prelude.{◌≡◌, ◌∷◌, ℕ, ◌+◌, ◌*◌, ◌^◌, ◌<◌, ◌≤◌, length, IfSome, not, position};
+ghost use Rattle.std.specs.Prelude.{◌≡◌, ◌∷◌, ℕ, ◌+◌, ◌*◌, ◌^◌, ◌<◌, ◌≤◌, length, IfSome};
 ghost use Rattle.text.specs.Text.{Bytes};
 ghost use Rattle.net_text.specs.Forms as Forms;
 ghost use Rattle.net_text.specs.Scanned as Scanned;
@@ -36,34 +36,31 @@ pub fn word<'a>(line: &'a [u8], w: &[u8]) -> Option<&'a [u8]>
     line.strip_prefix(w)
 }
 
-// Where the digits in front end, before the end of the line.
-fn digits_end(line: &[u8]) -> Option<usize>
-    ensures { result ≡ position (λ b. not (Forms.is_digit_byte b)) line.now }
-{
-    line.iter().position(|b| !b.is_ascii_digit())
+// The value so far, and whether it is over 64 bits; then the value is the largest of 64 bits.
+#[derive(Clone, Copy)]
+struct Sum {
+    value: u64,
+    over: bool,
 }
 
-// The value so far with one digit more; None where that is over 64 bits.
-fn one_digit_more(value: u64, digit: u64) -> Option<u64>
+// The value so far with one digit more.
+fn one_digit_more(sum: Sum, digit: u64) -> Sum
     requires { digit < 10 }
-    ensures { Scanned.Kept (value * 10 + digit) result }
+    ensures { (v : ℕ) → Scanned.Kept v sum.value sum.over → Scanned.Kept (v * 10 + digit) result.value result.over }
 {
-    if value > (u64::MAX - digit) / 10 {
-        return None;
+    if sum.over {
+        return sum;
     }
-    Some(value * 10 + digit)
-}
-
-// The value of digits; None where it is over 64 bits.
-fn value_of(digits: &[u8]) -> Option<u64>
-    requires { Forms.digits digits.now ≡ digits.now }
-    ensures { Scanned.Kept (Forms.value_from 0 digits.now) result }
-{
-    let mut value = 0;
-    for b in digits {
-        value = one_digit_more(value, u64::from(*b - b'0'))?;
+    if sum.value > (u64::MAX - digit) / 10 {
+        return Sum {
+            value: u64::MAX,
+            over: true,
+        };
     }
-    Some(value)
+    Sum {
+        value: sum.value * 10 + digit,
+        over: false,
+    }
 }
 
 // Does a zero lead other digits?
@@ -73,18 +70,26 @@ fn zero_leads(digits: &[u8]) -> bool
     matches!(digits, [b'0', _, ..])
 }
 
+// A decimal: each digit is valued as it is read.
 pub fn decimal<'a>(line: &'a [u8]) -> Option<(Number, &'a [u8])>
     ensures { Scanned.number line.now ≡ Scanned.found result }
 {
-    let n = digits_end(line).unwrap_or(line.len());
+    let mut sum = Sum {
+        value: 0,
+        over: false,
+    };
+    let mut rest = line;
+    while let [b @ b'0'..=b'9', behind @ ..] = rest {
+        sum = one_digit_more(sum, u64::from(*b - b'0'));
+        rest = behind;
+    }
+    let n = line.len() - rest.len();
     if n == 0 {
         return None;
     }
-    let (digits, rest) = line.split_at(n);
-    let value = value_of(digits);
     let number = Number {
-        value: value.unwrap_or(u64::MAX),
-        strange: zero_leads(digits) | value.is_none(),
+        value: sum.value,
+        strange: zero_leads(&line[..n]) | sum.over,
     };
     Some((number, rest))
 }

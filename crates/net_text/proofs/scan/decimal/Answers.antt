@@ -1,20 +1,15 @@
--- The digits in front, and their value (Decimals).
-use Rattle.net_text.proofs.Decimals.{counted_at, all_digits, no_decimal, a_decimal}
+-- However the loop is left, no digit stands in front of what is left (Decimals).
+use Rattle.std.proofs.Common.{arith}
+use Rattle.net_text.proofs.Decimals.{Stopped, stopped_end, stopped_below, stopped_above, reads}
 use Rattle.net_text.proofs.scan.decimal.Goals as goal
-
-pub returns-then-n-eq0 : goal.returns-then-n-eq0
-returns-then-n-eq0 c =
-    let n = counted_at c.args.line.now c.digits_end.result c.unwrap_or-n.result c.digits_end.ensures c.unwrap_or-n.ensures in
-    no_decimal c.args.line.now (rw c.if-n-eq0.true at n)
-
-pub value_of-value-requires : goal.value_of-value-requires
-value_of-value-requires c =
-    let n = counted_at c.args.line.now c.digits_end.result c.unwrap_or-n.result c.digits_end.ensures c.unwrap_or-n.ensures in
-    rw c.split_at.ensures.front (all_digits c.args.line.now c.unwrap_or-n.result n)
+use Rattle.net_text.proofs.scan.decimal.Goals.{in_default, in_default-2, in_default-3}
 
 pub returns : goal.returns
 returns c =
-    let n = counted_at c.args.line.now c.digits_end.result c.unwrap_or-n.result c.digits_end.ensures c.unwrap_or-n.ensures in
-    let parts = c.split_at.ensures in
-    a_decimal c.args.line.now _ _ c.unwrap_or-n.result n c.if-n-eq0.false parts.front parts.back parts.front_len c.value_of-value.result
-    c.value_of-value.ensures _ _ _ c.unwrap_or.ensures c.zero_leads.ensures c.is_none.ensures
+    let stop : Stopped c.loop-rest.rest.now =
+    elim c.if-rest-lt1.branch [
+      | in_default w ↦ stopped_end c.loop-rest.rest.now (omega arith)
+      | in_default-2 w ↦ stopped_below c.loop-rest.rest.now w.in_default.len_at_least (omega arith)
+      | in_default-3 w ↦ stopped_above c.loop-rest.rest.now w.in_default.len_at_least (omega arith)
+    ] in
+    reads c.args.line.now c.loop-rest.rest.now _ _ c.loop-rest.invariant stop c.if-n-eq0.false c.zero_leads.result c.zero_leads.ensures
