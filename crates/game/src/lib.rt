@@ -29,7 +29,7 @@ pub struct FaultFound {
 
 // Can the fault side bring the place to exactly the count, within so many turns, however recovery plays? sides[j] is 0 where transition j is the fault
 // side's and 1 where it is recovery's. The answer is how it wins, by the lowest first transition, or that it does not, with the positions examined; or
-// the number by which a net, a delay, a list of sides, a turn number or a place is turned down.
+// the refusal by which a net, a delay, a list of sides, a turn number or a place is turned down.
 pub fn game(
     net: &LentNet,
     sides: &[u64],

@@ -29,7 +29,7 @@ pub record Sound (n : NetRecord) : Type 0 where
   pub delayed : (j : ℕ) → j < n.transitions → delayed_for_nothing (transition n j) ≡ false
   pub kinetic : (j : ℕ) → j < n.transitions → kinetic_total (transition n j).takes ≤ 16
 
--- Apart, since the parts of a program that play a net are not lent its labels.
+-- Apart, since what plays a net looks at no label.
 pub record Labelled (n : NetRecord) : Type 0 where
   -- not 17: "1 to 16 letters a to z, digits or hyphens", of place p
   pub label : (p : ℕ) → p < n.places → label_fits (label_at n.label n.lengths p) ≡ true

@@ -13,7 +13,7 @@ pub mod tables;
 
 use refusals::Refusal;
 
-// How a path ends, or the number by which it was turned down. Only a path that names a number of steps is halted.
+// How a path ends, or the refusal that turned it down. Only a path that names a number of steps is halted.
 #[derive(Clone, Copy)]
 pub enum PathEnd {
     Quiet,

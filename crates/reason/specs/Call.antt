@@ -29,7 +29,7 @@ reason_of n = reason_text (reasons_of n)
 
 -- ---- the call
 
--- the program's answer, its refusal by its number
+-- the program's answer, its refusal by its number, as order 3 gives it
 abbrev pub told : Result ℕ Refusal → Result ℕ ℕ
 told (Ok n) = Ok n
 told (Err e) = Err (number_of e)

@@ -1,4 +1,5 @@
--- The number of a refusal of the program: each is the reason of its name.
+-- The number by which documents 01 and 02 know a refusal of the program ("Each operation's turn-downs" and the orders' "Answers"): each is the reason
+-- of its name.
 use Rattle.std.specs.Prelude.{ℕ}
 use Rattle.refusals.specs.declared.Refusal.{Refusal}
 use Rattle.refusals.specs.declared.Refusal.TheVariants.{WrongForm, BadSize, NoSuchPlace, OutsideDomain, TakenTwice, DelayWithoutTake, KineticTotal, BadSamples, BadRealizations, BadHorizon, ShortTable, BadInstants, BadLimit, CountTooLarge, TooManyTimers, NoNormal, BadLabel, UsedLabel, ShortBuffer, UnequalPlaces, BadRenaming, BadTimer, DelayedTransition, BadSides, NoSuchGoal}

@@ -11,7 +11,7 @@ use Rattle.sde.specs.declared.paths.Halt.{Halt}
 use Rattle.sde.specs.Diffusion.{walked, cells_of}
 use Rattle.sde.specs.Arrays.{Beyond}
 
--- path k from a seed, in substeps of width dt, and r paths from number k on
+-- path k from a seed, in substeps of width dt, and r paths from number k on: "Path k, counted from 0, starts from base + k modulo 2^64"
 abbrev pub path_of : Net → ℕ → Float → ℕ → ℕ → Answer (List Float)
 path_of net n dt seed k = cells_of (length net.places) (walked net dt n (seed_of seed k))
 

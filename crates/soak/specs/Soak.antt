@@ -94,7 +94,7 @@ abbrev pub answer_of : Option ℕ → Result ℕ ℕ
 answer_of (Some n) = Ok n
 answer_of None = Err Reason.short_buffer
 
--- the program's answer, its refusal by its number
+-- the program's answer, its refusal by its number, as order 14 gives it
 abbrev pub told : Result ℕ Refusal → Result ℕ ℕ
 told (Ok n) = Ok n
 told (Err e) = Err (number_of e)

@@ -128,7 +128,7 @@ after_nets old new ps s xs named table =
     let answer = played places (length xs) s.recorded s table (play_on 256 new (renamed ps c) named) in
     unless_fault (carry_fault 256 old new short strange c ps) s table answer
 
--- the first test that a call meets, over so many places
+-- the first test that a carrying call meets, over so many places: the old net, then the new one, then the tests of order 8 in its order
 abbrev pub carrying_fault : ℕ → NetRecord → NetRecord → List Pair → Standing → List Float → List Float → Option ℕ
 carrying_fault places old new ps s xs table =
     let c = carried_from places s xs table in

@@ -40,7 +40,7 @@ played places n g table (given a) =
 abbrev pub table_fits : ℕ → ℕ → List Float → Bool
 table_fits places n table = leb (places * n) (length table)
 
--- the first test that a call meets
+-- the first test that a call meets: "Where several apply, the one listed first is given"
 abbrev pub call_fault : NetRecord → List Float → ℕ → List Float → Option ℕ
 call_fault n xs k table =
     or_else (fault n)
