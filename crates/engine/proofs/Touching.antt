@@ -25,7 +25,7 @@ use Rattle.rules.specs.Index.{on, capacity_of, raises, listed, any_below}
 use Rattle.rules.proofs.Order.{neither}
 use Rattle.engine.specs.Engine.{Tidy, marking, Counts}
 use Rattle.engine.specs.Limits.{limit_at}
-use Rattle.engine.specs.Guards.{threshold, kinetic_on, Guards, Quiet, crossing, Listed, Tells, Told}
+use Rattle.engine.specs.Guards.{threshold, kinetic_on, Guards, Quiet, crossing, Listed, Tells, moving_as, Told}
 use Rattle.engine.proofs.Arcs.{on_bool}
 use Rattle.engine.proofs.Marks.{takes, puts, counts_set}
 use Rattle.engine.proofs.Sides.{first_true, second_true, first_of, either, and_last, same_side, SameSide, enabled_same, past_takes, past_listed, in_net, takes_there, takes_here, arcs_there, arcs_here, among_slots, factored_same, inexact_same, transition_at, slot_listed}
@@ -247,7 +247,7 @@ module _ (touches : ℕ → Transition → Bool) (n : NetRecord) (j : ℕ) (guar
   So counts moved crossed = Told touches n j guards before counts moved crossed
 
   pub told_none : So before 0 0
-  told_none = λ s g. tells_none touches n j (marking n.places before)
+  told_none = λ m s g. tells_none touches (moving_as n m) j (marking n.places before)
 
   pub told_same : (counts : List ℕ) (moved crossed : ℕ) → So counts moved crossed
       → (counts' : List ℕ) (moved' crossed' : ℕ) → counts' ≡ counts → moved' ≡ moved → crossed' ≡ crossed → So counts' moved' crossed'
@@ -255,15 +255,16 @@ module _ (touches : ℕ → Transition → Bool) (n : NetRecord) (j : ℕ) (guar
       subst⁻¹ (λ (y : ℕ). So counts' moved' y) ex (subst⁻¹ (λ (y : ℕ). So counts' y crossed) em (subst⁻¹ (λ (y : List ℕ). So y moved crossed) ec told))
 
   -- the count of place p, which the transition touches, becomes d
-  pub told_more : (counts : List ℕ) (moved crossed : ℕ) → So counts moved crossed → Counts counts → (p d low high x : ℕ) → touches p (Record.transition n j) ≡ true
+  pub told_more : (counts : List ℕ) (moved crossed : ℕ) → So counts moved crossed → Counts counts → (p d low high x : ℕ)
+      → ((m : NetRecord) → touches p (Record.transition (moving_as n m) j) ≡ true)
       → p < n.places → low ≤ get_or counts p 0 → low ≤ d → get_or counts p 0 ≤ high → d ≤ high → high ≤ 2 ^ 53
       → ((j : ℕ) → bit x j ≡ crossing guards p low high j)
       → (counts' : List ℕ) (moved' crossed' : ℕ) → counts' ≡ set counts p d → moved' ≡ bit_or moved (get_or guards p 0) → crossed' ≡ bit_or crossed x
       → So counts' moved' crossed'
   told_more counts moved crossed told good p d low high x hit i lc ld ch dh small w counts' moved' crossed' ec em ex =
       told_same (set counts p d) (bit_or moved (get_or guards p 0)) (bit_or crossed x)
-      (λ s g.
-      tells_more touches n j (marking n.places before) (marking n.places counts) (marking n.places (set counts p d)) moved crossed (get_or guards p 0) x
-      (told s g)
-      (tells_set n s guards g counts good p d low high x i lc ld ch dh small w touches j hit))
+      (λ m s g.
+      tells_more touches (moving_as n m) j (marking n.places before) (marking n.places counts) (marking n.places (set counts p d)) moved crossed (get_or guards p 0) x
+      (told m s g)
+      (tells_set (moving_as n m) s guards g counts good p d low high x i lc ld ch dh small w touches j (hit m)))
       counts' moved' crossed' ec em ex

@@ -8,6 +8,7 @@ use Rattle.net.specs.declared.Net.{Net as NetRecord}
 use Rattle.net.specs.Net.{Take, Transition, Net, Marking, pick}
 use Rattle.net.specs.Readable as Record
 use Rattle.net.specs.Readable.{readable}
+use Rattle.net.specs.Record.{labelled}
 use Rattle.rules.specs.Enabled.{enabled}
 use Rattle.rules.specs.Propensity.{factored}
 use Rattle.rules.specs.Exact.{some_inexact}
@@ -77,7 +78,13 @@ Tells touches n j m m' moved crossed =
     × Listed (readable n) (λ (p : ℕ). touches p (Record.transition n j)) moved
     × Listed (readable n) (λ (p : ℕ). touches p (Record.transition n j)) crossed
 
--- A function that moves tokens tells it of the net that it is lent, if the net is tidy and the table is the net's.
+-- the net m with the places and the arcs of n, so that tokens move in it as in n
+abbrev pub moving_as : NetRecord → NetRecord → NetRecord
+moving_as n m = labelled n.places m.transitions m.initial m.capacity m.label m.lengths m.rate m.delay n.arcs n.kind n.place n.weight
+
+-- A function that moves tokens tells it of every net with the places and the arcs of the one that it is lent, whatever else the net has, if it is tidy and the
+-- table is its.
 abbrev pub Told : (ℕ → Transition → Bool) → NetRecord → ℕ → List ℕ → List ℕ → List ℕ → ℕ → ℕ → Type 0
 Told touches n j guards before after moved crossed =
-    Tidy n → Guards n guards → Tells touches n j (marking n.places before) (marking n.places after) moved crossed
+    (m : NetRecord) → Tidy (moving_as n m) → Guards (moving_as n m) guards
+    → Tells touches (moving_as n m) j (marking n.places before) (marking n.places after) moved crossed

@@ -39,14 +39,14 @@ loop-a-preserved c =
         firing_put _ _ _ _ _ _ _ _ _ _ _ l.invariant.0 c.loop-a-test.true c.requires.1 (c.requires.3 l.a) (c.requires.4 l.a)
             (eq-eqb _ 2 w.if-k-eq-PUT.true) w.amount-x.result w.amount-x.ensures w.if-d-gt9007199254740992.false _ _ _ w.counts-is w.less-is w.more-is,
         told_more moves_on n s.j _ _ _ _ _ l.invariant.1 l.invariant.0.good p (count + w.amount-x.result) count (count + w.amount-x.result) w.crossed-crossed.result
-            (fire_puts n.arcs n.kind n.place n.weight s.j l.a l.auto.a c.loop-a-test.true (eq-eqb _ 2 w.if-k-eq-PUT.true))
+            (λ m. fire_puts n.arcs n.kind n.place n.weight s.j l.a l.auto.a c.loop-a-test.true (eq-eqb _ 2 w.if-k-eq-PUT.true))
             (c.requires.3 l.a) (omega arith) (omega arith) (omega arith) (omega arith) w.if-d-gt9007199254740992.false w.crossed-crossed.ensures _ _ _ w.counts-is w.moved-is w.crossed-is,
       )
       | else-k-eq-PUT+then-y-gt0 w ↦ (
         firing_take _ _ _ _ _ _ _ _ _ _ _ l.invariant.0 c.loop-a-test.true c.requires.1 (c.requires.3 l.a) (c.requires.4 l.a)
             (ne_eqb _ 2 w.if-k-eq-PUT.false) w.taken_from-y.result w.taken_from-y.ensures _ _ _ w.counts-is w.less-is w.more-is,
         told_more moves_on n s.j _ _ _ _ _ l.invariant.1 l.invariant.0.good p (count - w.taken_from-y.result) (count - w.taken_from-y.result) count w.crossed-crossed-then-y-gt0.result
-            (fire_takes n.arcs n.kind n.place n.weight s.j l.a l.auto.a c.loop-a-test.true count w.taken_from-y.result w.if-y-gt0.true w.taken_from-y.ensures)
+            (λ m. fire_takes n.arcs n.kind n.place n.weight s.j l.a l.auto.a c.loop-a-test.true count w.taken_from-y.result w.if-y-gt0.true w.taken_from-y.ensures)
             (c.requires.3 l.a) (omega arith) (omega arith) (omega arith) (omega arith) small w.crossed-crossed-then-y-gt0.ensures _ _ _ w.counts-is w.moved-is w.crossed-is,
       )
       | else-k-eq-PUT+else-y-gt0 w ↦

@@ -37,7 +37,7 @@ loop-a-preserved c =
       | then-x-gt0+else-d-gt9007199254740992 w ↦ (
         putting_turn _ _ _ _ _ _ _ _ _ c.loop-a-test.true c.requires.1 (c.requires.3 l.a) (c.requires.4 l.a) x.result _ l.invariant.0 x.ensures w.if-d-gt9007199254740992.false _ _ w.counts-is w.many-is,
         told_more puts_on n s.j _ _ _ _ _ l.invariant.1 l.invariant.0.good p (count + x.result) count (count + x.result) w.crossed-crossed.result
-            (put_touches n.arcs n.kind n.place n.weight s.j l.a l.auto.a c.loop-a-test.true x.result w.if-x-gt0.true x.ensures)
+            (λ m. put_touches n.arcs n.kind n.place n.weight s.j l.a l.auto.a c.loop-a-test.true x.result w.if-x-gt0.true x.ensures)
             (c.requires.3 l.a) (omega arith) (omega arith) (omega arith) (omega arith) w.if-d-gt9007199254740992.false w.crossed-crossed.ensures _ _ _ w.counts-is w.moved-is w.crossed-is,
       )
       | else-x-gt0 w ↦

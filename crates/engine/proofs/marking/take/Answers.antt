@@ -32,7 +32,7 @@ loop-a-preserved c =
       | then-x-gt0 w ↦ (
         taking_turn _ _ _ _ _ _ _ _ _ c.loop-a-test.true c.requires.1 (c.requires.3 l.a) (c.requires.4 l.a) x.result _ l.invariant.0 x.ensures _ _ w.counts-is w.less-is,
         told_more takes_on n s.j _ _ _ _ _ l.invariant.1 l.invariant.0.good p (count - x.result) (count - x.result) count w.crossed-crossed.result
-            (take_touches n.arcs n.kind n.place n.weight s.j l.a l.auto.a c.loop-a-test.true count x.result w.if-x-gt0.true x.ensures)
+            (λ m. take_touches n.arcs n.kind n.place n.weight s.j l.a l.auto.a c.loop-a-test.true count x.result w.if-x-gt0.true x.ensures)
             (c.requires.3 l.a) (omega arith) (omega arith) (omega arith) (omega arith) small w.crossed-crossed.ensures _ _ _ w.counts-is w.moved-is w.crossed-is,
       )
       | else-x-gt0 w ↦

@@ -67,7 +67,7 @@ returns-in-Some c =
       is = complete_at (net_of a.net.now) a.counts.now a.ats.now a.owners.now a.ring c.remove_first-left.result a.clock a.rng.s
           c.first-x.result c.first-x.ensures (others_left r) c.put.new.counts true _ c.if-j-net.true p.puts (λ e. omega (arith, left_less r, p.told.0));
       ready = ready r c.put.new.counts p.small;
-      quiet = (p.told.2 c.requires.0.tidy c.requires.2).0;
+      quiet = (p.told.2 (net_of a.net.now) c.requires.0.tidy c.requires.2).0;
     }
 
 pub returns-in-None : goal.returns-in-None

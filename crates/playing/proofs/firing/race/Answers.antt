@@ -51,7 +51,7 @@ returns-in-Some-fire c =
           d.ensures.0 d.ensures.1 (sym (ap choice_of c.in-Some.is) ∙ c.choose_by_sums-chosen.ensures) c.in-Some.j refl c.if-j-net.true c.fire.new.counts _ true p.moves
           (λ z. omega (arith, c.requires.3, p.told.0));
       ready = ready (goal.at.returns-in-Some-fire c).Start c.fire.new.counts p.small;
-      quiet = (p.told.2 c.requires.0.tidy c.requires.4).0;
+      quiet = (p.told.2 n c.requires.0.tidy c.requires.4).0;
     }
 
 pub returns-in-None-fire : goal.returns-in-None-fire

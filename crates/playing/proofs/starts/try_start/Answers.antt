@@ -89,7 +89,7 @@ returns-then-enabled c =
           (sym (ap (λ (r : Ring). timers_of a o r) left) ∙ started k
           ∙ ap (λ (b : Bool). pick b (insert (timer_of s.t s.j (transition n s.j)) q) q) (sym c.insert-put.ensures.says ∙ taken));
       ready = subst (λ (r : Ring). Ready n s.limit.now k.take-took.new.counts a o r × Roomy s.room r) left (ready k);
-      quiet = (c.take-took.ensures.4 c.requires.1.tidy c.requires.3).0;
+      quiet = (c.take-took.ensures.4 n c.requires.1.tidy c.requires.3).0;
     }
 
 pub returns-else-enabled : goal.returns-else-enabled
