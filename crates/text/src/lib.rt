@@ -15,6 +15,16 @@ pub fn has_room(len: usize, at: usize, n: usize) -> bool
     at <= len && n <= len - at
 }
 
+// The bytes from position at on, which fit. No `copy_from_slice`, which asks more of an archive for C: a `memmove` from outside.
+fn copy(out: &mut [u8], at: usize, bytes: &[u8])
+    requires { at + length bytes.now ≤ length out.old }
+    ensures { out.new ≡ placed out.old at bytes.now }
+{
+    for i in 0..bytes.len() {
+        out[at + i] = bytes[i];
+    }
+}
+
 // The bytes as they are.
 pub fn put_bytes(out: &mut [u8], at: usize, bytes: &[u8]) -> Option<usize>
     ensures { (out.new, result) ≡ written out.old at bytes.now }
@@ -22,9 +32,8 @@ pub fn put_bytes(out: &mut [u8], at: usize, bytes: &[u8]) -> Option<usize>
     if !has_room(out.len(), at, bytes.len()) {
         return None;
     }
-    let end = at + bytes.len();
-    out[at..end].copy_from_slice(bytes);
-    Some(end)
+    copy(out, at, bytes);
+    Some(at + bytes.len())
 }
 
 fn digit(d: u64) -> u8
