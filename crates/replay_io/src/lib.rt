@@ -4,8 +4,12 @@
 // place and weight of each. No more is read than a net has room for.
 #![tactic(auto)]
 
-ghost use Rattle.std.specs.Prelude.{◌≡◌, ◌+◌, ◌*◌, ◌≤◌, ltb, length, MatchOption};
+ghost use Rattle.std.specs.Prelude.{◌≡◌, ℕ, ◌+◌, ◌*◌, ◌%◌, ◌^◌, ◌≤◌, [], ltb, length, drop, MatchOption};
+ghost use Rattle.std.specs.Float.{binary64};
+ghost use Rattle.std.specs.Float.Ieee.{nan, to_bits};
 ghost use Rattle.net.specs.Net.{pick};
+ghost use Rattle.net_text.specs.Forms as Forms;
+ghost use Rattle.replay_io.specs.Digits as Digits;
 
 use net::Net;
 use net_io::read_full;
@@ -14,7 +18,9 @@ use playing::PathEnd;
 use rng::Xoshiro256;
 use std::io::{self, Read};
 
-fn digit(b: u8) -> u64 {
+fn digit(b: u8) -> u64
+    ensures { result ≡ Digits.digit b }
+{
     if b >= b'a' {
         return u64::from(b - b'a') + 10;
     }
@@ -24,8 +30,12 @@ fn digit(b: u8) -> u64 {
     0
 }
 
-// The value of sixteen digits.
-pub fn word(digits: &[u8]) -> u64 {
+// The value of hexadecimal digits, of which 64 bits are kept. specs/Digits says what any bytes come to; digits in lower case, as a net text has them, come to
+// their value.
+pub fn word(digits: &[u8]) -> u64
+    ensures counted { result ≡ Digits.word_from 0 digits.now }
+    ensures written { (v : ℕ) → Forms.hex_from (length digits.now) 0 digits.now ≡ Forms.met v [] → result ≡ v % 2 ^ 64 }
+{
     let mut n = 0;
     for b in digits {
         n = (n << 4) | digit(*b);
@@ -109,6 +119,7 @@ pub fn read_net(input: &mut impl Read, places: usize) -> Net
     net
 }
 
+// The generator of four words. No contract can say what is read.
 pub fn read_generator(input: &mut impl Read) -> Xoshiro256 {
     let a = number(input);
     let b = number(input);
@@ -117,8 +128,10 @@ pub fn read_generator(input: &mut impl Read) -> Xoshiro256 {
     Xoshiro256::from_state([a, b, c, d])
 }
 
-// The first n instants, of as many as there is room for.
-pub fn read_instants(input: &mut impl Read, n: usize, instants: &mut [f64; 2048]) {
+// The first n instants, of as many as there is room for. What is read no contract can say; the instants from n on stay.
+pub fn read_instants(input: &mut impl Read, n: usize, instants: &mut [f64; 2048])
+    ensures { drop n instants.new ≡ drop n instants.old }
+{
     for i in 0..n.min(2048) {
         instants[i] = float_of(number(input));
     }
@@ -136,20 +149,33 @@ pub fn write_word(rt: &impl Print, n: u64) -> io::Result<()> {
     print!(rt; " {n:016x}")
 }
 
-// A float by its bits, any NaN as nan.
-pub fn put_float(rt: &impl Print, x: f64) -> io::Result<()> {
+// A float's bits; none of a NaN, whose pattern cannot be read.
+fn bits_of(x: f64) -> Option<u64>
+    ensures { MatchOption result (x ≡ nan) (λ n. n ≡ to_bits binary64 x) }
+{
     if x != x {
-        return write(rt, b"nan");
+        return None;
     }
-    let bits = x.to_bits();
-    print!(rt; "{bits:016x}")
+    Some(x.to_bits())
 }
 
+// A float by its bits, any NaN as nan, in one write. No contract can say what is written, here and below.
+pub fn put_float(rt: &impl Print, x: f64) -> io::Result<()> {
+    match bits_of(x) {
+        Some(bits) => print!(rt; "{bits:016x}"),
+        None => write(rt, b"nan"),
+    }
+}
+
+// The same behind a space, in one write too.
 pub fn write_float(rt: &impl Print, x: f64) -> io::Result<()> {
-    write(rt, b" ")?;
-    put_float(rt, x)
+    match bits_of(x) {
+        Some(bits) => write_word(rt, bits),
+        None => write(rt, b" nan"),
+    }
 }
 
+// The four words of a generator; no contract can say that they are written.
 pub fn write_generator(rt: &impl Print, generator: Xoshiro256) -> io::Result<()> {
     for n in generator.state() {
         write_word(rt, n)?;
@@ -157,6 +183,7 @@ pub fn write_generator(rt: &impl Print, generator: Xoshiro256) -> io::Result<()>
     Ok(())
 }
 
+// How a path ended, in words; no contract can say that they are written.
 pub fn write_end(rt: &impl Print, end: PathEnd) -> io::Result<()> {
     match end {
         PathEnd::Quiet => write(rt, b"quiet"),
