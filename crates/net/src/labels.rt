@@ -25,6 +25,23 @@ pub fn label_fits(label: &[u8]) -> bool
     label.iter().all(|&b| label_byte(b))
 }
 
+// Are the two the same? Those that share a front, as q0 and q1, most often differ in the last byte: it is looked at first.
+fn alike(a: &[u8], b: &[u8]) -> bool
+    ensures { result ≡ same a.now b.now }
+{
+    let n = a.len();
+    if n != b.len() {
+        return false;
+    }
+    if n == 0 {
+        return true;
+    }
+    if a[n - 1] != b[n - 1] {
+        return false;
+    }
+    a == b
+}
+
 // Does a place before p have the label of p?
 pub fn used_before<'a>(label: &'a [u8; 512], lengths: &'a [usize; 32], p: usize) -> bool
     ensures { result ≡ Tests.any (same (Labels.label_at label.now lengths.now p))
@@ -32,7 +49,7 @@ pub fn used_before<'a>(label: &'a [u8; 512], lengths: &'a [usize; 32], p: usize)
 {
     let own = label_of(label, lengths, p);
     for q in 0..p {
-        if own == label_of(label, lengths, q) {
+        if alike(own, label_of(label, lengths, q)) {
             return true;
         }
     }
