@@ -8,6 +8,7 @@ use native.Mathlib.Numerals.{add-one}
 use borrow.Author.Tests.{leb-true, eqb-true}
 use lib.Dec.{eqb, leb}
 use lib.ListN.{length, get_or, take, length-take, drop}
+use Rattle.std.proofs.lemmas.List.{length-take-le, length-drop}
 use Rattle.std.proofs.Common.{◌≢◌}
 use Rattle.text.specs.Text.{Bytes, same}
 use Rattle.net.specs.Net.{pick}
@@ -37,6 +38,18 @@ not_same (b ∷ s) (c ∷ t) n = differ_by (eqb b c) (same s t) b c s t refl (no
 -- two labels of which some number differs, as the length or the last byte, are not the same
 pub differ : (f : Bytes → ℕ) (s t : Bytes) → f s ≢ f t → false ≡ same s t
 differ f s t n = sym (not_same s t (λ e. n (ap f e)))
+
+-- a label is as long as its length says, where there is one: none of another length has as many bytes
+pub other_length : (label lengths : List ℕ) (q n : ℕ) → length label ≡ 512 → q < 32 → 0 < n → get_or lengths q 0 ≢ n
+    → n ≢ length (label_at label lengths q)
+other_length label lengths q n whole h some d = go (get_or lengths q 0) (leb (get_or lengths q 0) 16) refl d
+  where
+    go : (m : ℕ) (b : Bool) → leb m 16 ≡ b → m ≢ n → n ≢ length (pick b (take m (drop (16 * q) label)) [])
+    go m true e d f =
+        let few : m ≤ 16 = leb-true m 16 e in
+        let room : m ≤ length (drop (16 * q) label) = omega (arith, length-drop (16 * q) label) in
+        d (sym (f ∙ length-take-le m (drop (16 * q) label) room))
+    go m false e d f = omega arith
 
 -- the labels that are left, from place q up to p: one and the rest
 pub labels_turn : (f : Bytes → Bool) (label lengths : List ℕ) (q p : ℕ) {t : Bool} → q < p → any f (labels_from label lengths q (p - q)) ≡ t

@@ -4,7 +4,7 @@ ghost use Rattle.text.specs.Text.{same};
 ghost use Rattle.net.specs.Tests as Tests;
 ghost use Rattle.net.specs.Labels as Labels;
 
-use crate::label_of;
+use crate::{bounds, label_of};
 
 pub const MOST_BYTES: usize = 16;
 
@@ -25,7 +25,7 @@ pub fn label_fits(label: &[u8]) -> bool
     label.iter().all(|&b| label_byte(b))
 }
 
-// Are the two the same? Those that share a front, as q0 and q1, most often differ in the last byte: it is looked at first.
+// Are the two the same? Most that differ do so in their last byte, as q0 and q1, or in their first: these are looked at before all the others.
 fn alike(a: &[u8], b: &[u8]) -> bool
     ensures { result ≡ same a.now b.now }
 {
@@ -39,7 +39,21 @@ fn alike(a: &[u8], b: &[u8]) -> bool
     if a[n - 1] != b[n - 1] {
         return false;
     }
+    if a[0] != b[0] {
+        return false;
+    }
     a == b
+}
+
+// Is this the label of place q? A length that is not its own tells so before the label is cut out.
+fn labelled<'a>(label: &'a [u8; 512], lengths: &'a [usize; 32], q: usize, own: &[u8]) -> bool
+    ensures { result ≡ same own.now (Labels.label_at label.now lengths.now q) }
+{
+    let n = own.len();
+    if 0 < n && q < bounds::MOST_PLACES && lengths[q] != n {
+        return false;
+    }
+    alike(own, label_of(label, lengths, q))
 }
 
 // Does a place before p have the label of p?
@@ -49,7 +63,7 @@ pub fn used_before<'a>(label: &'a [u8; 512], lengths: &'a [usize; 32], p: usize)
 {
     let own = label_of(label, lengths, p);
     for q in 0..p {
-        if alike(own, label_of(label, lengths, q)) {
+        if labelled(label, lengths, q, own) {
             return true;
         }
     }
