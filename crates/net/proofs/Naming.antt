@@ -8,6 +8,7 @@ use native.Mathlib.Numerals.{add-one}
 use borrow.Author.Tests.{leb-true, eqb-true}
 use lib.Dec.{eqb, leb}
 use lib.ListN.{length, get_or, take, length-take, drop}
+use lib.Pointwise.{pointwise}
 use Rattle.std.proofs.lemmas.List.{length-take-le, length-drop}
 use Rattle.std.proofs.Common.{◌≢◌}
 use Rattle.text.specs.Text.{Bytes, same}
@@ -22,6 +23,16 @@ label_short label lengths p = go (get_or lengths p 0) (leb (get_or lengths p 0) 
     go : (n : ℕ) (b : Bool) → leb n 16 ≡ b → length (pick b (take n (drop (16 * p) label)) []) ≤ 16
     go n true e = let few : n ≤ 16 = leb-true n 16 e in omega (arith, length-take n (drop (16 * p) label))
     go n false e = omega arith
+
+-- what `==` says of two labels, each read as a slice
+pub same_read : {a b s t : Bytes} {x : Bool} → x ≡ pointwise eqb a b → a ≡ s → b ≡ t → same s t ≡ x
+same_read {a} {b} e f g = sym (e ∙ alike a b ∙ ap₂ same f g)
+  where
+    alike : (s t : Bytes) → pointwise eqb s t ≡ same s t
+    alike [] [] = refl
+    alike [] (c ∷ t) = refl
+    alike (b ∷ s) [] = refl
+    alike (b ∷ s) (c ∷ t) = ap (λ (r : Bool). eqb b c && r) (alike s t)
 
 differ_by : (x y : Bool) (b c : ℕ) (s t : Bytes) → eqb b c ≡ x → (s ≢ t → y ≡ false) → (b ∷ s) ≢ (c ∷ t) → (x && y) ≡ false
 differ_by true y b c s t e later n =
@@ -40,9 +51,9 @@ pub differ : (f : Bytes → ℕ) (s t : Bytes) → f s ≢ f t → false ≡ sam
 differ f s t n = sym (not_same s t (λ e. n (ap f e)))
 
 -- a label is as long as its length says, where there is one: none of another length has as many bytes
-pub other_length : (label lengths : List ℕ) (q n : ℕ) → length label ≡ 512 → q < 32 → 0 < n → get_or lengths q 0 ≢ n
+pub length_apart : (label lengths : List ℕ) (q n : ℕ) → length label ≡ 512 → q < 32 → 0 < n → get_or lengths q 0 ≢ n
     → n ≢ length (label_at label lengths q)
-other_length label lengths q n whole h some d = go (get_or lengths q 0) (leb (get_or lengths q 0) 16) refl d
+length_apart label lengths q n whole h some d = go (get_or lengths q 0) (leb (get_or lengths q 0) 16) refl d
   where
     go : (m : ℕ) (b : Bool) → leb m 16 ≡ b → m ≢ n → n ≢ length (pick b (take m (drop (16 * q) label)) [])
     go m true e d f =
