@@ -1,5 +1,5 @@
 // The tests of a place's label: 17, absent or malformed, and 18, already used.
-ghost use Rattle.std.specs.Prelude.{◌≡◌};
+ghost use Rattle.std.specs.Prelude.{◌≡◌, ◌*◌, ◌≤◌, length};
 ghost use Rattle.text.specs.Text.{same};
 ghost use Rattle.net.specs.Tests as Tests;
 ghost use Rattle.net.specs.Labels as Labels;
@@ -25,7 +25,25 @@ pub fn label_fits(label: &[u8]) -> bool
     label.iter().all(|&b| label_byte(b))
 }
 
-// Are the two the same? Most that differ do so in their last byte, as q0 and q1, or in their first: these are looked at before all the others.
+// Are the two, of N to 2 N bytes, the same? Their first N and their last N are all of them.
+fn same_ends<const N: usize>(a: &[u8], b: &[u8]) -> bool
+    requires { (length a.now ≡ length b.now) × (N ≤ length a.now) × (length a.now ≤ 2 * N) }
+    ensures { result ≡ same a.now b.now }
+{
+    match (
+        a.split_first_chunk::<N>(),
+        b.split_first_chunk::<N>(),
+        a.split_last_chunk::<N>(),
+        b.split_last_chunk::<N>(),
+    ) {
+        (Some((first, _)), Some((other, _)), Some((_, last)), Some((_, end))) => {
+            first == other && last == end
+        }
+        _ => a == b,
+    }
+}
+
+// Are the two the same? Most that differ do so in their last byte, as q0 and q1: it is looked at before all the others.
 fn alike(a: &[u8], b: &[u8]) -> bool
     ensures { result ≡ same a.now b.now }
 {
@@ -39,10 +57,12 @@ fn alike(a: &[u8], b: &[u8]) -> bool
     if a[n - 1] != b[n - 1] {
         return false;
     }
-    if a[0] != b[0] {
-        return false;
+    match n {
+        1..=3 => a[0] == b[0] && a[n / 2] == b[n / 2],
+        4..=7 => same_ends::<4>(a, b),
+        8..=16 => same_ends::<8>(a, b),
+        _ => a == b,
     }
-    a == b
 }
 
 // Is this the label of place q? A length that is not its own tells so before the label is cut out.

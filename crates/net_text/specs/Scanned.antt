@@ -47,10 +47,9 @@ seen d = record { value = held d.value; strange = badly d }
 abbrev pub number : Form Number
 number t = through seen (decimal t)
 
--- a hexadecimal digit by its value, in front of these bytes
-abbrev pub digit_is : Option ℕ → Bytes → Met ℕ
-digit_is None t = wrong
-digit_is (Some d) t = met d t
+-- a hexadecimal digit by its value, in front of these bytes; 16 where there is none
+abbrev pub hex_is : ℕ → Bytes → Met ℕ
+hex_is d t = pick (ltb d 16) (met d t) wrong
 
 -- an arc as a slot holds it, and whether it is badly written
 pub record SeenArc : Type 0 where

@@ -94,26 +94,36 @@ pub fn decimal<'a>(line: &'a [u8]) -> Option<(Number, &'a [u8])>
     Some((number, rest))
 }
 
-// A hexadecimal digit in lower case.
-fn hex_digit(b: u8) -> Option<u64>
-    ensures is { (t : Bytes) → Forms.hex_digit (b ∷ t) ≡ Scanned.digit_is result t }
-    ensures small { IfSome result (λ d. d < 16) }
+// A hexadecimal digit in lower case; 16 where there is none. One test for the ten and one for the six, so that the sixteen of a float are read without a branch.
+fn hex_digit(b: u8) -> u64
+    ensures is { (t : Bytes) → Forms.hex_digit (b ∷ t) ≡ Scanned.hex_is result t }
+    ensures small { result ≤ 16 }
 {
-    match b {
-        b'0'..=b'9' => Some(u64::from(b - b'0')),
-        b'a'..=b'f' => Some(u64::from(b - b'a') + 10),
-        _ => None,
+    let figure = b.wrapping_sub(b'0');
+    if figure < 10 {
+        return u64::from(figure);
     }
+    let letter = b.wrapping_sub(b'a');
+    if letter < 6 {
+        return u64::from(letter) + 10;
+    }
+    16
 }
 
-// The sixteen digits of a float's bits.
+// The sixteen digits of a float's bits: all are read, and then it is seen whether one was none.
 pub fn hexadecimal<'a>(line: &'a [u8]) -> Option<(u64, &'a [u8])>
     ensures { Forms.hexadecimal line.now ≡ Scanned.found result }
 {
     let (digits, rest) = line.split_at_checked(16)?;
     let mut bits: u64 = 0;
+    let mut strange = false;
     for b in digits {
-        bits = bits * 16 + hex_digit(*b)?;
+        let d = hex_digit(*b);
+        strange = strange | (d == 16);
+        bits = bits * 16 + d % 16;
+    }
+    if strange {
+        return None;
     }
     Some((bits, rest))
 }

@@ -8,6 +8,3 @@ returns-then-n-b c = differ length c.args.a.now c.args.b.now c.if-n-b.true
 
 pub returns-then-a-n : goal.returns-then-a-n
 returns-then-a-n c = differ (λ l. get_or l (length c.args.a.now - 1) 0) c.args.a.now c.args.b.now c.if-a-n.true
-
-pub returns-then-a-b : goal.returns-then-a-b
-returns-then-a-b c = differ (λ l. get_or l 0 0) c.args.a.now c.args.b.now c.if-a-b.true
